@@ -1,0 +1,5 @@
+pub mod Blocks
+pub mod Components
+pub mod Picture
+pub mod Refusals
+pub mod Word

@@ -1,0 +1,20 @@
+-- The number of each refusal.
+-- Assumes nothing: these are definitions.
+use Prim.Native.Nat.{ℕ}
+use Rattle.def.specs.declared.Refusal.{Refusal}
+use Rattle.def.specs.declared.Refusal.the-variants.{Size, Length, Setting, Split, Leaf, Qp, Sample, Block, Mode, Points, Pivot, Sheet, Record}
+
+abbrev pub numberOf : Refusal → ℕ
+numberOf Size = 1
+numberOf Length = 2
+numberOf Setting = 3
+numberOf Split = 4
+numberOf Leaf = 5
+numberOf Qp = 6
+numberOf Sample = 7
+numberOf Block = 8
+numberOf Mode = 9
+numberOf Points = 10
+numberOf Pivot = 11
+numberOf Sheet = 12
+numberOf Record = 13

@@ -1,0 +1,200 @@
+// What every module shares: positions, the unit word, picture sizes, blocks and units by their place, and the refusals with their numbers.
+// The Rust beside it: def.rs.
+ghost use mathlib.Core.Path.{_≡_};
+ghost use Prim.Native.Nat.{_/_, _≤_, _<_};
+ghost use Rattle.def.specs.Blocks.{blockSideOk, componentSideOk, blockOk, unitOk};
+ghost use Rattle.def.specs.Components.{scaleOf};
+ghost use Rattle.def.specs.Picture.{sizeOk};
+ghost use Rattle.def.specs.Refusals.{numberOf};
+ghost use Rattle.def.specs.Word.{intraOf, qpOf, codedOf, doneOf, withDone, withoutDone, bit, leafWord};
+
+// ---- positions
+
+// A sample's column or row in the luma plane.
+pub struct Pel(pub usize);
+
+// A unit's column or row: a unit is 4x4 luma samples.
+pub struct Scu(pub usize);
+
+// PEL2SCU, the one step between the two.
+pub fn pel2scu(p: Pel) -> Scu
+    ensures { λ r. ⌜ r .0 ≡ p .0 / 4 ⌝ }
+{
+    Scu(p.0 / 4)
+}
+
+// ---- components
+
+// A component of a 4:2:0 picture. The two chroma planes have one form.
+pub enum Component {
+    Luma,
+    Chroma,
+}
+
+// A length or a place counted in luma samples, in the samples of the component.
+pub fn in_component(c: Component, n: usize) -> usize
+    ensures { λ r. ⌜ r ≡ n / scaleOf c ⌝ }
+{
+    match c {
+        Component::Luma => n,
+        Component::Chroma => n / 2,
+    }
+}
+
+// ---- the unit word: intra bit 15, QP bits 16..22, luma-coded bit 24, done bit 31
+
+// GET_IF
+pub fn get_if(word: u32) -> bool
+    ensures { λ r. ⌜ r ≡ intraOf word ⌝ }
+{
+    word / 32768 % 2 == 1
+}
+
+// GET_QP
+pub fn get_qp(word: u32) -> usize
+    ensures { λ r. ⌜ r ≡ qpOf word ⌝ }
+    ensures { λ r. ⌜ r < 128 ⌝ }
+{
+    (word / 65536 % 128) as usize
+}
+
+// GET_CBFL
+pub fn get_cbfl(word: u32) -> bool
+    ensures { λ r. ⌜ r ≡ codedOf word ⌝ }
+{
+    word / 16777216 % 2 == 1
+}
+
+// GET_COD
+pub fn get_cod(word: u32) -> bool
+    ensures { λ r. ⌜ r ≡ doneOf word ⌝ }
+{
+    word / 2147483648 % 2 == 1
+}
+
+// SET_COD
+pub fn set_cod(word: u32) -> u32
+    ensures { λ r. ⌜ r ≡ withDone word ⌝ }
+{
+    word % 2147483648 + 2147483648
+}
+
+// CLR_COD
+pub fn clr_cod(word: u32) -> u32
+    ensures { λ r. ⌜ r ≡ withoutDone word ⌝ }
+{
+    word % 2147483648
+}
+
+// A flag as a bit.
+fn flag(b: bool) -> u32
+    ensures { λ r. ⌜ (r ≡ bit b) × (r ≤ 1) ⌝ }
+{
+    if b { 1 } else { 0 }
+}
+
+// The word of a finished leaf's units, done with it. Of the QP its 7 bits are kept.
+pub fn leaf_word(intra: bool, qp: u8, coded: bool) -> u32
+    ensures { λ r. ⌜ r ≡ leafWord intra qp coded ⌝ }
+{
+    2147483648 + flag(coded) * 16777216 + (qp % 128) as u32 * 65536 + flag(intra) * 32768
+}
+
+// ---- pictures, blocks and units
+
+// Whether w and h are sides of a picture: multiples of 4, from 4 to 4096.
+pub fn size_ok(w: usize, h: usize) -> bool
+    ensures { λ r. ⌜ r ≡ sizeOk w h ⌝ }
+{
+    (4 <= w) & (w <= 4096) & (w % 4 == 0) & (4 <= h) & (h <= 4096) & (h % 4 == 0)
+}
+
+// Whether a side is one of a block's in luma: 4, 8, 16, 32 or 64.
+pub fn block_side_ok(side: usize) -> bool
+    ensures { λ r. ⌜ r ≡ blockSideOk side ⌝ }
+{
+    (side == 4) | (side == 8) | (side == 16) | (side == 32) | (side == 64)
+}
+
+// Whether a side is one of a block's in a component: 2, 4, 8, 16, 32 or 64.
+pub fn component_side_ok(side: usize) -> bool
+    ensures { λ r. ⌜ r ≡ componentSideOk side ⌝ }
+{
+    (side == 2) | (side == 4) | (side == 8) | (side == 16) | (side == 32) | (side == 64)
+}
+
+// Whether the block of `side` at (x, y) is one of a picture of w by h: it stands on a multiple of its side, and inside.
+pub fn block_ok(w: usize, h: usize, x: Pel, y: Pel, side: usize) -> bool
+    ensures { λ r. ⌜ r ≡ blockOk w h (x .0) (y .0) side ⌝ }
+{
+    if !block_side_ok(side) {
+        return false;
+    }
+    if w < side {
+        return false;
+    }
+    if h < side {
+        return false;
+    }
+    (x.0 % side == 0) & (y.0 % side == 0) & (x.0 <= w - side) & (y.0 <= h - side)
+}
+
+// Whether the unit (x, y) is one of a picture of w by h.
+pub fn unit_ok(w: usize, h: usize, x: Scu, y: Scu) -> bool
+    ensures { λ r. ⌜ r ≡ unitOk w h (x .0) (y .0) ⌝ }
+{
+    (x.0 < w / 4) & (y.0 < h / 4)
+}
+
+// ---- refusals
+
+// Why a call was refused: a variant for each number.
+pub enum Refusal {
+    // 1: a side of the picture
+    Size,
+    // 2: a lent slice's length
+    Length,
+    // 3: the transform limit, or an offset
+    Setting,
+    // 4: a split byte that the walk reached
+    Split,
+    // 5: a leaf that reaches past the picture
+    Leaf,
+    // 6: a QP
+    Qp,
+    // 7: a sample over 1023
+    Sample,
+    // 8: a block's or a unit's place, or a side
+    Block,
+    // 9: a mode
+    Mode,
+    // 10: the chroma points' count, or an a below 0
+    Points,
+    // 11: a pivot outside -12..57
+    Pivot,
+    // 12: a malformed sheet
+    Sheet,
+    // 13: the leaf list, the residual list, a mask or a spare byte
+    Record,
+}
+
+// The number of a refusal.
+pub fn refusal_number(r: Refusal) -> u8
+    ensures { λ n. ⌜ n ≡ numberOf r ⌝ }
+{
+    match r {
+        Refusal::Size => 1,
+        Refusal::Length => 2,
+        Refusal::Setting => 3,
+        Refusal::Split => 4,
+        Refusal::Leaf => 5,
+        Refusal::Qp => 6,
+        Refusal::Sample => 7,
+        Refusal::Block => 8,
+        Refusal::Mode => 9,
+        Refusal::Points => 10,
+        Refusal::Pivot => 11,
+        Refusal::Sheet => 12,
+        Refusal::Record => 13,
+    }
+}

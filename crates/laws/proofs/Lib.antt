@@ -1,0 +1,10 @@
+pub mod Bits
+pub mod Calls
+pub mod Fill
+pub mod Flat
+pub mod Planes
+pub mod Scans
+pub mod Signs
+pub mod Table
+pub mod Tabulate
+pub mod Widths
