@@ -2,6 +2,7 @@
 // The Rust beside it: def.rs.
 ghost use mathlib.Core.Path.{_≡_};
 ghost use Prim.Native.Nat.{_/_, _≤_, _<_};
+ghost use Rattle.def.specs.Answers.{answerNumber};
 ghost use Rattle.def.specs.Blocks.{blockSideOk, componentSideOk, blockOk, unitOk};
 ghost use Rattle.def.specs.Components.{scaleOf};
 ghost use Rattle.def.specs.Picture.{sizeOk};
@@ -196,5 +197,23 @@ pub fn refusal_number(r: Refusal) -> u8
         Refusal::Pivot => 11,
         Refusal::Sheet => 12,
         Refusal::Record => 13,
+    }
+}
+
+// ---- answers
+
+// The answer of a call that has no values to give, and of the checks before a call's first write.
+pub enum Answer {
+    Done,
+    Refused(Refusal),
+}
+
+// The number of an answer: 0 is done.
+pub fn answer_number(a: Answer) -> u8
+    ensures { λ n. ⌜ n ≡ answerNumber a ⌝ }
+{
+    match a {
+        Answer::Done => 0,
+        Answer::Refused(r) => refusal_number(r),
     }
 }

@@ -1,0 +1,87 @@
+-- Laws of answers: the numbers tell refusals and answers apart, and an outcome goes by what the checks found.
+--     number-apart, number-some, answer-apart
+--     on-refusal, on-done
+-- Assumes nothing.
+use Prim.Native.Nat.{ℕ, _<_}
+use mathlib.Core.Path.{_≡_, refl, sym, ap, _∙_}
+use mathlib.Core.List.{List, [], _∷_}
+use native.Mathlib.Omega.{arith}
+use lib.ListN.{getD}
+use Rattle.def.specs.Answers.{answerNumber, afterChecks}
+use Rattle.def.specs.Refusals.{numberOf}
+use Rattle.def.specs.declared.Refusal.{Refusal}
+use Rattle.def.specs.declared.Refusal.the-variants.{Size, Length, Setting, Split, Leaf, Qp, Sample, Block, Mode, Points, Pivot, Sheet, Record}
+use Rattle.def.specs.declared.Answer.{Answer}
+use Rattle.def.specs.declared.Answer.the-variants.{Done, Refused}
+
+-- the answers by their numbers
+abbrev answers : List Answer
+answers =
+    Done
+    ∷ Refused Size
+    ∷ Refused Length
+    ∷ Refused Setting
+    ∷ Refused Split
+    ∷ Refused Leaf
+    ∷ Refused Qp
+    ∷ Refused Sample
+    ∷ Refused Block
+    ∷ Refused Mode
+    ∷ Refused Points
+    ∷ Refused Pivot
+    ∷ Refused Sheet
+    ∷ Refused Record
+    ∷ []
+
+abbrev answerOf : ℕ → Answer
+answerOf n = getD answers n Done
+
+refusal-back : (r : Refusal) → answerOf (numberOf r) ≡ Refused r
+refusal-back Size = refl
+refusal-back Length = refl
+refusal-back Setting = refl
+refusal-back Split = refl
+refusal-back Leaf = refl
+refusal-back Qp = refl
+refusal-back Sample = refl
+refusal-back Block = refl
+refusal-back Mode = refl
+refusal-back Points = refl
+refusal-back Pivot = refl
+refusal-back Sheet = refl
+refusal-back Record = refl
+
+back : (a : Answer) → answerOf (answerNumber a) ≡ a
+back Done = refl
+back (Refused r) = refusal-back r
+
+pub answer-apart : (a b : Answer) → answerNumber a ≡ answerNumber b → a ≡ b
+answer-apart a b e = sym (back a) ∙ ap answerOf e ∙ back b
+
+pub number-apart : (a b : Refusal) → numberOf a ≡ numberOf b → a ≡ b
+number-apart a b e = let p : Refused a ≡ Refused b = answer-apart (Refused a) (Refused b) e in cc
+
+-- no refusal has the number 0
+pub number-some : (r : Refusal) → 0 < numberOf r
+number-some Size = omega arith
+number-some Length = omega arith
+number-some Setting = omega arith
+number-some Split = omega arith
+number-some Leaf = omega arith
+number-some Qp = omega arith
+number-some Sample = omega arith
+number-some Block = omega arith
+number-some Mode = omega arith
+number-some Points = omega arith
+number-some Pivot = omega arith
+number-some Sheet = omega arith
+number-some Record = omega arith
+
+-- ---- a call's outcome. a is what the checks answered, and k what the rule's checks find
+
+module _ {O : Type 0} (refused : Refusal → O) (done : O) where
+  pub on-refusal : (a k : Answer) (r : Refusal) → a ≡ k → a ≡ Refused r → refused r ≡ afterChecks refused done k
+  on-refusal a k r e q = rw (sym e ∙ q)
+
+  pub on-done : (a k : Answer) (o : O) → a ≡ k → a ≡ Done → o ≡ done → o ≡ afterChecks refused done k
+  on-done a k o e q p = rw (sym e ∙ q) p
