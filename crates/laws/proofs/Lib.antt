@@ -3,6 +3,7 @@ pub mod Calls
 pub mod Fill
 pub mod Flat
 pub mod Ladders
+pub mod Parts
 pub mod Planes
 pub mod Scans
 pub mod Signs
