@@ -1,6 +1,6 @@
 // Neighbour gathering: evc_get_nbr_b of ipred.rs. The Rust's three loops are one over an arm, with a start and a stride.
 ghost use mathlib.Core.Path.{_≡_};
-ghost use Prim.Native.Nat.{ℕ, _+_, _*_, _≤_, _<_};
+ghost use Prim.Native.Nat.{ℕ, _+_, _*_, _≤_, _<_, min};
 ghost use lib.ListN.{length, getD};
 ghost use Rattle.laws.specs.Plane.{withRow};
 ghost use Rattle.laws.specs.Scan.{allBelow};
@@ -61,7 +61,7 @@ fn put_samples(run: &mut [u16], to: usize, plane: &[u16], from: usize, step: usi
     }
 }
 
-// Unit i of an arm into run from `to`: its n samples, or as many missing ones.
+// Unit i of an arm into run from `to`: its n samples, or as many missing ones. Four is told apart so that its loops have a length that is known.
 fn put_unit(
     plane: &[u16],
     map_scu: &[u32],
@@ -76,10 +76,19 @@ fn put_unit(
     ensures { λ _. ⌜ now (run .exit) ≡ withRow 0 to n (λ (j : ℕ). armAt arm n constrained (now (plane .entry)) (now («map_scu» .entry)) (i * n + j)) (now (run .entry)) ⌝ }
 {
     if !present(map_scu, arm, i, constrained) {
+        if n == 4 {
+            put_missing(run, to, 4);
+            return;
+        }
         put_missing(run, to, n);
         return;
     }
-    put_samples(run, to, plane, arm.from + i * n * arm.step, arm.step, n);
+    let from = arm.from + i * n * arm.step;
+    if n == 4 {
+        put_samples(run, to, plane, from, arm.step, 4);
+        return;
+    }
+    put_samples(run, to, plane, from, arm.step, n);
 }
 
 // An arm of `units` units of n samples, into run from `to`.
@@ -135,8 +144,8 @@ fn unit_small(
     samples_small(plane, arm.from + i * n * arm.step, arm.step, n)
 }
 
-// Whether those of an arm of `units` units are.
-fn arm_small(
+// Whether those of an arm of `units` units are, one unit after the other.
+fn units_small(
     plane: &[u16],
     map_scu: &[u32],
     arm: Arm,
@@ -144,7 +153,7 @@ fn arm_small(
     n: usize,
     constrained: bool,
 ) -> bool
-    requires { ⌜ Within arm n (now plane) (now «map_scu») × (units ≤ 1024) ⌝ }
+    requires { ⌜ Within arm n (now plane) (now «map_scu») ⌝ }
     ensures { λ r. ⌜ r ≡ allBelow (λ (k : ℕ). leb (armAt arm n constrained (now (plane .entry)) (now («map_scu» .entry)) k) 1023) (units * n) ⌝ }
 {
     let mut small = true;
@@ -154,6 +163,31 @@ fn arm_small(
         i += 1;
     }
     small
+}
+
+fn least(a: usize, b: usize) -> usize
+    ensures { λ r. ⌜ r ≡ min a b ⌝ }
+{
+    if a < b { a } else { b }
+}
+
+// The same. Where all that lies in the picture is small, present or not, no unit is asked.
+fn arm_small(
+    plane: &[u16],
+    map_scu: &[u32],
+    arm: Arm,
+    units: usize,
+    n: usize,
+    constrained: bool,
+) -> bool
+    requires { ⌜ Within arm n (now plane) (now «map_scu») ⌝ }
+    ensures { λ r. ⌜ r ≡ allBelow (λ (k : ℕ). leb (armAt arm n constrained (now (plane .entry)) (now («map_scu» .entry)) k) 1023) (units * n) ⌝ }
+{
+    let there = least(arm.there, units);
+    if samples_small(plane, arm.from, arm.step, there * n) {
+        return true;
+    }
+    units_small(plane, map_scu, arm, units, n, constrained)
 }
 
 // ---- the three arms of a block
