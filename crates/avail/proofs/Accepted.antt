@@ -2,19 +2,19 @@
 -- Assumes nothing.
 use Prim.Native.Nat.{ℕ, _+_, _*_, _/_, _≤_}
 use mathlib.Core.List.{List}
-use mathlib.Core.Path.{_≡_, ap}
+use mathlib.Core.Path.{_≡_, refl}
 use native.Mathlib.Omega.{arith}
 use borrow.Author.Tests.{eqb-true}
 use lib.ListN.{length}
-use Rattle.laws.proofs.Ladders.{passed}
+use Rattle.laws.proofs.Ladders.{passed-by}
 use Rattle.def.specs.Answers.{answerNumber}
 use Rattle.def.specs.Picture.{unitCount}
-use Rattle.def.specs.declared.Refusal.{Refusal}
-use Rattle.def.specs.declared.Answer.the-variants.{Done, Refused}
+use Rattle.def.specs.declared.Refusal.the-variants.{Size, Length, Block}
+use Rattle.def.specs.declared.Answer.the-variants.{Done}
 use Rattle.def.proofs.Answers.{number-some}
 use Rattle.def.proofs.Sizes.{Sized, sized}
 use Rattle.def.proofs.Blocks.{Blocked, blocked}
-use Rattle.avail.specs.Around.{Input, unitsAcross, unitsDown, column, row, units}
+use Rattle.avail.specs.Around.{Input}
 use Rattle.avail.specs.Near.{Reach}
 use Rattle.avail.specs.Calls.{check, checkOf}
 
@@ -23,15 +23,12 @@ pub record Accepted (i : Input) : Type 0 where
   pub long : length (i .words) ≡ unitCount (i .w) (i .h)
   pub block : Blocked (i .w) (i .h) (i .x) (i .y) (i .side)
 
-not-done : (r : Refusal) → Refused r ≡ Done → ⊥
-not-done r e = omega (arith, number-some r, ap answerNumber e)
-
 pub accepted : (i : Input) → check i ≡ Done → Accepted i
 unfolding checkOf
 accepted i e =
-    let p = passed _ _ _ _ (not-done _) e in
-    let q = passed _ _ _ _ (not-done _) (p .rest) in
-    let r = passed _ _ _ _ (not-done _) (q .rest) in
+    let p = passed-by answerNumber _ _ _ _ refl (number-some Size) e in
+    let q = passed-by answerNumber _ _ _ _ refl (number-some Length) (p .rest) in
+    let r = passed-by answerNumber _ _ _ _ refl (number-some Block) (q .rest) in
     record {
       size = sized _ _ (p .first);
       long = eqb-true _ _ (q .first);

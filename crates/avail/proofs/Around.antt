@@ -3,7 +3,7 @@
 --     intra-are, inter-are    the eight answers
 -- Assumes nothing.
 use Prim.Native.Nat.{ℕ, _+_, _-_, _*_, _≤_, _<_}
-use mathlib.Core.Path.{_≡_, refl, sym, ap, _∙_}
+use mathlib.Core.Path.{_≡_, refl, sym, _∙_}
 use mathlib.Core.Bool.{Bool, true, false, not, _&&_}
 use native.Mathlib.Omega.{arith}
 use native.Mathlib.Decide.{decLt}
@@ -12,7 +12,6 @@ use lib.Dec.{ltb}
 use Rattle.laws.specs.Index.{pick}
 use Rattle.laws.specs.Bits.{fieldOf}
 use Rattle.def.specs.Word.{flagAt, intraOf, doneOf}
-use Rattle.avail.specs.declared.Neighbours.{Neighbours}
 use Rattle.avail.specs.Around.{Input, unitsAcross, unitsDown, column, row, units, wordAt, doneNotIntra}
 use Rattle.avail.specs.Near.{counted, wordNear}
 use Rattle.avail.specs.Intra.{intraNeighbours, lastBelow}

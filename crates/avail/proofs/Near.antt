@@ -3,14 +3,12 @@
 --     found, found-below    a unit of the picture, and that its place is within the words
 -- Assumes nothing.
 use Prim.Native.Nat.{ℕ, _+_, _-_, _*_, _/_, _≤_, _<_}
-use mathlib.Core.Path.{_≡_, refl, sym, ap, _∙_}
-use mathlib.Core.Bool.{Bool, true, false, _&&_}
+use mathlib.Core.Path.{_≡_}
+use mathlib.Core.Bool.{true, false}
 use mathlib.Core.List.{List}
-use native.Mathlib.Nat.{mul-comm}
 use native.Mathlib.Omega.{arith}
 use borrow.Author.Tests.{le-leb, lt-leb, lt-ltb, le-ltb}
-use lib.ListN.{length}
-use Rattle.laws.proofs.Flat.{flat-within}
+use Rattle.laws.proofs.Places.{place-below}
 use Rattle.def.specs.Picture.{unitCount}
 use Rattle.avail.specs.Around.{wordAt}
 use Rattle.avail.specs.Near.{counted, wordNear}
@@ -42,4 +40,4 @@ module _ (w h : ℕ) (words : List ℕ) (x y a b : ℕ) where
 
 -- u and v counted from 1
 pub found-below : (w h u v n : ℕ) → 0 < u → u ≤ w / 4 → 0 < v → v ≤ h / 4 → n ≡ unitCount w h → (v - 1) * (w / 4) + (u - 1) < n
-found-below w h u v n p q r s e = rw (e, mul-comm (w / 4) (h / 4)) (flat-within (v - 1) (u - 1) (w / 4) (h / 4) (omega arith) (omega arith))
+found-below w h u v n p q r s e = place-below (w / 4) (h / 4) (u - 1) (v - 1) n (omega arith) (omega arith) e

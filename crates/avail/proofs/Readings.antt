@@ -1,6 +1,6 @@
 -- The reading tells all answers apart.
 -- Assumes nothing.
-use mathlib.Core.Path.{_≡_, refl, sym, ap, _∙_}
+use mathlib.Core.Path.{_≡_, ap}
 use native.Mathlib.Omega.{arith}
 use Rattle.def.proofs.Answers.{number-apart, number-some}
 use Rattle.avail.specs.declared.Avail.{Avail}

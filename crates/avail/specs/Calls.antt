@@ -1,7 +1,7 @@
 -- The two calls: what they refuse and in which order, the reading of their answer, and the rule of each.
 -- Assumes nothing: these are definitions.
 use Prim.Native.Nat.{ℕ}
-use mathlib.Core.Bool.{Bool, true, false}
+use mathlib.Core.Bool.{false}
 use lib.Dec.{eqb}
 use lib.ListN.{length}
 use Rattle.laws.specs.Call.{unless}

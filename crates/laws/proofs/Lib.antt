@@ -4,6 +4,7 @@ pub mod Fill
 pub mod Flat
 pub mod Ladders
 pub mod Parts
+pub mod Places
 pub mod Planes
 pub mod Scans
 pub mod Signs

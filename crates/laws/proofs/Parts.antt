@@ -6,7 +6,7 @@
 --     scan-alike, scan-holds    scans whose tests agree, and one whose tests hold
 -- Assumes nothing.
 use mathlib.Core.Path.{_≡_, refl, sym, ap, _∙_, subst}
-use mathlib.Core.Bool.{Bool, true, false, _&&_}
+use mathlib.Core.Bool.{Bool, true, _&&_, and-true, and-assoc}
 use mathlib.Core.List.{List}
 use Prim.Native.Nat.{ℕ, zero, suc, _+_, _-_, _≤_, _<_}
 use native.Mathlib.Nat.{add-zero, add-suc}
@@ -65,14 +65,6 @@ module _ {A : Type 0} (d : A) (a n : ℕ) (f g : ℕ → A) (same : (j : ℕ) �
       ext-getD d _ _ (length-row d a n f l ∙ sym (length-row d a n g l))
       (λ k p. let q : k < length l = subst (λ (m : ℕ). k < m) (length-row d a n f l) p in
       getD-row d a n f l k q ∙ cell k (decLt k a) (decLt k (a + n)) ∙ sym (getD-row d a n g l k q))
-
-and-assoc : (a b c : Bool) → ((a && b) && c) ≡ (a && (b && c))
-and-assoc true b c = refl
-and-assoc false b c = refl
-
-and-true : (a : Bool) → (a && true) ≡ a
-and-true true = refl
-and-true false = refl
 
 module _ (f : ℕ → Bool) where
   pub scan-next : (n : ℕ) → (allBelow f n && f n) ≡ allBelow f (n + 1)

@@ -4,17 +4,17 @@
 --     quick-small    an arm that passes without asking what is present
 -- Assumes nothing.
 use Prim.Native.Nat.{ℕ, _+_, _*_, _/_, _≤_, _<_, min}
-use mathlib.Core.Path.{_≡_, refl, sym, ap, _∙_, subst}
-use mathlib.Core.Bool.{Bool, true, false, _&&_}
-use mathlib.Core.List.{List}
+use mathlib.Core.Path.{_≡_, refl, _∙_, subst}
+use mathlib.Core.Bool.{Bool, true, false}
+use mathlib.Core.List.{List, [], _∷_}
 use native.Mathlib.Nat.{mul-add-div-right, div-eq-of-lt, add-zero, mul-le-mul-right, mul-le-mul, div-lt-iff-lt-mul}
 use native.Mathlib.Omega.{arith}
 use native.Mathlib.Decide.{decLt}
 use borrow.Author.Tests.{ltb-true}
 use lib.Dec.{leb, ltb}
 use lib.ListN.{length, getD}
-use Rattle.laws.specs.Index.{pick}
 use Rattle.laws.specs.Scan.{allBelow}
+use Rattle.laws.proofs.Calls.{all-at}
 use Rattle.laws.proofs.Flat.{next-row}
 use Rattle.laws.proofs.Scans.{scan-at}
 use Rattle.laws.proofs.Parts.{scan-holds}
@@ -26,9 +26,10 @@ unit-of : (i j n : ℕ) → j < n → (i * n + j) / n ≡ i
 unit-of i j n p = mul-add-div-right {m = n} (omega arith) i j ∙ rw (div-eq-of-lt p) (add-zero i)
 
 -- a unit that is present lies in the picture
-in-picture : (t b : Bool) → (t && b) ≡ true → t ≡ true
-in-picture true b e = refl
-in-picture false b e = e
+in-picture : (a : Arm) (constrained : Bool) (words : List ℕ) (i : ℕ) → presentIn a constrained words i ≡ true → i < a .there
+unfolding presentIn
+in-picture a constrained words i e =
+    ltb-true i (a .there) (all-at (ltb i (a .there) ∷ counts constrained (getD words (a .word + i * a .next) 0) ∷ []) 0 e)
 
 module _ (a : Arm) (n : ℕ) (constrained : Bool) (plane words : List ℕ) (i j : ℕ) (p : j < n) where
   pub unit-missing : presentIn a constrained words i ≡ false → armAt a n constrained plane words (i * n + j) ≡ 512
@@ -42,18 +43,16 @@ module _ (a : Arm) (n : ℕ) (constrained : Bool) (plane words : List ℕ) (i j 
       rw (unit-of i j n p) (rw (e, q))
 
   pub unit-in : Within a n plane words → presentIn a constrained words i ≡ true → a .from + i * n * a .step + j * a .step < length plane
-  unfolding presentIn
   unit-in h e =
-      let r : i < a .there = ltb-true i (a .there) (in-picture (ltb i (a .there)) (counts constrained (getD words (a .word + i * a .next) 0)) e) in
+      let r : i < a .there = in-picture a constrained words i e in
       let q : a .from + (i * n + j) * a .step ≡ a .from + i * n * a .step + j * a .step = omega arith in
       let k : i * n + j < a .there * n = omega (arith, next-row i n, mul-le-mul-right {m = i + 1} {n = a .there} n (omega arith)) in
       subst (λ (m : ℕ). m < length plane) q (h .samples-in (i * n + j) k)
 
 -- the number of the unit's first sample is small
 pub unit-few : (a : Arm) (n : ℕ) (plane words : List ℕ) (constrained : Bool) (i : ℕ) → Within a n plane words → presentIn a constrained words i ≡ true → i * n ≤ 4096
-unfolding presentIn
 unit-few a n plane words constrained i h e =
-    let r : i < a .there = ltb-true i (a .there) (in-picture (ltb i (a .there)) (counts constrained (getD words (a .word + i * a .next) 0)) e) in
+    let r : i < a .there = in-picture a constrained words i e in
     mul-le-mul {n₂ = 1024} {m₂ = 4} (omega (arith, h .few)) (h .small)
 
 -- ---- an arm whose samples in the picture, present or not, are all small
@@ -77,10 +76,10 @@ module _ (a : Arm) (n : ℕ) (constrained : Bool) (plane words : List ℕ) (unit
         rw f p
 
   pub quick-small : allBelow (λ (j : ℕ). leb (getD plane (a .from + j * a .step) 0) 1023) (m * n) ≡ true → allBelow (λ (k : ℕ). leb (armAt a n constrained plane words k) 1023) (units * n) ≡ true
-  unfolding armAt presentIn
+  unfolding armAt
   quick-small q = scan-holds _ (units * n) (λ k p. go k p (presentIn a constrained words (k / n)) refl) where
     go : (k : ℕ) → k < units * n → (t : Bool) → presentIn a constrained words (k / n) ≡ t → leb (armAt a n constrained plane words k) 1023 ≡ true
     go k p true f =
-        let r : k / n < a .there = ltb-true _ _ (in-picture (ltb (k / n) (a .there)) _ f) in
+        let r : k / n < a .there = in-picture a constrained words (k / n) f in
         rw f (scan-at (λ (j : ℕ). leb (getD plane (a .from + j * a .step) 0) 1023) (m * n) k (in-quick k p r) q)
     go k p false f = rw f

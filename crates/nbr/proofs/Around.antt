@@ -3,23 +3,21 @@
 --     left-within, corner-within, up-within    what is read of an arm lies within the plane and the words
 -- Assumes nothing.
 use Prim.Native.Nat.{ℕ, _+_, _-_, _*_, _/_, _%_, _≤_, _<_}
-use mathlib.Core.Path.{_≡_, refl, sym, ap, _∙_, subst}
-use mathlib.Core.Bool.{Bool, true, false, _&&_}
+use mathlib.Core.Path.{_≡_, refl, sym, _∙_, subst}
+use mathlib.Core.Bool.{Bool, true, false, _&&_, and-true}
 use mathlib.Core.List.{List}
-use native.Mathlib.Nat.{mul-comm}
 use native.Mathlib.Omega.{arith}
 use native.Mathlib.Decide.{decLt}
 use borrow.Author.Tests.{lt-ltb, le-ltb, eqb-true, eqb-false, eq-eqb, ne-eqb}
 use lib.Dec.{ltb, eqb}
-use lib.ListN.{length, getD}
-use Rattle.laws.specs.Index.{pick}
-use Rattle.laws.proofs.Flat.{flat-within}
-use Rattle.def.specs.Components.{scaleOf, planeLength}
+use lib.ListN.{length}
+use Rattle.laws.proofs.Places.{place-below}
+use Rattle.def.specs.Components.{scaleOf}
 use Rattle.def.specs.declared.Component.{Component}
-use Rattle.def.proofs.Sizes.{Sized, sized}
-use Rattle.def.proofs.Blocks.{Blocked, blocked}
+use Rattle.def.proofs.Sizes.{sized}
+use Rattle.def.proofs.Blocks.{blocked}
 use Rattle.nbr.specs.declared.gather.Arm.{Arm}
-use Rattle.nbr.specs.Gather.{Around, unitSide, across, column, row, counts, sampleAt, nearAt}
+use Rattle.nbr.specs.Gather.{Around, unitSide, across, column, row, sampleAt, nearAt}
 use Rattle.nbr.specs.Arms.{presentIn, armAt, Within, noArm, leftArm, cornerArm, upArm, BlockOf, Lent}
 use Rattle.nbr.proofs.Units.{unit-below}
 use Rattle.nbr.proofs.Sides.{Sided, four, scaled-le, sided, UnitSided, unit-sided}
@@ -144,10 +142,6 @@ left-over j p q = go (decLt (p + j) q) where
   go (yes h) = lt-ltb j (q - p) (omega arith) ∙ sym (lt-ltb (p + j) q h)
   go (no h) = le-ltb j (q - p) (omega arith) ∙ sym (le-ltb (p + j) q (omega arith))
 
-and-true : (a : Bool) → (a && true) ≡ a
-and-true true = refl
-and-true false = refl
-
 module _ (i : Around) (b : Beside (i .component) (i .w) (i .h) (i .x) (i .y) (i .side)) where
   abbrev arm : Arm → ℕ → ℕ → ℕ
   arm a n k = armAt a n (i .constrained) (i .plane) (i .words) k
@@ -206,10 +200,6 @@ module _ (i : Around) (b : Beside (i .component) (i .w) (i .h) (i .x) (i .y) (i 
 
 -- ---- what is read of an arm
 
--- a place of a plane w wide and h high
-plane-below : (w h c r n : ℕ) → c < w → r < h → n ≡ w * h → r * w + c < n
-plane-below w h c r n p q e = rw (e, mul-comm w h) (flat-within r c w h p q)
-
 none-within : (n : ℕ) (plane words : List ℕ) → 0 < n → n ≤ 4 → Within noArm n plane words
 none-within n plane words p q =
     record { some = p; small = q; few = omega arith; words-in = λ i h. absurd (omega arith); samples-in = λ k h. absurd (omega arith) }
@@ -221,7 +211,7 @@ module _ (c : Component) (w h x y side : ℕ) (plane words : List ℕ) (b : Besi
 
   sample-in : (k r at : ℕ) → k < w / scaleOf c → r < h / scaleOf c → r * (w / scaleOf c) + k ≡ at → at < length plane
   sample-in k r at p q e =
-      subst (λ (m : ℕ). m < length plane) e (plane-below (w / scaleOf c) (h / scaleOf c) k r (length plane) p q (l .plane-long))
+      subst (λ (m : ℕ). m < length plane) e (place-below (w / scaleOf c) (h / scaleOf c) k r (length plane) p q (l .plane-long))
 
   unit : UnitSided c side
   unit = unit-sided c side (b .by-four)

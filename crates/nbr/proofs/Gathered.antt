@@ -4,23 +4,20 @@
 --     refused-kept    any other answer leaves the run
 -- Assumes nothing.
 use Prim.Native.Nat.{ℕ, _≤_, _<_}
-use mathlib.Core.Path.{_≡_, refl, sym, ap, _∙_}
+use mathlib.Core.Path.{_≡_, refl, sym, _∙_}
 use mathlib.Core.Bool.{true}
 use mathlib.Core.List.{List}
 use native.Mathlib.Omega.{arith}
 use borrow.Author.Tests.{eqb-true}
 use lib.ListN.{length, getD}
-use Rattle.laws.proofs.Ladders.{passed}
+use Rattle.laws.proofs.Ladders.{passed-by}
 use Rattle.def.specs.Answers.{answerNumber, afterChecks}
-use Rattle.def.specs.Blocks.{blockOk}
-use Rattle.def.specs.Picture.{sizeOk}
-use Rattle.def.specs.declared.Refusal.{Refusal}
+use Rattle.def.specs.declared.Refusal.the-variants.{Size, Length, Sample, Block}
 use Rattle.def.specs.declared.Answer.{Answer}
 use Rattle.def.specs.declared.Answer.the-variants.{Done, Refused}
 use Rattle.def.proofs.Answers.{number-some}
 use Rattle.nbr.specs.Gather.{Around, Input, runLength, samplesOk, checkOf, check, refused, done, outcome}
 use Rattle.nbr.specs.Arms.{BlockOf, Lent}
-use Rattle.nbr.proofs.Modes.{not-done}
 use Rattle.nbr.proofs.Runs.{lent-of, run-long, run-samples}
 
 pub record Accepted (i : Around) (run : ℕ) : Type 0 where
@@ -32,11 +29,11 @@ pub record Accepted (i : Around) (run : ℕ) : Type 0 where
 pub accepted : (i : Around) (run : ℕ) → checkOf i run ≡ Done → Accepted i run
 unfolding checkOf
 accepted i run e =
-    let p = passed _ _ _ _ (not-done _) e in
-    let q = passed _ _ _ _ (not-done _) (p .rest) in
-    let r = passed _ _ _ _ (not-done _) (q .rest) in
-    let s = passed _ _ _ _ (not-done _) (r .rest) in
-    let t = passed _ _ _ _ (not-done _) (s .rest) in
+    let p = passed-by answerNumber _ _ _ _ refl (number-some Size) e in
+    let q = passed-by answerNumber _ _ _ _ refl (number-some Length) (p .rest) in
+    let r = passed-by answerNumber _ _ _ _ refl (number-some Block) (q .rest) in
+    let s = passed-by answerNumber _ _ _ _ refl (number-some Length) (r .rest) in
+    let t = passed-by answerNumber _ _ _ _ refl (number-some Sample) (s .rest) in
     record {
       block = record { size = p .first; block = r .first };
       lent = lent-of _ _ _ _ _ (q .first);

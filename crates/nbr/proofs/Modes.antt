@@ -2,25 +2,23 @@
 --     accepted    the unit, the two modes that are consulted, and the table
 --     left-ok, up-ok, mode-small, index-small    modes that pass
 -- Assumes nothing.
-use Prim.Native.Nat.{ℕ, _+_, _*_, _/_, _≤_, _<_}
-use mathlib.Core.Path.{_≡_, refl, sym, ap, _∙_}
-use mathlib.Core.Bool.{Bool, true, false, _&&_, _||_}
-use mathlib.Core.List.{List, []}
+use Prim.Native.Nat.{ℕ, _/_, _≤_, _<_}
+use mathlib.Core.Path.{_≡_, refl, sym, _∙_}
+use mathlib.Core.Bool.{Bool, true, false, _||_}
+use mathlib.Core.List.{List, [], _∷_}
 use native.Mathlib.Omega.{arith}
 use borrow.Author.Tests.{eqb-true, leb-true}
 use lib.Dec.{leb, eqb}
-use lib.ListN.{length, take, drop, length-take, length-drop}
+use lib.ListN.{length}
 use Rattle.laws.proofs.Calls.{all-at}
-use Rattle.laws.proofs.Ladders.{passed}
-use Rattle.def.specs.Answers.{answerNumber, afterChecks}
+use Rattle.laws.proofs.Ladders.{passed-by}
+use Rattle.def.specs.Answers.{answerNumber}
 use Rattle.def.specs.Picture.{sizeOk}
-use Rattle.def.specs.declared.Refusal.{Refusal}
-use Rattle.def.specs.declared.Refusal.the-variants.{Size}
-use Rattle.def.specs.declared.Answer.{Answer}
-use Rattle.def.specs.declared.Answer.the-variants.{Done, Refused}
+use Rattle.def.specs.declared.Refusal.the-variants.{Size, Length, Block, Mode}
+use Rattle.def.specs.declared.Answer.the-variants.{Done}
 use Rattle.def.proofs.Answers.{number-some}
 use Rattle.def.proofs.Blocks.{placed}
-use Rattle.nbr.specs.Ranks.{Input, UnitOf, leftMode, upMode, modeOk, modesOk, indexOf, rowStart, lengthTests, lengthsOk, check, numberOutcome, PartInput, partOf, partOutcome}
+use Rattle.nbr.specs.Ranks.{Input, UnitOf, leftMode, upMode, modeOk, modesOk, indexOf, lengthTests, lengthsOk, check}
 
 -- maps of the picture's length, and one of its units
 pub unit-of : (w h : ℕ) (words modes : List ℕ) (table x y : ℕ) → lengthsOk w h (length words) (length modes) table ≡ true → x < w / 4 → y < h / 4 → UnitOf w h words modes x y
@@ -38,16 +36,13 @@ pub record Accepted (i : Input) : Type 0 where
   pub modes-ok : modesOk (i .w) (i .words) (i .modes) (i .x) (i .y) ≡ true
   pub table-long : length (i .table) ≡ 180
 
-pub not-done : (r : Refusal) → Refused r ≡ Done → ⊥
-not-done r e = omega (arith, number-some r, ap answerNumber e)
-
 pub accepted : (i : Input) → check i ≡ Done → Accepted i
 unfolding check
 accepted i e =
-    let p = passed (sizeOk (i .w) (i .h)) _ _ _ (not-done Size) e in
-    let q = passed _ _ _ _ (not-done _) (p .rest) in
-    let r = passed _ _ _ _ (not-done _) (q .rest) in
-    let s = passed _ _ _ _ (not-done _) (r .rest) in
+    let p = passed-by answerNumber (sizeOk (i .w) (i .h)) _ _ _ refl (number-some Size) e in
+    let q = passed-by answerNumber _ _ _ _ refl (number-some Length) (p .rest) in
+    let r = passed-by answerNumber _ _ _ _ refl (number-some Block) (q .rest) in
+    let s = passed-by answerNumber _ _ _ _ refl (number-some Mode) (r .rest) in
     let k = placed _ _ _ _ (r .first) in
     record {
       unit = unit-of _ _ _ _ _ _ _ (q .first) (k .column) (k .row);
@@ -57,22 +52,17 @@ accepted i e =
 
 -- ---- modes that pass
 
-both-left : (a b : Bool) → (a && b) ≡ true → a ≡ true
-both-left true b e = refl
-both-left false b e = e
-
-both-right : (a b : Bool) → (a && b) ≡ true → b ≡ true
-both-right true b e = e
-both-right false b e = cc
-
 module _ (w : ℕ) (words modes : List ℕ) (x y : ℕ) (e : modesOk w words modes x y ≡ true) where
+  abbrev tests : List Bool
+  tests = modeOk (leftMode w words modes x y) ∷ modeOk (upMode w words modes x y) ∷ []
+
   pub left-ok : modeOk (leftMode w words modes x y) ≡ true
   unfolding modesOk
-  left-ok = both-left _ _ e
+  left-ok = all-at tests 0 e
 
   pub up-ok : modeOk (upMode w words modes x y) ≡ true
   unfolding modesOk
-  up-ok = both-right (modeOk (leftMode w words modes x y)) _ e
+  up-ok = all-at tests 1 e
 
 or-left : (a b : Bool) → b ≡ false → (a || b) ≡ true → a ≡ true
 or-left true b f e = refl

@@ -2,8 +2,8 @@
 --     no-part, a-part    the two kinds of part as the code makes them
 --     empty-where-refused, five-where-done    the part is empty where the number is not 0, and has five ranks where it is 0
 -- Assumes nothing.
-use Prim.Native.Nat.{ℕ, _+_, _-_, _*_, _≤_, _<_}
-use mathlib.Core.Path.{_≡_, refl, sym, ap, _∙_}
+use Prim.Native.Nat.{ℕ, _+_, _-_, _≤_}
+use mathlib.Core.Path.{_≡_, refl}
 use mathlib.Core.List.{List, []}
 use native.Mathlib.Nat.{add-zero, add-comm, add-sub-cancel-left}
 use native.Mathlib.Omega.{arith}
@@ -12,7 +12,7 @@ use Rattle.def.specs.Answers.{answerNumber, afterChecks}
 use Rattle.def.specs.declared.Answer.{Answer}
 use Rattle.def.specs.declared.Answer.the-variants.{Done, Refused}
 use Rattle.def.proofs.Answers.{number-some}
-use Rattle.nbr.specs.Ranks.{Input, leftMode, upMode, rowStart, check, numberOutcome, Part, PartInput, partOf, partOutcome}
+use Rattle.nbr.specs.Ranks.{Input, leftMode, upMode, rowStart, check, numberOutcome, PartInput, partOf, partOutcome}
 use Rattle.nbr.proofs.Modes.{Accepted, accepted, left-ok, up-ok, index-small}
 
 pub no-part : (i : PartInput) → record { memory = i .memory; start = i .start; bytes = [] } ≡ partOf i 0 0

@@ -3,15 +3,14 @@
 --     run-long, run-samples    what callers may cite: the run's length, and that its elements are samples
 -- Assumes nothing.
 use Prim.Native.Nat.{ℕ, _+_, _-_, _*_, _/_, _≤_, _<_}
-use mathlib.Core.Path.{_≡_, refl, sym, ap, _∙_, subst}
-use mathlib.Core.Bool.{Bool, true, false, _&&_}
+use mathlib.Core.Path.{_≡_, refl, sym, ap, _∙_}
+use mathlib.Core.Bool.{Bool, true, _&&_}
 use mathlib.Core.List.{List}
 use native.Mathlib.Nat.{zero-add}
 use native.Mathlib.Omega.{arith}
 use borrow.Author.Tests.{lt-ltb, le-ltb, leb-true, eqb-true}
-use lib.Dec.{leb, ltb}
+use lib.Dec.{leb}
 use lib.ListN.{length, getD}
-use Rattle.laws.specs.Index.{pick, tabulate}
 use Rattle.laws.specs.Plane.{withRow}
 use Rattle.laws.specs.Scan.{allBelow}
 use Rattle.laws.proofs.Calls.{all-at}
@@ -20,7 +19,7 @@ use Rattle.laws.proofs.Planes.{Rowed, rowed-none}
 use Rattle.laws.proofs.Scans.{scan-at}
 use Rattle.laws.proofs.Parts.{rowed-part, scan-parts, scan-alike}
 use Rattle.def.specs.declared.Component.{Component}
-use Rattle.nbr.specs.Gather.{Around, unitSide, sideOf, nearAt, runAt, runOf, runLength, samplesOk, lengthTests, lengthsOk}
+use Rattle.nbr.specs.Gather.{Around, unitSide, sideOf, runAt, runOf, runLength, samplesOk, lengthTests, lengthsOk}
 use Rattle.nbr.specs.declared.gather.Arm.{Arm}
 use Rattle.nbr.specs.Arms.{armAt, Within, leftArm, cornerArm, upArm, BlockOf, Lent}
 use Rattle.nbr.proofs.Sides.{scaled-le, unit-sided}

@@ -8,7 +8,7 @@ use lib.ListN.{length, getD}
 use Rattle.laws.specs.Call.{unless, allOf}
 use Rattle.laws.specs.Index.{pick, tabulate}
 use Rattle.laws.specs.Scan.{allBelow}
-use Rattle.def.specs.Answers.{answerNumber, afterChecks}
+use Rattle.def.specs.Answers.{afterChecks}
 use Rattle.def.specs.Blocks.{blockOk}
 use Rattle.def.specs.Components.{scaleOf, planeLength}
 use Rattle.def.specs.Picture.{sizeOk, unitCount}

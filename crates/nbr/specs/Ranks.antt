@@ -2,7 +2,7 @@
 -- Assumes nothing: these are definitions.
 use Prim.Native.Nat.{ℕ, _+_, _-_, _*_, _/_, _<_}
 use mathlib.Core.Path.{_≡_}
-use mathlib.Core.Bool.{Bool, true, false, _&&_, _||_}
+use mathlib.Core.Bool.{Bool, _&&_, _||_}
 use mathlib.Core.List.{List, [], _∷_}
 use lib.Dec.{leb, ltb, eqb}
 use lib.ListN.{length, take, drop}
@@ -12,7 +12,6 @@ use Rattle.def.specs.Answers.{answerNumber, afterChecks}
 use Rattle.def.specs.Blocks.{unitOk}
 use Rattle.def.specs.Picture.{sizeOk, unitCount}
 use Rattle.def.specs.Word.{intraOf, doneOf}
-use Rattle.def.specs.declared.Refusal.{Refusal}
 use Rattle.def.specs.declared.Refusal.the-variants.{Size, Length, Block, Mode}
 use Rattle.def.specs.declared.Answer.{Answer}
 use Rattle.def.specs.declared.Answer.the-variants.{Done, Refused}
@@ -75,7 +74,7 @@ lengthsOk w h words modes table = allOf (lengthTests w h words modes table)
 
 -- a byte that is not consulted is none, and passes
 unfoldable pub modesOk : ℕ → (words modes : List ℕ) → (x y : ℕ) → Bool
-modesOk w words modes x y = modeOk (leftMode w words modes x y) && modeOk (upMode w words modes x y)
+modesOk w words modes x y = allOf (modeOk (leftMode w words modes x y) ∷ modeOk (upMode w words modes x y) ∷ [])
 
 unfoldable pub check : Input → Answer
 check i =

@@ -12,7 +12,7 @@ use Rattle.def.specs.Picture.{unitCount}
 use Rattle.def.specs.declared.Refusal.the-variants.{Length, Block}
 use Rattle.def.specs.declared.Answer.{Answer}
 use Rattle.def.specs.declared.Answer.the-variants.{Done, Refused}
-use Rattle.def.proofs.Sizes.{Sized, sized}
+use Rattle.def.proofs.Sizes.{sized}
 use Rattle.avail.specs.Calls.{checkOf}
 use Rattle.avail.proofs.checked.Statement.{statement}
 use Rattle.avail.proofs.checked.Tie as tie

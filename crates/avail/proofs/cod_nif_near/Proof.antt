@@ -1,5 +1,5 @@
 -- `avail::cod_nif_near` meets its contract: both flags of the word that is read. Assumes nothing.
-use mathlib.Core.Path.{ap, _∙_}
+use mathlib.Core.Path.{ap}
 use borrow.Author.Needs.{needs}
 use Rattle.avail.specs.Around.{doneNotIntra}
 use Rattle.avail.proofs.cod_nif_near.Statement.{statement}

@@ -1,10 +1,10 @@
 -- `avail::word_near` meets its contract: four returns with no unit, and one with the unit's word. Assumes nothing.
 use Prim.Native.Nat.{ℕ, _+_, _-_, _*_, _/_, _<_}
-use mathlib.Core.Path.{_≡_, sym, ap, _∙_}
+use mathlib.Core.Path.{_≡_, ap, _∙_}
 use native.Mathlib.Omega.{arith}
 use borrow.Author.Needs.{needs}
 use denote.Ref.{now}
-use lib.ListN.{length, getD}
+use lib.ListN.{length}
 use Rattle.avail.specs.Around.{wordAt}
 use Rattle.avail.proofs.Near.{counted-in, counted-zero, counted-past, none-down, none-across, found, found-below}
 use Rattle.avail.proofs.word_near.Statement.{statement}

@@ -1,6 +1,5 @@
 -- `nbr::gather::corner_arm` meets its contract: nothing at the picture's edges, and else the place of one sample. Assumes nothing.
-use Prim.Native.Nat.{_/_}
-use mathlib.Core.Path.{_≡_, _∙_}
+use mathlib.Core.Path.{_∙_}
 use native.Mathlib.Omega.{arith}
 use borrow.Author.Needs.{needs}
 use Rattle.nbr.proofs.Around.{Frame, framed, corner-none, corner-none-above, corner-made}

@@ -1,9 +1,8 @@
 -- `nbr::gather::put_missing` meets its contract: a loop that stores from the front of a part. Assumes nothing.
-use Prim.Native.Nat.{ℕ, _+_, _-_, _≤_}
+use Prim.Native.Nat.{ℕ, _-_, _≤_}
 use mathlib.Core.Path.{refl}
 use native.Mathlib.Omega.{arith}
 use borrow.Author.Needs.{needs}
-use lib.ListN.{length}
 use Rattle.laws.proofs.Planes.{Rowed, rowed-none, rowed-more, rowed-all}
 use Rattle.nbr.proofs.gather.put_missing.Statement.{statement}
 use Rattle.nbr.proofs.gather.put_missing.Tie as tie

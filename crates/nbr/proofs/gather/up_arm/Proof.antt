@@ -1,6 +1,5 @@
 -- `nbr::gather::up_arm` meets its contract: nothing at the picture's edge, and else a start and a stride. Assumes nothing.
-use Prim.Native.Nat.{_/_}
-use mathlib.Core.Path.{_≡_, _∙_}
+use mathlib.Core.Path.{_∙_}
 use native.Mathlib.Omega.{arith}
 use borrow.Author.Needs.{needs}
 use Rattle.nbr.proofs.Around.{Frame, framed, up-none, up-made}

@@ -1,7 +1,5 @@
 -- `nbr::ranks::checked` meets its contract: a row of checks. `past1` to `past3` are what a check, passed, leaves of the row. Assumes nothing.
 use mathlib.Core.Path.{_≡_, refl, sym, _∙_}
-use mathlib.Core.Bool.{true}
-use native.Mathlib.Omega.{arith}
 use borrow.Author.Needs.{needs}
 use borrow.Author.Tests.{not-false}
 use denote.Ref.{now}

@@ -1,5 +1,4 @@
 -- `nbr::ranks::index_of` meets its contract: 0 of none, and else one more. Assumes nothing.
-use mathlib.Core.Path.{refl, sym, ap, _∙_}
 use native.Mathlib.Omega.{arith}
 use borrow.Author.Needs.{needs}
 use borrow.Author.Tests.{eq-eqb, ne-eqb}

@@ -1,5 +1,5 @@
 -- `nbr::ranks::mode_at` meets its contract: the unit's place is within both maps. Assumes nothing.
-use Prim.Native.Nat.{ℕ, _+_, _*_, _/_, _<_}
+use Prim.Native.Nat.{_+_, _*_, _/_, _<_}
 use mathlib.Core.Path.{_≡_, sym, _∙_}
 use mathlib.Core.Bool.{_&&_}
 use native.Mathlib.Omega.{arith}

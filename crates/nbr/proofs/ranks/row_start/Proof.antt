@@ -1,5 +1,5 @@
 -- `nbr::ranks::row_start` meets its contract: both modes pass, so that each index is at most 5. Assumes nothing.
-use mathlib.Core.Path.{sym, ap, _∙_}
+use mathlib.Core.Path.{ap, _∙_}
 use native.Mathlib.Omega.{arith}
 use borrow.Author.Needs.{needs}
 use Rattle.nbr.specs.Ranks.{modeOk, indexOf, rowStart}
