@@ -1,13 +1,15 @@
--- A slice filled with the numbers of a text, at any element type: what holds after i of them.
+-- A slice filled with the numbers of a text, at any element type: what holds after i of them; and a slice taken into the front of a room.
 -- Assumes nothing.
-use mathlib.Core.Path.{_≡_, refl, sym, ap, _∙_}
-use mathlib.Core.List.{List}
-use Prim.Native.Nat.{ℕ, _+_, _<_, _≤_}
+use mathlib.Core.Path.{_≡_, refl, sym, ap, _∙_, subst}
+use mathlib.Core.List.{List, _++_}
+use Prim.Native.Nat.{ℕ, _+_, _<_, _≤_, min}
 use native.Mathlib.Numerals.{add-one}
 use native.Mathlib.Omega.{arith}
-use lib.ListN.{length, set}
+use lib.ListN.{length, set, take, drop}
+use lib.Seq.{length-take-le, take-at, drop-at}
+use Rattle.laws.proofs.Tabulate.{length-tabulate}
 use Rattle.laws.proofs.Fill.{Upto, upto-none, upto-more, upto-all}
-use Rattle.cases.specs.Numbers.{numberAt, placeOf, Filled}
+use Rattle.cases.specs.Numbers.{numberAt, placeOf, Filled, Took}
 use Rattle.cases.specs.declared.Written.{Written}
 
 module _ {A : Type 0} (d : A) (f : Written → A) (s : List ℕ) (at : ℕ) where
@@ -32,3 +34,17 @@ module _ {A : Type 0} (d : A) (f : Written → A) (s : List ℕ) (at : ℕ) wher
   filling-all out₀ out i place h u =
       let e : i ≡ length out₀ = omega (arith, u .upto .within) in
       record { next = u .here ∙ ap (placeOf s at) e; filled = upto-all d _ out₀ out i h (u .upto) }
+
+-- the front of a room filled, and the rest of it after that
+module _ {A : Type 0} (f : Written → A) (s : List ℕ) (at : ℕ) (room front : List A) (n : Written) (len next : ℕ) where
+  pub took : n ≡ numberAt s at → len ≡ min (n .size) (length room) → Filled f s (n .next) (take len room) front next → Took f s at room (front ++ drop len room) (record { len = len; next = next })
+  took e q u =
+      let h : len ≤ length room = omega arith in
+      let long : length front ≡ len = ap length (u .filled) ∙ length-tabulate _ _ ∙ length-take-le len room h in
+      record {
+        len = q ∙ ap (λ (m : Written). min (m .size) (length room)) e;
+        front =
+            rw (take-at front (drop len room) len long)
+            (subst (λ (m : Written). Filled f s (m .next) (take len room) front next) e u);
+        rest = drop-at front (drop len room) len long;
+      }

@@ -1,14 +1,15 @@
 -- Decimal numbers in a text, one after another.
 -- Assumes nothing: these are definitions.
-use Prim.Native.Nat.{ℕ, zero, suc, _+_, _-_, _*_, _%_}
+use Prim.Native.Nat.{ℕ, zero, suc, _+_, _-_, _*_, _%_, min}
 use mathlib.Core.Bool.{Bool, true, false, not, _&&_, _||_}
 use mathlib.Core.List.{List}
 use mathlib.Core.Path.{_≡_}
 use lib.Dec.{leb, ltb, eqb}
 use lib.IntN.{ℤ}
-use lib.ListN.{length, getD}
+use lib.ListN.{length, getD, take, drop}
 use Rattle.laws.specs.Index.{pick, tabulate}
 use Rattle.laws.specs.Sign.{sg}
+use Rattle.cases.specs.declared.Part.{Part}
 use Rattle.cases.specs.declared.Written.{Written}
 
 -- a digit, or the minus before one; or any other byte
@@ -54,3 +55,9 @@ signedOf m n = pick (n .negative) (sg true (n .size % (m + 1))) (sg false (n .si
 pub record Filled {A : Type 0} (f : Written → A) (s : List ℕ) (i : ℕ) (out out′ : List A) (r : ℕ) : Type 0 where
   pub next : r ≡ placeOf s i (length out)
   pub filled : out′ ≡ tabulate (length out) (λ (k : ℕ). f (numberAt s (placeOf s i k)))
+
+-- a slice of a case, its length first, was taken into the front of room, as far as room goes
+pub record Took {A : Type 0} (f : Written → A) (s : List ℕ) (i : ℕ) (room room′ : List A) (p : Part) : Type 0 where
+  pub len : p .len ≡ min (numberAt s i .size) (length room)
+  pub front : Filled f s (numberAt s i .next) (take (p .len) room) (take (p .len) room′) (p .next)
+  pub rest : drop (p .len) room′ ≡ drop (p .len) room

@@ -1,8 +1,8 @@
 // Recorded cases, as the programs that replay them read them: decimal numbers one after another, with other bytes between.
 ghost use mathlib.Core.Path.{_≡_};
-ghost use Prim.Native.Nat.{_-_, _%_, _≤_, _<_};
+ghost use Prim.Native.Nat.{_-_, _%_, _≤_, _<_, min};
 ghost use lib.ListN.{length};
-ghost use Rattle.cases.specs.Numbers.{numberByte, first, valueOf, numberAt, signedOf, Filled};
+ghost use Rattle.cases.specs.Numbers.{numberByte, first, valueOf, numberAt, signedOf, Filled, Took};
 
 // A number as it is written: its sign, its size below 2 ^ 32, and the place after it.
 pub struct Written {
@@ -170,4 +170,71 @@ pub fn fill_i16(s: &[u8], at: usize, out: &mut [i16]) -> usize
         i += 1;
     }
     place
+}
+
+// A slice of a case: its length, and the place after its elements.
+pub struct Part {
+    pub len: usize,
+    pub next: usize,
+}
+
+fn least(a: usize, b: usize) -> usize
+    ensures { λ r. ⌜ (r ≡ min a b) × (r ≤ b) ⌝ }
+{
+    if a < b { a } else { b }
+}
+
+// A slice of a case, its length first, into the front of room, as far as room goes.
+pub fn slice_u8(s: &[u8], at: usize, room: &mut [u8]) -> Part
+    ensures { λ r. ⌜ Took (λ (n : Written). n .size % 256) (now (s .entry)) at (now (room .entry)) (now (room .exit)) r ⌝ }
+{
+    let n = number(s, at);
+    let from = n.next;
+    let len = least(n.size, room.len());
+    let next = fill_u8(s, from, &mut room[..len]);
+    Part { len, next }
+}
+
+// A slice of a case, its length first, into the front of room, as far as room goes.
+pub fn slice_u16(s: &[u8], at: usize, room: &mut [u16]) -> Part
+    ensures { λ r. ⌜ Took (λ (n : Written). n .size % 65536) (now (s .entry)) at (now (room .entry)) (now (room .exit)) r ⌝ }
+{
+    let n = number(s, at);
+    let from = n.next;
+    let len = least(n.size, room.len());
+    let next = fill_u16(s, from, &mut room[..len]);
+    Part { len, next }
+}
+
+// A slice of a case, its length first, into the front of room, as far as room goes.
+pub fn slice_u32(s: &[u8], at: usize, room: &mut [u32]) -> Part
+    ensures { λ r. ⌜ Took (λ (n : Written). n .size % 4294967296) (now (s .entry)) at (now (room .entry)) (now (room .exit)) r ⌝ }
+{
+    let n = number(s, at);
+    let from = n.next;
+    let len = least(n.size, room.len());
+    let next = fill_u32(s, from, &mut room[..len]);
+    Part { len, next }
+}
+
+// A slice of a case, its length first, into the front of room, as far as room goes.
+pub fn slice_i8(s: &[u8], at: usize, room: &mut [i8]) -> Part
+    ensures { λ r. ⌜ Took (signedOf 128) (now (s .entry)) at (now (room .entry)) (now (room .exit)) r ⌝ }
+{
+    let n = number(s, at);
+    let from = n.next;
+    let len = least(n.size, room.len());
+    let next = fill_i8(s, from, &mut room[..len]);
+    Part { len, next }
+}
+
+// A slice of a case, its length first, into the front of room, as far as room goes.
+pub fn slice_i16(s: &[u8], at: usize, room: &mut [i16]) -> Part
+    ensures { λ r. ⌜ Took (signedOf 32768) (now (s .entry)) at (now (room .entry)) (now (room .exit)) r ⌝ }
+{
+    let n = number(s, at);
+    let from = n.next;
+    let len = least(n.size, room.len());
+    let next = fill_i16(s, from, &mut room[..len]);
+    Part { len, next }
 }
