@@ -7,15 +7,20 @@ pub mod gather;
 pub mod predict;
 pub mod ranks;
 pub mod residual;
+pub mod sheet;
+pub mod walk;
 
 pub const DONE: u32 = 0;
 pub const SIZE: u32 = 1;
 pub const LENGTH: u32 = 2;
+pub const SETTING: u32 = 3;
+pub const PAST: u32 = 5;
 pub const SAMPLE: u32 = 7;
 pub const PLACE: u32 = 8;
 pub const MODE: u32 = 9;
 pub const POINTS: u32 = 10;
 pub const PIVOT: u32 = 11;
+pub const SHEET: u32 = 12;
 
 /// Width and height: multiples of 4, from 4 to 4096.
 pub fn size_ok(w: usize, h: usize) -> bool {

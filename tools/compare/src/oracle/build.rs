@@ -7,8 +7,17 @@ use std::path::{Path, PathBuf};
 use std::{env, fs};
 
 const COPIED: [&str; 11] = [
-    "api/mod.rs", "def.rs", "df.rs", "ipred.rs", "picman.rs", "plane.rs", "recon.rs", "region.rs", "tbl.rs",
-    "tracer.rs", "util.rs",
+    "api/mod.rs",
+    "def.rs",
+    "df.rs",
+    "ipred.rs",
+    "picman.rs",
+    "plane.rs",
+    "recon.rs",
+    "region.rs",
+    "tbl.rs",
+    "tracer.rs",
+    "util.rs",
 ];
 const SUPPLIED: [(&str, &str); 3] = [("frame.rs", "api/frame.rs"), ("dec.rs", "dec.rs"), ("enc.rs", "enc.rs")];
 const LIMIT_6: &str = "pub(crate) const MAX_TR_LOG2: usize = 6;";

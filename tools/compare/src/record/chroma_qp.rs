@@ -113,7 +113,13 @@ fn accepted_points(rng: &mut Rng, global: bool, near: bool) -> Points {
     let (mut i, mut o) = (start + first, rng.range(-12, 57));
     b.push((o - i) as i8);
     while a.len() < most && i < 57 {
-        let widest = if most > 8 { 1 } else if near { 9 } else { 50 };
+        let widest = if most > 8 {
+            1
+        } else if near {
+            9
+        } else {
+            50
+        };
         let gap = rng.range(1, widest.min(57 - i));
         let reach = if near { 110 / gap } else { 69 };
         let next = rng.range((o - reach).max(-12), (o + reach).min(57));
@@ -198,7 +204,8 @@ fn pivots(tape: &mut Tape, rng: &mut Rng) {
                 let p = points(rng, &[(first - start).min(127) as i8], &[-20]);
                 record_at(tape, rng, (global, same, i), &fine, p);
             }
-            for (at, out) in [(0, -12), (0, -13), (0, 57), (0, 58), (1, -12), (1, -13), (2, 57), (2, 58), (2, -13)] {
+            for (at, out) in [(0, -12), (0, -13), (0, 57), (0, 58), (1, -12), (1, -13), (2, 57), (2, 58), (2, -13)]
+            {
                 let p = points_through(rng, start, at, out);
                 record_at(tape, rng, (global, same, i), &fine, p);
             }

@@ -138,12 +138,16 @@ fn refusals(tape: &mut Tape, rng: &mut Rng) {
     }
 }
 
-/// 7: one sample of 1024 somewhere; it counts only where it is gathered.
+/// 7: one sample of 1024 somewhere, mostly in the row above or the column to the left; it counts only where
+/// it is gathered.
 fn over(tape: &mut Tape, rng: &mut Rng) {
     for i in 0..120 {
         let side = rng.pick(&[4, 4, 8]);
         let mut case = with(rng, 3 * side, 3 * side, side, side, side);
-        let at = rng.below(case.plane.len());
+        let near = if case.chroma { side / 2 } else { side };
+        let along = rng.below(3 * near);
+        let anywhere = rng.below(9 * near * near);
+        let at = rng.pick(&[(near - 1) * 3 * near + along, along * 3 * near + near - 1, anywhere]);
         case.plane[at] = rng.pick(&[1024, 1024, 1025, 65535]);
         if i % 3 == 0 {
             case.words.iter_mut().for_each(|word| *word |= 1 << 31 | 1 << 15);

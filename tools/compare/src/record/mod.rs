@@ -6,14 +6,16 @@ mod gather;
 mod predict;
 mod ranks;
 mod recon;
+mod sheet;
 mod tape;
+mod trees;
 
 use std::path::Path;
 use tape::Tape;
 
 type Recorder = fn(&mut Tape);
 
-const ALL: [(&str, Recorder); 7] = [
+const ALL: [(&str, Recorder); 8] = [
     ("chroma_qp", chroma_qp::record),
     ("avail", avail::record),
     ("ranks", ranks::record),
@@ -21,6 +23,7 @@ const ALL: [(&str, Recorder); 7] = [
     ("predict", predict::record),
     ("recon_block", recon::record_block),
     ("recon_plane", recon::record_plane),
+    ("sheet", sheet::record),
 ];
 
 /// Records one name, or all of them, each in its own folder. True if the Rust and the model never differed.

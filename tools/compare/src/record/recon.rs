@@ -132,8 +132,7 @@ impl Case for Plane {
         let mut plane = self.plane.clone();
         let (size, block) = ((self.w, self.h), (self.x, self.y, self.side));
         let (prediction, residual) = (&self.prediction, &self.residual);
-        let number =
-            model_residual::plane(self.chroma, size, block, self.coded, prediction, residual, &mut plane);
+        let number = model_residual::plane(self.chroma, size, block, self.coded, prediction, residual, &mut plane);
         Line::new().num(number).all(&plane)
     }
 
@@ -158,7 +157,9 @@ pub fn record_plane(tape: &mut Tape) {
     for _ in 0..24 {
         tape.record(&accepted_plane(rng, 36));
     }
-    for (w, h, x, y, side) in [(64, 64, 0, 0, 64), (128, 64, 64, 0, 64), (4096, 4, 4092, 0, 4), (4, 4096, 0, 4092, 4)] {
+    for (w, h, x, y, side) in
+        [(64, 64, 0, 0, 64), (128, 64, 64, 0, 64), (4096, 4, 4092, 0, 4), (4, 4096, 0, 4092, 4)]
+    {
         for chroma in [false, true] {
             tape.record(&Plane { chroma, ..plane_with(rng, chroma, w, h, x, y, side) });
         }

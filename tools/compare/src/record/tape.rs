@@ -2,6 +2,9 @@
 use std::fmt::{Display, Write as _};
 use std::{fs, io, path::Path};
 
+/// The record separator, which ends each sheet among the cases.
+const SHEET_END: u8 = 30;
+
 /// Numbers separated by single spaces.
 #[derive(Default, Clone, PartialEq)]
 pub struct Line(pub String);
@@ -48,7 +51,7 @@ pub trait Case {
 #[derive(Default)]
 pub struct Tape {
     name: &'static str,
-    cases: String,
+    cases: Vec<u8>,
     stdout: String,
     from_rust: usize,
     refused: usize,
@@ -74,10 +77,24 @@ impl Tape {
     /// Records a case: the Rust answers in its domain, else the model does.
     pub fn record(&mut self, case: &dyn Case) {
         let answer = self.answer(case);
-        self.cases += &case.input().0;
-        self.cases.push('\n');
+        self.cases.extend(case.input().0.bytes());
+        self.cases.push(b'\n');
         self.stdout += &answer.0;
         self.stdout.push('\n');
+    }
+
+    /// Records a sheet and its text, which the model alone gives.
+    pub fn record_sheet(&mut self, sheet: &[u8], text: &str) {
+        assert!(!sheet.contains(&SHEET_END), "a sheet holds the byte that ends it");
+        if text.starts_with("refused=") {
+            self.refused += 1;
+        } else {
+            self.from_model += 1;
+        }
+        self.cases.extend(sheet);
+        self.cases.push(SHEET_END);
+        self.stdout += text;
+        self.stdout += "--\n";
     }
 
     /// Compares the Rust and the model on a case without recording it.
@@ -120,7 +137,13 @@ impl Tape {
             self.differences += 1;
             if self.differences <= 3 {
                 let said = rust.as_ref().map_or("a panic", |line| &line.0);
-                println!("{}: DIFFERENCE\n  input {}\n  model {}\n  Rust  {}", self.name, case.input().0, model.0, said);
+                println!(
+                    "{}: DIFFERENCE\n  input {}\n  model {}\n  Rust  {}",
+                    self.name,
+                    case.input().0,
+                    model.0,
+                    said
+                );
             }
         }
         rust
