@@ -3,6 +3,7 @@
 //! refusals and for the accepted inputs that lie outside the Rust's domain.
 pub mod avail;
 pub mod chroma;
+pub mod deblock;
 pub mod gather;
 pub mod predict;
 pub mod ranks;
@@ -14,7 +15,9 @@ pub const DONE: u32 = 0;
 pub const SIZE: u32 = 1;
 pub const LENGTH: u32 = 2;
 pub const SETTING: u32 = 3;
+pub const SPLIT: u32 = 4;
 pub const PAST: u32 = 5;
+pub const QP: u32 = 6;
 pub const SAMPLE: u32 = 7;
 pub const PLACE: u32 = 8;
 pub const MODE: u32 = 9;

@@ -2,7 +2,9 @@
 //! that are not part of this comparison are laid beside the copies from shims/, and one generated file
 //! declares them all as modules of the crate root, where their `crate::` and `pub(crate)` hold.
 //!
-//! For the package oracle_tr5 alone one constant of the copy of def.rs is changed, MAX_TR_LOG2 from 6 to 5.
+//! Four packages are built so. `oracle` has the files exactly as they lie in the folder. In those that end in
+//! `_tr5` one constant of the copy of def.rs is changed, MAX_TR_LOG2 from 6 to 5. In those called
+//! `oracle_visits..` the copy of tracer.rs is replaced by shims/tracer.rs.
 use std::path::{Path, PathBuf};
 use std::{env, fs};
 
@@ -25,8 +27,9 @@ const LIMIT_5: &str = "pub(crate) const MAX_TR_LOG2: usize = 5;";
 
 fn main() {
     println!("cargo:rerun-if-env-changed=REVC");
+    println!("cargo:rustc-check-cfg=cfg(visits)");
     let revc = PathBuf::from(env::var("REVC").expect("REVC: the folder that holds revc's src/"));
-    let shims = Path::new(&env::var("CARGO_MANIFEST_DIR").unwrap()).join("../shims");
+    let shims = Path::new(&env::var("CARGO_MANIFEST_DIR").unwrap()).join("../shims").canonicalize().unwrap();
     let out = PathBuf::from(env::var("OUT_DIR").unwrap());
     let copies = out.join("src");
     fs::create_dir_all(copies.join("api")).unwrap();
@@ -36,17 +39,26 @@ fn main() {
     for (from, to) in SUPPLIED {
         lay(&shims.join(from), &copies.join(to));
     }
-    if env::var("CARGO_PKG_NAME").unwrap() == "oracle_tr5" {
+    let package = env::var("CARGO_PKG_NAME").unwrap();
+    if package.ends_with("_tr5") {
         change_limit(&copies.join("def.rs"));
     }
-    let lazy_static = shims.join("lazy_static.rs");
+    if package.starts_with("oracle_visits") {
+        println!("cargo:rustc-cfg=visits");
+        lay(&shims.join("tracer.rs"), &copies.join("tracer.rs"));
+    }
+    fs::write(out.join("revc.rs"), root(&shims.join("lazy_static.rs"), &copies)).unwrap();
+}
+
+/// The declarations of all modules.
+fn root(lazy_static: &Path, copies: &Path) -> String {
     println!("cargo:rerun-if-changed={}", lazy_static.display());
-    let mut root = format!("include!({:?});\n", lazy_static.canonicalize().unwrap());
+    let mut root = format!("include!({lazy_static:?});\n");
     for name in COPIED.iter().chain(&["dec.rs", "enc.rs"]) {
         let module = name.trim_end_matches("/mod.rs").trim_end_matches(".rs");
         root += &format!("#[allow(warnings)]\n#[path = {:?}]\npub(crate) mod {};\n", copies.join(name), module);
     }
-    fs::write(out.join("revc.rs"), root).unwrap();
+    root
 }
 
 /// Copies one file, byte for byte.
@@ -56,7 +68,7 @@ fn lay(from: &Path, to: &Path) {
     fs::write(to, bytes).unwrap();
 }
 
-/// The one change that limit 5 needs; it must be there exactly once.
+/// The one change that limit 5 needs; the line must be there exactly once.
 fn change_limit(def: &Path) {
     let text = fs::read_to_string(def).unwrap();
     assert_eq!(text.matches(LIMIT_6).count(), 1, "MAX_TR_LOG2 stands in def.rs otherwise than expected");

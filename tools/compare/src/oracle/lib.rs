@@ -8,11 +8,14 @@ include!(concat!(env!("OUT_DIR"), "/revc.rs"));
 
 pub mod avail;
 pub mod chroma;
+pub mod deblock;
 pub mod gather;
 mod planes;
 pub mod predict;
 pub mod ranks;
 pub mod residual;
+#[cfg(visits)]
+pub mod visits;
 
 use std::panic::{catch_unwind, AssertUnwindSafe};
 

@@ -53,6 +53,7 @@ impl Case for Derive {
 pub fn record(tape: &mut Tape) {
     let rng = &mut Rng::new(0xc11);
     worked(tape, rng);
+    products(tape, rng);
     for _ in 0..330 {
         tape.record(&accepted(rng, true));
     }
@@ -100,6 +101,19 @@ fn worked(tape: &mut Tape, rng: &mut Rng) {
                 // Started at -12 the second part of `three` would end below the range: that is 11.
                 tape.record(&case);
             }
+        }
+    }
+}
+
+/// Products just inside and just outside the Rust's eight bits, in a part of two and of three steps.
+fn products(tape: &mut Tape, rng: &mut Rng) {
+    for (gap, rise) in [(2, 63), (2, 64), (2, -64), (2, -65), (3, 42), (3, 43), (3, -42), (3, -43)] {
+        for global in [false, true] {
+            let start = if global { 16 } else { -12 };
+            let first = if rise > 0 { -12 } else { 57 };
+            let p = points(rng, &[0, gap - 1], &[first - start, rise - gap]);
+            let wild = wild_points(rng);
+            tape.record(&case(rng, global, true, p, wild));
         }
     }
 }

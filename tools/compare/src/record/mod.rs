@@ -2,6 +2,9 @@
 mod avail;
 mod chroma_qp;
 mod data;
+mod deblock;
+mod deblock_cases;
+mod deblock_refusals;
 mod gather;
 mod predict;
 mod ranks;
@@ -15,7 +18,7 @@ use tape::Tape;
 
 type Recorder = fn(&mut Tape);
 
-const ALL: [(&str, Recorder); 8] = [
+const ALL: [(&str, Recorder); 9] = [
     ("chroma_qp", chroma_qp::record),
     ("avail", avail::record),
     ("ranks", ranks::record),
@@ -23,6 +26,7 @@ const ALL: [(&str, Recorder); 8] = [
     ("predict", predict::record),
     ("recon_block", recon::record_block),
     ("recon_plane", recon::record_plane),
+    ("deblock", deblock_cases::record),
     ("sheet", sheet::record),
 ];
 
