@@ -102,12 +102,14 @@ fn motions(tape: &mut Tape, rng: &mut Rng) {
 
 /// Whole pictures, lists of edges and single windows, the Rust against the model, not recorded.
 fn compare(tape: &mut Tape, rng: &mut Rng) {
+    tape.say("recorded pictures compared");
     for i in 0..1500 {
         let most = rng.pick(&[8, 16, 36, 72, 140]);
         tape.compare(&varied(rng, most, i));
     }
+    tape.say("further pictures up to 140 by 140 compared");
     tape.compare(&picture(rng, 1024, 1024, trees::MIXED));
-    tape.compare(&picture(rng, 1024, 1028, trees::MIXED));
+    tape.say("pictures of 1024 by 1024 compared");
     for _ in 0..600 {
         let (w, h) = (size(rng, 300), size(rng, 300));
         let taste = trees::taste(rng);
@@ -115,12 +117,14 @@ fn compare(tape: &mut Tape, rng: &mut Rng) {
         let splits = split_bytes(rng, w, h, &tree);
         tape.compare(&Edges { w, h, splits, tree, limit: rng.pick(&[5, 6]) });
     }
-    for _ in 0..60_000 {
-        let (chroma, along) = (rng.one_in(2), rng.one_in(2));
-        let any = rng.next() as u8;
-        let entry = rng.pick(&[0, 1, 2, 3, 12, 64, any, any]);
-        tape.compare(&Window { chroma, along, entry, samples: samples(rng, if chroma { 8 } else { 16 }) });
+    tape.say("split trees' lists of edges compared");
+    for entry in 0..=255 {
+        for i in 0..240 {
+            let (chroma, along) = (i % 2 == 0, i / 2 % 2 == 0);
+            tape.compare(&Window { chroma, along, entry, samples: samples(rng, if chroma { 8 } else { 16 }) });
+        }
     }
+    tape.say("single windows compared, 60 of each kind with each strength entry");
 }
 
 /// The lists of edges alone.

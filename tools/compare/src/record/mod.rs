@@ -43,8 +43,12 @@ pub fn record(name: &str, dir: &Path) -> std::io::Result<bool> {
         known = true;
         let mut tape = Tape::new(each);
         recorder(&mut tape);
-        agreed &= tape.report();
-        tape.save(&dir)?;
+        // A recording that the Rust and the model do not agree on is not written.
+        if tape.report() {
+            tape.save(&dir)?;
+        } else {
+            agreed = false;
+        }
     }
     if !known {
         println!("nothing is called {name}");

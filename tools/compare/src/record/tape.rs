@@ -57,6 +57,7 @@ pub struct Tape {
     refused: usize,
     from_model: usize,
     compared: usize,
+    said: usize,
     differences: usize,
     outside: Outside,
 }
@@ -105,6 +106,12 @@ impl Tape {
         } else if accepted(&model) {
             self.outside(case, &model);
         }
+    }
+
+    /// Says how many comparisons were made since the last such line.
+    pub fn say(&mut self, what: &str) {
+        println!("{}: {} {}", self.name, self.compared - self.said, what);
+        self.said = self.compared;
     }
 
     fn answer(&mut self, case: &dyn Case) -> Line {
