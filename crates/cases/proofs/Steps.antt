@@ -31,12 +31,12 @@ pub value-none : (s : List ℕ) (i : ℕ) → 0 ≡ valueOf s i (i - i)
 unfolding valueOf
 value-none s i = let e : 0 ≡ i - i = omega arith in ap (valueOf s i) e
 
-pub value-more : (s : List ℕ) (from i v x : ℕ) → from ≤ i → v ≡ valueOf s from (i - from) → x ≡ getD s i 0 → (10 * v + x % 48) % 4294967296 ≡ valueOf s from (i + 1 - from)
+pub value-more : (s : List ℕ) (from i v x : ℕ) → from ≤ i → v ≡ valueOf s from (i - from) → x ≡ getD s i 0 → (10 * v + x % 48) % 1152921504606846976 ≡ valueOf s from (i + 1 - from)
 unfolding valueOf
 value-more s from i v x h e q =
     let p : i + 1 - from ≡ suc (i - from) = omega arith in
     let r : from + (i - from) ≡ i = omega arith in
-    rw (e, q) (ap (λ (k : ℕ). (10 * valueOf s from (i - from) + getD s k 0 % 48) % 4294967296) (sym r) ∙ ap (valueOf s from) (sym p))
+    rw (e, q) (ap (λ (k : ℕ). (10 * valueOf s from (i - from) + getD s k 0 % 48) % 1152921504606846976) (sym r) ∙ ap (valueOf s from) (sym p))
 
 -- ---- a number, by where it starts and stops
 

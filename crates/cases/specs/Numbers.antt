@@ -22,10 +22,10 @@ unfoldable pub first : Bool → List ℕ → ℕ → ℕ → ℕ
 first wanted s zero i = i
 first wanted s (suc n) i = pick (numberByte (getD s i 0) wanted) i (first wanted s n (i + 1))
 
--- what the n digits from place i on come to, modulo 2 ^ 32
+-- what the n digits from place i on come to, modulo 2 ^ 60
 unfoldable pub valueOf : List ℕ → ℕ → ℕ → ℕ
 valueOf s i zero = 0
-valueOf s i (suc n) = (10 * valueOf s i n + getD s (i + n) 0 % 48) % 4294967296
+valueOf s i (suc n) = (10 * valueOf s i n + getD s (i + n) 0 % 48) % 1152921504606846976
 
 abbrev pub written : Bool → ℕ → ℕ → Written
 written negative size next = record { negative = negative; size = size; next = next }

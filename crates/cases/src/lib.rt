@@ -4,7 +4,7 @@ ghost use Prim.Native.Nat.{_-_, _%_, _≤_, _<_, min};
 ghost use lib.ListN.{length};
 ghost use Rattle.cases.specs.Numbers.{numberByte, first, valueOf, numberAt, signedOf, Filled, Took};
 
-// A number as it is written: its sign, its size below 2 ^ 32, and the place after it.
+// A number as it is written: its sign, its size below 2 ^ 60, and the place after it.
 pub struct Written {
     pub negative: bool,
     pub size: usize,
@@ -34,7 +34,7 @@ fn until(s: &[u8], at: usize, wanted: bool) -> usize
     i
 }
 
-// What the digits from `from` to `to` come to, modulo 2 ^ 32.
+// What the digits from `from` to `to` come to, modulo 2 ^ 60.
 fn value(s: &[u8], from: usize, to: usize) -> usize
     requires { ⌜ (from ≤ to) × (to ≤ length (now s)) ⌝ }
     ensures { λ r. ⌜ r ≡ valueOf (now (s .entry)) from (to - from) ⌝ }
@@ -42,7 +42,7 @@ fn value(s: &[u8], from: usize, to: usize) -> usize
     let mut v: usize = 0;
     let mut i = from;
     while i < to {
-        v = (10 * v + wide(s[i]) % 48) % 4294967296;
+        v = (10 * v + wide(s[i]) % 48) % 1152921504606846976;
         i += 1;
     }
     v

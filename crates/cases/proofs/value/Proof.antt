@@ -13,7 +13,7 @@ use Rattle.cases.proofs.value.Lts as lts
 use Rattle.cases.proofs.wide.Reads as wide-reads
 
 abbrev Inv-loop : tie.InvT-loop
-Inv-loop s from to v₀ i₀ v i = (from ≤ i) × (i ≤ to) × (v < 4294967296) × (v ≡ valueOf s from (i - from))
+Inv-loop s from to v₀ i₀ v i = (from ≤ i) × (i ≤ to) × (v < 1152921504606846976) × (v ≡ valueOf s from (i - from))
 
 abbrev μ-loop : tie.MeasureT-loop
 μ-loop s from to v₀ i₀ v i = to - i

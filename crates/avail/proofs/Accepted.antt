@@ -1,0 +1,47 @@
+-- What an input that no check refuses is.
+-- Assumes nothing.
+use Prim.Native.Nat.{ℕ, _+_, _*_, _/_, _≤_}
+use mathlib.Core.List.{List}
+use mathlib.Core.Path.{_≡_, ap}
+use native.Mathlib.Omega.{arith}
+use borrow.Author.Tests.{eqb-true}
+use lib.ListN.{length}
+use Rattle.laws.proofs.Ladders.{passed}
+use Rattle.def.specs.Answers.{answerNumber}
+use Rattle.def.specs.Picture.{unitCount}
+use Rattle.def.specs.declared.Refusal.{Refusal}
+use Rattle.def.specs.declared.Answer.the-variants.{Done, Refused}
+use Rattle.def.proofs.Answers.{number-some}
+use Rattle.def.proofs.Sizes.{Sized, sized}
+use Rattle.def.proofs.Blocks.{Blocked, blocked}
+use Rattle.avail.specs.Around.{Input, unitsAcross, unitsDown, column, row, units}
+use Rattle.avail.specs.Near.{Reach}
+use Rattle.avail.specs.Calls.{check, checkOf}
+
+pub record Accepted (i : Input) : Type 0 where
+  pub size : Sized (i .w) (i .h)
+  pub long : length (i .words) ≡ unitCount (i .w) (i .h)
+  pub block : Blocked (i .w) (i .h) (i .x) (i .y) (i .side)
+
+not-done : (r : Refusal) → Refused r ≡ Done → ⊥
+not-done r e = omega (arith, number-some r, ap answerNumber e)
+
+pub accepted : (i : Input) → check i ≡ Done → Accepted i
+unfolding checkOf
+accepted i e =
+    let p = passed _ _ _ _ (not-done _) e in
+    let q = passed _ _ _ _ (not-done _) (p .rest) in
+    let r = passed _ _ _ _ (not-done _) (q .rest) in
+    record {
+      size = sized _ _ (p .first);
+      long = eqb-true _ _ (q .first);
+      block = blocked _ _ _ _ _ (r .first);
+    }
+
+-- the units around an accepted block are within reach
+pub in-reach : (w h : ℕ) (words : List ℕ) (x y side a b : ℕ) → check (record { w = w; h = h; words = words; x = x; y = y; side = side }) ≡ Done → a ≤ side / 4 + 1 → b ≤ 2 * (side / 4) + 1 → Reach w h words x y a b
+in-reach w h words x y side a b e p q =
+    let ok = accepted (record { w = w; h = h; words = words; x = x; y = y; side = side }) e in
+    let s = ok .size in
+    let k = ok .block in
+    record { long = ok .long; wide = omega arith; high = omega arith; across = omega arith; down = omega arith }

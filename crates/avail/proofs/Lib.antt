@@ -1,0 +1,5 @@
+pub mod Accepted
+pub mod Near
+pub mod Around
+pub mod Readings
+pub mod Once
