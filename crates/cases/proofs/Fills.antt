@@ -48,3 +48,7 @@ module _ {A : Type 0} (f : Written → A) (s : List ℕ) (at : ℕ) (room front 
             (subst (λ (m : Written). Filled f s (m .next) (take len room) front next) e u);
         rest = drop-at front (drop len room) len long;
       }
+
+-- as many as were taken, of a room of n, stand at its front
+pub part-long : {A : Type 0} (room : List A) (len size n : ℕ) → len ≡ min size n → length room ≡ n → len ≡ length (take len room)
+part-long room len size n e k = sym (length-take-le len room (omega arith))
