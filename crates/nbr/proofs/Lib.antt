@@ -1,0 +1,4 @@
+pub mod Units
+pub mod Modes
+pub mod Parts
+pub mod Once
