@@ -3,8 +3,10 @@ pub mod Calls
 pub mod Fill
 pub mod Flat
 pub mod Planes
+pub mod ScanAll
 pub mod Scans
 pub mod Signs
 pub mod Table
 pub mod Tabulate
+pub mod Whole
 pub mod Widths
