@@ -4,8 +4,10 @@ pub mod Fill
 pub mod Flat
 pub mod Ladders
 pub mod Planes
+pub mod ScanAll
 pub mod Scans
 pub mod Signs
 pub mod Table
 pub mod Tabulate
+pub mod Whole
 pub mod Widths
