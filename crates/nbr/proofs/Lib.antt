@@ -1,4 +1,9 @@
 pub mod Units
 pub mod Modes
 pub mod Parts
+pub mod Arms
+pub mod Sides
+pub mod Around
+pub mod Runs
+pub mod Gathered
 pub mod Once

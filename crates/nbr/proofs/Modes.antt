@@ -38,7 +38,7 @@ pub record Accepted (i : Input) : Type 0 where
   pub modes-ok : modesOk (i .w) (i .words) (i .modes) (i .x) (i .y) ≡ true
   pub table-long : length (i .table) ≡ 180
 
-not-done : (r : Refusal) → Refused r ≡ Done → ⊥
+pub not-done : (r : Refusal) → Refused r ≡ Done → ⊥
 not-done r e = omega (arith, number-some r, ap answerNumber e)
 
 pub accepted : (i : Input) → check i ≡ Done → Accepted i

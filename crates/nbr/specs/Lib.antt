@@ -1,2 +1,4 @@
 pub mod Units
 pub mod Ranks
+pub mod Gather
+pub mod Arms

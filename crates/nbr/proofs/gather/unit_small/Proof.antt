@@ -1,0 +1,66 @@
+-- `nbr::gather::unit_small` meets its contract: a unit that is not present passes, and one that is is scanned. Assumes nothing.
+use Prim.Native.Nat.{ℕ, _+_, _*_, _≤_, _<_}
+use mathlib.Core.Path.{_≡_, sym, ap, _∙_}
+use mathlib.Core.Bool.{true, false}
+use native.Mathlib.Omega.{arith}
+use borrow.Author.Needs.{needs}
+use borrow.Author.Tests.{not-true, not-false}
+use denote.Ref.{now}
+use lib.Dec.{leb}
+use lib.ListN.{length}
+use Rattle.laws.proofs.Parts.{scan-alike, scan-holds}
+use Rattle.nbr.specs.Arms.{presentIn}
+use Rattle.nbr.proofs.Arms.{unit-missing, unit-sample, unit-in, unit-few}
+use Rattle.nbr.proofs.gather.unit_small.Statement.{statement}
+use Rattle.nbr.proofs.gather.unit_small.Tie as tie
+
+absent : (c : tie.Then1) → let a = c .before .before .before .before .args in presentIn (a .arm) (a .constrained) (now (a .map-scu)) (a .i) ≡ false
+absent c = sym (c .before .present .ensures) ∙ not-true _ (c .if1 .taken)
+
+there : (c : tie.Else1) → let a = c .before .before .before .before .args in presentIn (a .arm) (a .constrained) (now (a .map-scu)) (a .i) ≡ true
+there c = sym (c .before .present .ensures) ∙ not-false _ (c .if1 .left)
+
+-- sample j of a unit that is present is within the plane
+inside : (c : tie.Else1) (j : ℕ) → let a = c .before .before .before .before .args in j < a .n → a .arm .from + a .i * a .n * a .arm .step + j * a .arm .step < length (now (a .plane))
+inside c j p = unit-in _ _ _ _ _ _ j p (c .before .before .before .before .pre) (there c)
+
+first : (c : tie.Else1) → let a = c .before .before .before .before .args in a .arm .from + a .i * a .n * a .arm .step + 0 * a .arm .step < length (now (a .plane))
+first c = inside c 0 (c .before .before .before .before .pre .some)
+
+few : (c : tie.Else1) → let a = c .before .before .before .before .args in a .i * a .n ≤ 4096
+few c = unit-few _ _ _ _ _ _ (c .before .before .before .before .pre) (there c)
+
+present-requires : tie.Need-present-requires
+present-requires c κs = c .before .before .pre .words-in (c .before .before .args .i)
+
+returns : tie.Need-returns
+returns c = sym (scan-holds _ _ (λ j p. ap (λ (z : ℕ). leb z 1023) (unit-missing _ _ _ _ _ _ j p (absent c))))
+
+mul-samples-small : tie.Need-mul-samples-small
+mul-samples-small c = omega (arith, few c)
+
+mul-samples-small-2 : tie.Need-mul-samples-small-2
+mul-samples-small-2 c = omega (arith, first (c .before))
+
+add-samples-small : tie.Need-add-samples-small
+add-samples-small c = omega (arith, first (c .before .before))
+
+samples-small-requires : tie.Need-samples-small-requires
+samples-small-requires c κs = inside (c .before .before)
+
+returns-2 : tie.Need-returns-2
+returns-2 c =
+    c .samples-small .ensures
+    ∙ scan-alike _ _ _ (λ j p. ap (λ (z : ℕ). leb z 1023) (sym (unit-sample _ _ _ _ _ _ j p (there (c .before .before .before)))))
+
+pub unit-small-spec : {M : Type 1} → statement M
+unit-small-spec =
+    tie.close
+    (tie.spec
+    present-requires
+    returns
+    mul-samples-small
+    mul-samples-small-2
+    add-samples-small
+    samples-small-requires
+    returns-2)

@@ -1,0 +1,85 @@
+-- The run as the code makes it: three arms, the left column, the corner and the row above, each by a start and a stride.
+-- Assumes nothing: these are definitions.
+use Prim.Native.Nat.{ℕ, _+_, _-_, _*_, _/_, _≤_, _<_}
+use mathlib.Core.Path.{_≡_}
+use mathlib.Core.Bool.{Bool, true, _&&_}
+use mathlib.Core.List.{List}
+use lib.Dec.{ltb, eqb}
+use lib.ListN.{length, getD}
+use Rattle.laws.specs.Index.{pick}
+use Rattle.def.specs.Blocks.{blockOk}
+use Rattle.def.specs.Components.{scaleOf, planeLength}
+use Rattle.def.specs.Picture.{sizeOk, unitCount}
+use Rattle.def.specs.declared.Component.{Component}
+use Rattle.nbr.specs.declared.gather.Arm.{Arm}
+use Rattle.nbr.specs.Gather.{counts}
+
+-- unit i of an arm is present
+unfoldable pub presentIn : Arm → Bool → List ℕ → ℕ → Bool
+presentIn a constrained words i = ltb i (a .there) && counts constrained (getD words (a .word + i * a .next) 0)
+
+-- sample k of an arm of units of n samples
+unfoldable pub armAt : Arm → ℕ → Bool → (plane words : List ℕ) → ℕ → ℕ
+armAt a n constrained plane words k = pick (presentIn a constrained words (k / n)) (getD plane (a .from + k * a .step) 0) 512
+
+-- what is read of an arm lies within the plane and the words
+pub record Within (a : Arm) (n : ℕ) (plane words : List ℕ) : Type 0 where
+  pub some : 0 < n
+  pub small : n ≤ 4
+  pub few : a .there ≤ 1024
+  pub words-in : (i : ℕ) → i < a .there → a .word + i * a .next < length words
+  pub samples-in : (k : ℕ) → k < a .there * n → a .from + k * a .step < length plane
+
+-- ---- the three arms of a block at (x, y) in luma
+
+abbrev pub noArm : Arm
+noArm = record { from = 0; step = 0; word = 0; next = 0; there = 0 }
+
+-- down the column left of the block
+unfoldable pub leftArm : Component → (w h x y : ℕ) → Arm
+leftArm c w h x y =
+    pick (eqb (x / 4) 0) noArm
+    (record {
+      from = y / scaleOf c * (w / scaleOf c) + (x / scaleOf c - 1);
+      step = w / scaleOf c;
+      word = y / 4 * (w / 4) + (x / 4 - 1);
+      next = w / 4;
+      there = h / 4 - y / 4;
+    })
+
+-- the corner, an arm of one sample
+unfoldable pub cornerArm : Component → (w x y : ℕ) → Arm
+cornerArm c w x y =
+    pick (eqb (x / 4) 0) noArm
+    (pick (eqb (y / 4) 0) noArm
+    (record {
+      from = (y / scaleOf c - 1) * (w / scaleOf c) + (x / scaleOf c - 1);
+      step = 1;
+      word = (y / 4 - 1) * (w / 4) + (x / 4 - 1);
+      next = 1;
+      there = 1;
+    }))
+
+-- along the row above the block
+unfoldable pub upArm : Component → (w x y : ℕ) → Arm
+upArm c w x y =
+    pick (eqb (y / 4) 0) noArm
+    (record {
+      from = (y / scaleOf c - 1) * (w / scaleOf c) + x / scaleOf c;
+      step = 1;
+      word = (y / 4 - 1) * (w / 4) + x / 4;
+      next = 1;
+      there = w / 4 - x / 4;
+    })
+
+-- ---- what the functions over a block need
+
+-- a block of a picture
+pub record BlockOf (w h x y side : ℕ) : Type 0 where
+  pub size : sizeOk w h ≡ true
+  pub block : blockOk w h x y side ≡ true
+
+-- with a plane and words of its lengths
+pub record Lent (c : Component) (w h : ℕ) (plane words : List ℕ) : Type 0 where
+  pub plane-long : length plane ≡ planeLength c w h
+  pub words-long : length words ≡ unitCount w h

@@ -1,0 +1,434 @@
+// Neighbour gathering: evc_get_nbr_b of ipred.rs. The Rust's three loops are one over an arm, with a start and a stride.
+ghost use mathlib.Core.Path.{_≡_};
+ghost use Prim.Native.Nat.{ℕ, _+_, _*_, _≤_, _<_};
+ghost use lib.ListN.{length, getD};
+ghost use Rattle.laws.specs.Plane.{withRow};
+ghost use Rattle.laws.specs.Scan.{allBelow};
+ghost use lib.Dec.{leb};
+ghost use Rattle.laws.specs.Call.{Gives};
+ghost use Rattle.def.specs.Answers.{answerNumber};
+ghost use Rattle.nbr.specs.Gather.{runLength, runOf, samplesOk, lengthsOk, checkOf, outcome};
+ghost use Rattle.nbr.specs.Arms.{presentIn, armAt, Within, noArm, leftArm, cornerArm, upArm, BlockOf, Lent};
+use def::Answer;
+use def::Component;
+use def::Pel;
+use def::Refusal;
+
+// A side of the run: samples `step` apart in the plane from `from`; the words of their units `next` apart from `word`.
+// The first `there` units lie in the picture.
+struct Arm {
+    from: usize,
+    step: usize,
+    word: usize,
+    next: usize,
+    there: usize,
+}
+
+// Whether unit i of an arm is present: in the picture and done, and intra when constrained.
+fn present(map_scu: &[u32], arm: Arm, i: usize, constrained: bool) -> bool
+    requires { ⌜ (i < arm .there → arm .word + i * arm .next < length (now «map_scu»)) ⌝ }
+    ensures { λ r. ⌜ r ≡ presentIn arm constrained (now («map_scu» .entry)) i ⌝ }
+{
+    if arm.there <= i {
+        return false;
+    }
+    let at = arm.word + i * arm.next;
+    let word = map_scu[at];
+    def::get_cod(word) & (!constrained | def::get_if(word))
+}
+
+// n samples that are missing, into run from `to`.
+fn put_missing(run: &mut [u16], to: usize, n: usize)
+    requires { ⌜ to + n ≤ length (now run) ⌝ }
+    ensures { λ _. ⌜ now (run .exit) ≡ withRow 0 to n (λ (j : ℕ). 512) (now (run .entry)) ⌝ }
+{
+    let mut j = 0;
+    while j < n {
+        run[to + j] = 512;
+        j += 1;
+    }
+}
+
+// n samples of the plane, `step` apart from `from`, into run from `to`.
+fn put_samples(run: &mut [u16], to: usize, plane: &[u16], from: usize, step: usize, n: usize)
+    requires { ⌜ (to + n ≤ length (now run)) × ((j : ℕ) → j < n → from + j * step < length (now plane)) ⌝ }
+    ensures { λ _. ⌜ now (run .exit) ≡ withRow 0 to n (λ (j : ℕ). getD (now (plane .entry)) (from + j * step) 0) (now (run .entry)) ⌝ }
+{
+    let mut j = 0;
+    while j < n {
+        run[to + j] = plane[from + j * step];
+        j += 1;
+    }
+}
+
+// Unit i of an arm into run from `to`: its n samples, or as many missing ones.
+fn put_unit(
+    plane: &[u16],
+    map_scu: &[u32],
+    arm: Arm,
+    i: usize,
+    n: usize,
+    constrained: bool,
+    run: &mut [u16],
+    to: usize,
+)
+    requires { ⌜ Within arm n (now plane) (now «map_scu») × (to + n ≤ length (now run)) ⌝ }
+    ensures { λ _. ⌜ now (run .exit) ≡ withRow 0 to n (λ (j : ℕ). armAt arm n constrained (now (plane .entry)) (now («map_scu» .entry)) (i * n + j)) (now (run .entry)) ⌝ }
+{
+    if !present(map_scu, arm, i, constrained) {
+        put_missing(run, to, n);
+        return;
+    }
+    put_samples(run, to, plane, arm.from + i * n * arm.step, arm.step, n);
+}
+
+// An arm of `units` units of n samples, into run from `to`.
+fn put_arm(
+    plane: &[u16],
+    map_scu: &[u32],
+    arm: Arm,
+    units: usize,
+    n: usize,
+    constrained: bool,
+    run: &mut [u16],
+    to: usize,
+)
+    requires { ⌜ Within arm n (now plane) (now «map_scu») × (to + units * n ≤ length (now run)) ⌝ }
+    ensures { λ _. ⌜ now (run .exit) ≡ withRow 0 to (units * n) (armAt arm n constrained (now (plane .entry)) (now («map_scu» .entry))) (now (run .entry)) ⌝ }
+{
+    let mut i = 0;
+    while i < units {
+        put_unit(plane, map_scu, arm, i, n, constrained, run, to + i * n);
+        i += 1;
+    }
+}
+
+// Whether n samples of the plane, `step` apart from `from`, are at most 1023.
+fn samples_small(plane: &[u16], from: usize, step: usize, n: usize) -> bool
+    requires { ⌜ ((j : ℕ) → j < n → from + j * step < length (now plane)) ⌝ }
+    ensures { λ r. ⌜ r ≡ allBelow (λ (j : ℕ). leb (getD (now (plane .entry)) (from + j * step) 0) 1023) n ⌝ }
+{
+    let mut small = true;
+    let mut j = 0;
+    while j < n {
+        small = small & (plane[from + j * step] <= 1023);
+        j += 1;
+    }
+    small
+}
+
+// Whether those of unit i of an arm are, where it is present.
+fn unit_small(
+    plane: &[u16],
+    map_scu: &[u32],
+    arm: Arm,
+    i: usize,
+    n: usize,
+    constrained: bool,
+) -> bool
+    requires { ⌜ Within arm n (now plane) (now «map_scu») ⌝ }
+    ensures { λ r. ⌜ r ≡ allBelow (λ (j : ℕ). leb (armAt arm n constrained (now (plane .entry)) (now («map_scu» .entry)) (i * n + j)) 1023) n ⌝ }
+{
+    if !present(map_scu, arm, i, constrained) {
+        return true;
+    }
+    samples_small(plane, arm.from + i * n * arm.step, arm.step, n)
+}
+
+// Whether those of an arm of `units` units are.
+fn arm_small(
+    plane: &[u16],
+    map_scu: &[u32],
+    arm: Arm,
+    units: usize,
+    n: usize,
+    constrained: bool,
+) -> bool
+    requires { ⌜ Within arm n (now plane) (now «map_scu») × (units ≤ 1024) ⌝ }
+    ensures { λ r. ⌜ r ≡ allBelow (λ (k : ℕ). leb (armAt arm n constrained (now (plane .entry)) (now («map_scu» .entry)) k) 1023) (units * n) ⌝ }
+{
+    let mut small = true;
+    let mut i = 0;
+    while i < units {
+        small = small & unit_small(plane, map_scu, arm, i, n, constrained);
+        i += 1;
+    }
+    small
+}
+
+// ---- the three arms of a block
+
+// The place of column c in row r, the rows having n.
+fn flat(n: usize, c: usize, r: usize) -> usize
+    requires { ⌜ (n ≤ 4096) × (c ≤ 4096) × (r ≤ 4096) ⌝ }
+    ensures { λ p. ⌜ p ≡ r * n + c ⌝ }
+{
+    r * n + c
+}
+
+// An arm that the picture has nothing of.
+fn no_arm() -> Arm
+    ensures { λ r. ⌜ r ≡ noArm ⌝ }
+{
+    Arm {
+        from: 0,
+        step: 0,
+        word: 0,
+        next: 0,
+        there: 0,
+    }
+}
+
+// Down the column left of the block.
+fn left_arm(component: Component, w: usize, h: usize, x: Pel, y: Pel, side: usize) -> Arm
+    requires { ⌜ BlockOf w h (x .0) (y .0) side ⌝ }
+    ensures { λ r. ⌜ r ≡ leftArm component w h (x .0) (y .0) ⌝ }
+{
+    let u = def::pel2scu(x).0;
+    let v = def::pel2scu(y).0;
+    if u == 0 {
+        return no_arm();
+    }
+    let across = def::in_component(component, w);
+    let column = def::in_component(component, x.0);
+    let row = def::in_component(component, y.0);
+    Arm {
+        from: flat(across, column - 1, row),
+        step: across,
+        word: flat(w / 4, u - 1, v),
+        next: w / 4,
+        there: h / 4 - v,
+    }
+}
+
+// The corner, an arm of one sample.
+fn corner_arm(component: Component, w: usize, h: usize, x: Pel, y: Pel, side: usize) -> Arm
+    requires { ⌜ BlockOf w h (x .0) (y .0) side ⌝ }
+    ensures { λ r. ⌜ r ≡ cornerArm component w (x .0) (y .0) ⌝ }
+{
+    let u = def::pel2scu(x).0;
+    let v = def::pel2scu(y).0;
+    if u == 0 {
+        return no_arm();
+    }
+    if v == 0 {
+        return no_arm();
+    }
+    let across = def::in_component(component, w);
+    let column = def::in_component(component, x.0);
+    let row = def::in_component(component, y.0);
+    Arm {
+        from: flat(across, column - 1, row - 1),
+        step: 1,
+        word: flat(w / 4, u - 1, v - 1),
+        next: 1,
+        there: 1,
+    }
+}
+
+// Along the row above the block.
+fn up_arm(component: Component, w: usize, h: usize, x: Pel, y: Pel, side: usize) -> Arm
+    requires { ⌜ BlockOf w h (x .0) (y .0) side ⌝ }
+    ensures { λ r. ⌜ r ≡ upArm component w (x .0) (y .0) ⌝ }
+{
+    let u = def::pel2scu(x).0;
+    let v = def::pel2scu(y).0;
+    if v == 0 {
+        return no_arm();
+    }
+    let across = def::in_component(component, w);
+    let column = def::in_component(component, x.0);
+    let row = def::in_component(component, y.0);
+    Arm {
+        from: flat(across, column, row - 1),
+        step: 1,
+        word: flat(w / 4, u, v - 1),
+        next: 1,
+        there: w / 4 - u,
+    }
+}
+
+// ---- the call
+
+fn lengths_ok(component: Component, w: usize, h: usize, plane: usize, words: usize) -> bool
+    requires { ⌜ (w ≤ 4096) × (h ≤ 4096) ⌝ }
+    ensures { λ r. ⌜ r ≡ lengthsOk component w h plane words ⌝ }
+{
+    let samples = def::in_component(component, w) * def::in_component(component, h);
+    (plane == samples) & (words == (w / 4) * (h / 4))
+}
+
+// Whether every sample to be gathered is at most 1023.
+fn samples_ok(
+    component: Component,
+    w: usize,
+    h: usize,
+    plane: &[u16],
+    map_scu: &[u32],
+    x: Pel,
+    y: Pel,
+    side: usize,
+    constrained: bool,
+) -> bool
+    requires { ⌜ BlockOf w h (x .0) (y .0) side × Lent component w h (now plane) (now «map_scu») ⌝ }
+    ensures { λ r. ⌜ r ≡ samplesOk (record { component = component; w = w; h = h; plane = now (plane .entry); words = now («map_scu» .entry); x = x .0; y = y .0; side = side; constrained = constrained }) ⌝ }
+{
+    let n = def::in_component(component, 4);
+    let units = side / 2;
+    let left = arm_small(
+        plane,
+        map_scu,
+        left_arm(component, w, h, x, y, side),
+        units,
+        n,
+        constrained,
+    );
+    let corner = arm_small(
+        plane,
+        map_scu,
+        corner_arm(component, w, h, x, y, side),
+        1,
+        1,
+        constrained,
+    );
+    let up = arm_small(
+        plane,
+        map_scu,
+        up_arm(component, w, h, x, y, side),
+        units,
+        n,
+        constrained,
+    );
+    left & corner & up
+}
+
+// The run, past the checks: left downwards, the corner, up rightwards.
+fn put_run(
+    component: Component,
+    w: usize,
+    h: usize,
+    plane: &[u16],
+    map_scu: &[u32],
+    x: Pel,
+    y: Pel,
+    side: usize,
+    constrained: bool,
+    run: &mut [u16],
+)
+    requires { ⌜ BlockOf w h (x .0) (y .0) side × Lent component w h (now plane) (now «map_scu») × (length (now run) ≡ runLength component side) ⌝ }
+    ensures { λ _. ⌜ now (run .exit) ≡ runOf (record { component = component; w = w; h = h; plane = now (plane .entry); words = now («map_scu» .entry); x = x .0; y = y .0; side = side; constrained = constrained }) ⌝ }
+{
+    let n = def::in_component(component, 4);
+    let units = side / 2;
+    let corner = 2 * def::in_component(component, side);
+    put_arm(
+        plane,
+        map_scu,
+        left_arm(component, w, h, x, y, side),
+        units,
+        n,
+        constrained,
+        run,
+        0,
+    );
+    put_arm(
+        plane,
+        map_scu,
+        corner_arm(component, w, h, x, y, side),
+        1,
+        1,
+        constrained,
+        run,
+        corner,
+    );
+    put_arm(
+        plane,
+        map_scu,
+        up_arm(component, w, h, x, y, side),
+        units,
+        n,
+        constrained,
+        run,
+        corner + 1,
+    );
+}
+
+fn checked(
+    component: Component,
+    w: usize,
+    h: usize,
+    plane: &[u16],
+    map_scu: &[u32],
+    x: Pel,
+    y: Pel,
+    side: usize,
+    constrained: bool,
+    run: usize,
+) -> Answer
+    ensures { λ r. ⌜ r ≡ checkOf (record { component = component; w = w; h = h; plane = now (plane .entry); words = now («map_scu» .entry); x = x .0; y = y .0; side = side; constrained = constrained }) run ⌝ }
+{
+    if !def::size_ok(w, h) {
+        return Answer::Refused(Refusal::Size);
+    }
+    if !lengths_ok(component, w, h, plane.len(), map_scu.len()) {
+        return Answer::Refused(Refusal::Length);
+    }
+    if !def::block_ok(w, h, x, y, side) {
+        return Answer::Refused(Refusal::Block);
+    }
+    if run != 4 * def::in_component(component, side) + 1 {
+        return Answer::Refused(Refusal::Length);
+    }
+    if !samples_ok(component, w, h, plane, map_scu, x, y, side, constrained) {
+        return Answer::Refused(Refusal::Sample);
+    }
+    Answer::Done
+}
+
+// The samples around the block of `side` at (x, y) in luma, those of one component: 4 times its side there and 1.
+pub fn get_nbr(
+    component: Component,
+    w: usize,
+    h: usize,
+    plane: &[u16],
+    map_scu: &[u32],
+    x: Pel,
+    y: Pel,
+    side: usize,
+    constrained: bool,
+    run: &mut [u16],
+) -> Answer
+    ensures { λ r. ⌜ Gives outcome
+        (record { around = record { component = component; w = w; h = h; plane = now (plane .entry); words = now («map_scu» .entry); x = x .0; y = y .0; side = side; constrained = constrained }; run = now (run .entry) })
+        (record { number = answerNumber r; run = now (run .exit) }) ⌝ }
+{
+    match checked(
+        component,
+        w,
+        h,
+        plane,
+        map_scu,
+        x,
+        y,
+        side,
+        constrained,
+        run.len(),
+    ) {
+        Answer::Refused(r) => Answer::Refused(r),
+        Answer::Done => {
+            put_run(
+                component,
+                w,
+                h,
+                plane,
+                map_scu,
+                x,
+                y,
+                side,
+                constrained,
+                run,
+            );
+            Answer::Done
+        }
+    }
+}
