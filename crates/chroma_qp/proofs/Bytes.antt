@@ -2,14 +2,14 @@
 -- Assumes nothing.
 use mathlib.Core.Path.{_≡_, refl, sym, ap, _∙_}
 use mathlib.Core.Bool.{Bool, true, not}
-use Prim.Native.Nat.{ℕ, suc, _+_, _-_, _≤_, _<_}
+use Prim.Native.Nat.{ℕ, suc, _+_, _-_, _≤_}
 use native.Mathlib.Omega.{arith}
 use borrow.Author.Tests.{le-leb, le-ltb}
 use lib.Dec.{T}
 use lib.IntN.{ℤ, pos, negsuc, natAbs, _+ℤ_, _-ℤ_}
 use lib.Signed.{leZ, ltZ, nonNeg, mag}
-use mir.Syntax.{w8, w16, w64}
-use mir.Val.{SFits, Fits, toZ, ofZ}
+use mir.Syntax.{w8, w16}
+use mir.Val.{SFits, toZ, ofZ}
 use Rattle.laws.proofs.Differences.{diff-cases, diff-same, diff-none, diff-neg}
 use Rattle.laws.proofs.Widths.{sfits, back}
 use Rattle.chroma_qp.specs.Mapping.{qpAt}

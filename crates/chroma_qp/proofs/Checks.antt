@@ -3,9 +3,8 @@
 --     Passed, passed
 --     Long, long
 -- Assumes nothing.
-use mathlib.Core.Path.{_≡_, refl, sym, ap, _∙_}
+use mathlib.Core.Path.{_≡_, refl}
 use mathlib.Core.Bool.{Bool, true, false, _||_}
-use mathlib.Core.List.{List}
 use Prim.Native.Nat.{ℕ}
 use native.Mathlib.Omega.{arith}
 use borrow.Author.Tests.{eqb-true}
@@ -21,8 +20,8 @@ use Rattle.chroma_qp.specs.Derived.{Input, inputStart, lengthTests, leng
 -- every test of the ladder holds
 pub record Passed (i : Input) : Type 0 where
   pub lengths : inputLengthsOk i ≡ true
-  pub first-points : pointsOk (i .first) ≡ true
-  pub second-points : (i .same-table || pointsOk (i .second)) ≡ true
+  pub first-points : pointsOk (i .first .count) (i .first .a) ≡ true
+  pub second-points : (i .same-table || pointsOk (i .second .count) (i .second .a)) ≡ true
   pub first-pivots : pivotsOk (inputStart i) (i .first) ≡ true
   pub second-pivots : (i .same-table || pivotsOk (inputStart i) (i .second)) ≡ true
 
@@ -31,19 +30,19 @@ module _ (i : Input) where
   unfolding check
   at-length e = rw e
 
-  pub at-first-points : inputLengthsOk i ≡ true → pointsOk (i .first) ≡ false → Refused Points ≡ check i
+  pub at-first-points : inputLengthsOk i ≡ true → pointsOk (i .first .count) (i .first .a) ≡ false → Refused Points ≡ check i
   unfolding check
   at-first-points a e = rw (a, e)
 
-  pub at-second-points : inputLengthsOk i ≡ true → pointsOk (i .first) ≡ true → (i .same-table || pointsOk (i .second)) ≡ false → Refused Points ≡ check i
+  pub at-second-points : inputLengthsOk i ≡ true → pointsOk (i .first .count) (i .first .a) ≡ true → (i .same-table || pointsOk (i .second .count) (i .second .a)) ≡ false → Refused Points ≡ check i
   unfolding check
   at-second-points a b e = rw (a, b, e)
 
-  pub at-first-pivots : inputLengthsOk i ≡ true → pointsOk (i .first) ≡ true → (i .same-table || pointsOk (i .second)) ≡ true → pivotsOk (inputStart i) (i .first) ≡ false → Refused Pivot ≡ check i
+  pub at-first-pivots : inputLengthsOk i ≡ true → pointsOk (i .first .count) (i .first .a) ≡ true → (i .same-table || pointsOk (i .second .count) (i .second .a)) ≡ true → pivotsOk (inputStart i) (i .first) ≡ false → Refused Pivot ≡ check i
   unfolding check
   at-first-pivots a b c e = rw (a, b, c, e)
 
-  pub at-second-pivots : inputLengthsOk i ≡ true → pointsOk (i .first) ≡ true → (i .same-table || pointsOk (i .second)) ≡ true → pivotsOk (inputStart i) (i .first) ≡ true → (i .same-table || pivotsOk (inputStart i) (i .second)) ≡ false → Refused Pivot ≡ check i
+  pub at-second-pivots : inputLengthsOk i ≡ true → pointsOk (i .first .count) (i .first .a) ≡ true → (i .same-table || pointsOk (i .second .count) (i .second .a)) ≡ true → pivotsOk (inputStart i) (i .first) ≡ true → (i .same-table || pivotsOk (inputStart i) (i .second)) ≡ false → Refused Pivot ≡ check i
   unfolding check
   at-second-pivots a b c d e = rw (a, b, c, d, e)
 
@@ -64,13 +63,13 @@ pub passed : (i : Input) → check i ≡ Done → Passed i
 unfolding check
 passed i e =
     let a = rest (inputLengthsOk i) Length _ e in
-    let b = rest (pointsOk (i .first)) Points _ a in
-    let c = rest (i .same-table || pointsOk (i .second)) Points _ b in
+    let b = rest (pointsOk (i .first .count) (i .first .a)) Points _ a in
+    let c = rest (i .same-table || pointsOk (i .second .count) (i .second .a)) Points _ b in
     let d = rest (pivotsOk (inputStart i) (i .first)) Pivot _ c in
     record {
       lengths = holds (inputLengthsOk i) Length _ e;
-      first-points = holds (pointsOk (i .first)) Points _ a;
-      second-points = holds (i .same-table || pointsOk (i .second)) Points _ b;
+      first-points = holds (pointsOk (i .first .count) (i .first .a)) Points _ a;
+      second-points = holds (i .same-table || pointsOk (i .second .count) (i .second .a)) Points _ b;
       first-pivots = holds (pivotsOk (inputStart i) (i .first)) Pivot _ c;
       second-pivots = holds (i .same-table || pivotsOk (inputStart i) (i .second)) Pivot _ d;
     }

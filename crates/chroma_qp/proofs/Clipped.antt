@@ -1,11 +1,10 @@
 -- The entries below the first pivot and past the last, where each step clips what the step before gave, at once.
 -- Assumes nothing.
-use mathlib.Core.Path.{_≡_, refl, sym, ap, _∙_}
+use mathlib.Core.Path.{_≡_, ap, _∙_}
 use Prim.Native.Nat.{ℕ, zero, suc, _+_, _-_, _≤_, _<_, min, max}
 use native.Mathlib.Omega.{arith}
-use lib.IntN.{ℤ, pos, negsuc, _+ℤ_, _-ℤ_}
-use Rattle.laws.specs.Clip.{clipZ}
-use Rattle.laws.proofs.Differences.{diff-same, diff-add, diff-sub, diff-clip, diff-none}
+use lib.IntN.{ℤ, pos, _+ℤ_, _-ℤ_}
+use Rattle.laws.proofs.Differences.{diff-same, diff-add, diff-sub, diff-clip}
 use Rattle.chroma_qp.specs.Held.{heldBelow, heldPast}
 use Rattle.chroma_qp.specs.Mapping.{qpAt, clipQp, below, past}
 

@@ -2,15 +2,15 @@
 --     row-more      a loop's turn
 --     Filled, filled-row, filled-all     the first n entries are right
 -- Assumes nothing.
-use mathlib.Core.Path.{_≡_, refl, sym, ap, _∙_, subst}
+use mathlib.Core.Path.{_≡_, ap, _∙_}
 use mathlib.Core.List.{List}
 use Prim.Native.Nat.{ℕ, _+_, _-_, _≤_, _<_}
 use native.Mathlib.Decide.{decLt}
 use native.Mathlib.Omega.{arith}
 use lib.IntN.{ℤ, pos}
 use lib.ListN.{length, getD, set}
-use Rattle.laws.specs.Index.{tabulate, pick}
-use Rattle.laws.specs.Plane.{within, withRow}
+use Rattle.laws.specs.Index.{tabulate}
+use Rattle.laws.specs.Plane.{withRow}
 use Rattle.laws.proofs.Planes.{Rowed, rowed-more, within-yes, within-low, length-row, getD-row}
 use Rattle.laws.proofs.Tabulate.{is-tabulate}
 use Rattle.chroma_qp.specs.Mapping.{qpAt}

@@ -1,12 +1,12 @@
 -- QPs by their index in the table, 12 more than they are: sums, differences and orders of QPs are those of the indices.
 -- Assumes nothing.
-use mathlib.Core.Path.{_≡_, refl, sym, ap, _∙_}
+use mathlib.Core.Path.{_≡_, sym, ap, _∙_}
 use mathlib.Core.Bool.{true}
 use Prim.Native.Nat.{ℕ, _+_, _-_, _≤_}
 use native.Mathlib.Omega.{arith}
 use borrow.Author.Tests.{leb-true, le-leb}
 use lib.Dec.{leb}
-use lib.IntN.{ℤ, pos, negsuc, _+ℤ_, _-ℤ_}
+use lib.IntN.{ℤ, pos, _+ℤ_, _-ℤ_}
 use lib.Signed.{leZ}
 use Rattle.laws.proofs.Differences.{diff-same, diff-add, diff-sub, diff-le, diff-none, as-diff, leb-alike}
 use Rattle.chroma_qp.specs.Mapping.{qpAt}

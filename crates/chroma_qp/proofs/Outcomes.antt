@@ -2,20 +2,20 @@
 --     Ready, lengths, first-checked, second-checked
 --     by-refusal, by-copy, by-both
 -- Assumes nothing.
-use mathlib.Core.Path.{_≡_, refl, sym, ap, _∙_}
+use mathlib.Core.Path.{_≡_, refl}
 use mathlib.Core.Bool.{Bool, true, false, _||_}
 use mathlib.Core.List.{List}
 use Prim.Native.Nat.{ℕ, _≤_}
 use lib.IntN.{ℤ}
 use Rattle.laws.specs.Call.{Gives}
-use Rattle.laws.specs.Index.{pick}
 use Rattle.def.specs.Refusals.{numberOf}
 use Rattle.def.specs.declared.Refusal.{Refusal}
 use Rattle.def.specs.declared.Answer.{Answer}
 use Rattle.def.specs.declared.Answer.the-variants.{Done, Refused}
 use Rattle.def.proofs.Answers.{on-refusal, on-done}
-use Rattle.chroma_qp.specs.Derived.{Input, Outcome, inputStart, pivotsOk, Checked, check, refused, done, outcome}
-use Rattle.chroma_qp.specs.Mapping.{Points, qpAt, tableOf}
+use Rattle.chroma_qp.specs.Derived.{Input, inputStart, check, refused, done, outcome}
+use Rattle.chroma_qp.specs.Held.{Checked}
+use Rattle.chroma_qp.specs.Mapping.{qpAt, tableOf}
 use Rattle.chroma_qp.proofs.Checks.{Passed, passed, Long, long}
 
 unused : (same b : Bool) → same ≡ false → (same || b) ≡ true → b ≡ true

@@ -4,12 +4,12 @@
 --     entry-most, end-least, end-most
 --     between-held
 -- Assumes nothing.
-use mathlib.Core.Path.{_≡_, refl, sym, ap, _∙_}
-use Prim.Native.Nat.{ℕ, zero, suc, _+_, _-_, _*_, _/_, _≤_, _<_}
+use mathlib.Core.Path.{_≡_, sym, ap, _∙_}
+use Prim.Native.Nat.{ℕ, suc, _+_, _-_, _*_, _/_, _≤_, _<_}
 use native.Mathlib.Nat.{add-zero, add-mul, suc-mul, mul-le-mul-left, mul-le-mul-right, div-lt-iff-lt-mul, div-le-of-le-mul, le-div-iff-mul-le, mul-comm, zero-mul}
 use native.Mathlib.Decide.{decLe, ℕ-discrete}
 use native.Mathlib.Omega.{arith}
-use lib.IntN.{ℤ, pos, negsuc, _+ℤ_, _-ℤ_, _*ℤ_}
+use lib.IntN.{ℤ, pos, _+ℤ_, _-ℤ_, _*ℤ_}
 use lib.Signed.{quotZ}
 use Rattle.laws.proofs.Differences.{diff-same, diff-add, diff-mul, diff-quot, diff-none}
 use Rattle.chroma_qp.specs.Held.{heldBetween}

@@ -4,23 +4,21 @@
 --     Reached, reached-first, reached-next     a pivot in range, with its entry
 --     at-below, at-between, settled, at-past   the table's entries
 -- Assumes nothing.
-use mathlib.Core.Path.{_≡_, refl, sym, ap, _∙_}
-use mathlib.Core.Bool.{Bool, true, false, _&&_}
-use mathlib.Core.List.{List, [], _∷_}
-use Prim.Native.Nat.{ℕ, zero, suc, _+_, _-_, _*_, _/_, _≤_, _<_}
+use mathlib.Core.Path.{_≡_, sym, ap, _∙_}
+use mathlib.Core.Bool.{true, _&&_}
+use mathlib.Core.List.{[], _∷_}
+use Prim.Native.Nat.{ℕ, zero, suc, _+_, _-_, _*_, _≤_, _<_}
 use native.Mathlib.Nat.{add-suc, add-zero}
-use native.Mathlib.Decide.{decLe}
 use native.Mathlib.Omega.{arith}
 use borrow.Author.Tests.{leb-true, le-leb, lt-leb}
 use lib.Dec.{leb}
-use lib.IntN.{ℤ, pos, negsuc, natAbs, _+ℤ_, _-ℤ_, +ℤ-assoc}
+use lib.IntN.{ℤ, pos, negsuc, _+ℤ_, _-ℤ_, +ℤ-assoc}
 use lib.Signed.{leZ}
-use Rattle.laws.specs.Index.{pick}
 use Rattle.laws.proofs.Calls.{all-at}
-use Rattle.laws.proofs.Differences.{diff-same, diff-add, diff-le, diff-none, diff-abs, leb-alike}
+use Rattle.laws.proofs.Differences.{diff-add, diff-le, diff-abs, leb-alike}
 use Rattle.chroma_qp.specs.Derived.{pivotOk}
 use Rattle.chroma_qp.specs.Held.{heldBelow, heldBetween, heldPast}
-use Rattle.chroma_qp.specs.Mapping.{Points, aAt, bAt, qpAt, inOf, outOf, below, past, between, upTo, lastOf, mapped}
+use Rattle.chroma_qp.specs.Mapping.{Points, aAt, bAt, qpAt, inOf, outOf, below, past, upTo, lastOf, mapped}
 use Rattle.chroma_qp.proofs.Clipped.{below-held, past-held}
 use Rattle.chroma_qp.proofs.Offsets.{qp-add, qp-sub, qp-le, qp-of, le-more}
 use Rattle.chroma_qp.proofs.Parts.{entry-most, end-least, end-most, between-held}

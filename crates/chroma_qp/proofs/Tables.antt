@@ -5,18 +5,17 @@
 use mathlib.Core.Path.{_≡_, refl, sym, ap, _∙_, subst}
 use mathlib.Core.Bool.{true}
 use mathlib.Core.List.{List}
-use Prim.Native.Nat.{ℕ, zero, suc, _+_, _-_, _≤_, _<_}
+use Prim.Native.Nat.{ℕ, suc, _+_, _-_, _<_}
 use native.Mathlib.Nat.{zero-add}
-use native.Mathlib.Numerals.{add-one}
 use native.Mathlib.Omega.{arith}
 use lib.IntN.{ℤ, pos, _-ℤ_}
 use lib.ListN.{length}
 use lib.Signed.{leZ}
 use Rattle.laws.specs.Plane.{withRow}
 use Rattle.laws.proofs.Scans.{scan-at}
-use Rattle.chroma_qp.specs.Derived.{pivotOk, pivotsOk, Checked}
-use Rattle.chroma_qp.specs.Held.{heldBelow, heldBetween, heldPast}
-use Rattle.chroma_qp.specs.Mapping.{Points, aAt, bAt, qpAt, inOf, outOf, upTo, lastOf, mapped, tableOf}
+use Rattle.chroma_qp.specs.Derived.{pivotOk, pivotsOk}
+use Rattle.chroma_qp.specs.Held.{heldBelow, heldBetween, heldPast, Checked}
+use Rattle.chroma_qp.specs.Mapping.{Points, aAt, bAt, qpAt, lastOf, mapped, tableOf}
 use Rattle.chroma_qp.proofs.Filled.{Filled, filled-none, filled-row, filled-all}
 use Rattle.chroma_qp.proofs.Pivots.{Held, held-first, held-next, Tested, tested, Reached, reached-first, reached-next, at-below, at-between, at-past, settled}
 use Rattle.chroma_qp.proofs.Points.{countable}
@@ -38,7 +37,7 @@ module _ (s : ℕ) (p : Points) where
 
 module _ (s : ℕ) (p : Points) (ok : Checked s p) where
   rises : (j : ℕ) → suc j < p .count → leZ (pos 0) (aAt p (suc j)) ≡ true
-  rises j h = countable p (ok .counted .points) .not-below (suc j) h
+  rises j h = countable (p .count) (p .a) (ok .counted .points) .not-below (suc j) h
 
   -- ---- the first pivot
   module _ (x y : ℕ) (at-a : aAt p 0 ≡ pos x) (at-b : bAt p 0 ≡ pos y -ℤ pos 128) where
@@ -46,11 +45,11 @@ module _ (s : ℕ) (p : Points) (ok : Checked s p) where
     held-0 = held-first (qpAt s) p s x y refl at-a at-b
 
     pub first-range : Tested (qpAt s) p 0 (s + x) (s + x + y)
-    first-range = tested (qpAt s) p 0 (s + x) (s + x + y) held-0 (passes (qpAt s) p (ok .pivots) 0 (countable p (ok .counted .points) .some))
+    first-range = tested (qpAt s) p 0 (s + x) (s + x + y) held-0 (passes (qpAt s) p (ok .pivots) 0 (countable (p .count) (p .a) (ok .counted .points) .some))
 
     pub made-first : (t : List ℤ) → length t ≡ 70 → Made s p (withRow (pos 0) 0 (s + x + 1) (λ (k : ℕ). qpAt (heldBelow (s + x) (s + x + y - 128) k)) t) (s + x) (s + x + y - 128) (s + x + y - 128) 0
     made-first t e =
-        let some = countable p (ok .counted .points) .some in
+        let some = countable (p .count) (p .a) (ok .counted .points) .some in
         record {
           within = some;
           reached = reached-first (qpAt s) p (s + x) (s + x + y - 128) (held-0 .in-is) (first-range .out-is) (first-range .in-most) (omega (arith, first-range .out-most));
@@ -61,7 +60,7 @@ module _ (s : ℕ) (p : Points) (ok : Checked s p) where
           right : (c : ℕ) → c < s + x + 1 → qpAt (heldBelow (s + x) (s + x + y - 128) c) ≡ entry s p (0 + c)
           right c h =
               sym
-              (ap (entry s p) (zero-add c) ∙ settled (qpAt s) p rises 0 (s + x) c (countable p (ok .counted .points) .some) (held-0 .in-is) (omega arith)
+              (ap (entry s p) (zero-add c) ∙ settled (qpAt s) p rises 0 (s + x) c (countable (p .count) (p .a) (ok .counted .points) .some) (held-0 .in-is) (omega arith)
               ∙ at-below (qpAt s) p (s + x) (s + x + y - 128) c (held-0 .in-is) (first-range .out-is) (omega (arith, first-range .out-most)) (omega arith))
 
   -- ---- a pivot, and the next

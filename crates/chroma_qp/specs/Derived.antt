@@ -1,12 +1,11 @@
 -- The call of `derived_chroma_qp_mapping_tables`: its input, its refusals in their order, and its outcome.
 -- Assumes nothing: these are definitions.
-use Prim.Native.Nat.{ℕ, _≤_}
-use mathlib.Core.Path.{_≡_}
-use mathlib.Core.Bool.{Bool, true, false, _||_}
+use Prim.Native.Nat.{ℕ}
+use mathlib.Core.Bool.{Bool, _||_}
 use mathlib.Core.List.{List, [], _∷_}
 use lib.Dec.{leb, eqb}
 use lib.IntN.{ℤ, pos, negsuc}
-use lib.ListN.{length}
+use lib.ListN.{length, getD}
 use lib.Signed.{leZ}
 use Rattle.laws.specs.Call.{unless, allOf}
 use Rattle.laws.specs.Index.{pick}
@@ -18,7 +17,7 @@ use Rattle.def.specs.declared.Refusal.the-variants.{Length, Points, Pivot}
 use Rattle.def.specs.declared.Answer.{Answer}
 use Rattle.def.specs.declared.Answer.the-variants.{Done, Refused}
 use Rattle.chroma_qp.specs.Mapping as mapping
-use Rattle.chroma_qp.specs.Mapping.{aAt, startOf, inOf, outOf, qpAt, tableOf}
+use Rattle.chroma_qp.specs.Mapping.{startOf, inOf, outOf, tableOf}
 
 pub record Input : Type 0 where
   pub global-offset : Bool
@@ -49,11 +48,11 @@ abbrev pub inputLengthsOk : Input → Bool
 inputLengthsOk i = lengthsOk (length (i .first .a)) (length (i .first .b)) (length (i .second .a)) (length (i .second .b)) (length (i .t0)) (length (i .t1))
 
 -- a count of 1..58, and no a below 0 among the points counted
-abbrev pub pointTests : mapping.Points → List Bool
-pointTests p = leb 1 (p .count) ∷ leb (p .count) 58 ∷ allBelow (λ (j : ℕ). leZ (pos 0) (aAt p j)) (p .count) ∷ []
+abbrev pub pointTests : ℕ → List ℤ → List Bool
+pointTests count a = leb 1 count ∷ leb count 58 ∷ allBelow (λ (j : ℕ). leZ (pos 0) (getD a j (pos 0))) count ∷ []
 
-unfoldable pub pointsOk : mapping.Points → Bool
-pointsOk p = allOf (pointTests p)
+unfoldable pub pointsOk : ℕ → List ℤ → Bool
+pointsOk count a = allOf (pointTests count a)
 
 -- a pivot, in and out, within -12..57
 abbrev pub pivotTests : ℤ → ℤ → List Bool
@@ -66,23 +65,12 @@ pivotOk s p j = allOf (pivotTests (inOf s p j) (outOf s p j))
 unfoldable pub pivotsOk : ℤ → mapping.Points → Bool
 pivotsOk s p = allBelow (pivotOk s p) (p .count)
 
--- what the code has checked of a table's points, s being held as 12 more: first their count and their a, and then their pivots
-pub record Counted (s : ℕ) (p : mapping.Points) : Type 0 where
-  pub start : s ≤ 28
-  pub a-long : length (p .a) ≡ 58
-  pub b-long : length (p .b) ≡ 58
-  pub points : pointsOk p ≡ true
-
-pub record Checked (s : ℕ) (p : mapping.Points) : Type 0 where
-  pub counted : Counted s p
-  pub pivots : pivotsOk (qpAt s) p ≡ true
-
 -- 2, then 10 in either table, then 11 in either. Under the one-table flag the second's points are not read
 unfoldable pub check : Input → Answer
 check i =
     unless (inputLengthsOk i) (Refused Length)
-    (unless (pointsOk (i .first)) (Refused Points)
-    (unless (i .same-table || pointsOk (i .second)) (Refused Points)
+    (unless (pointsOk (i .first .count) (i .first .a)) (Refused Points)
+    (unless (i .same-table || pointsOk (i .second .count) (i .second .a)) (Refused Points)
     (unless (pivotsOk (inputStart i) (i .first)) (Refused Pivot)
     (unless (i .same-table || pivotsOk (inputStart i) (i .second)) (Refused Pivot)
     Done))))

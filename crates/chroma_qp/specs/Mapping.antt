@@ -58,12 +58,14 @@ past t (suc k) = clipQp (past t k +ℤ pos 1)
 unfoldable pub between : (t d n m : ℤ) → ℤ
 between t d n m = t +ℤ quotZ (d *ℤ m +ℤ quotZ n (pos 2)) n
 
--- T at a QP up to pivot j's in. T[in0] = out0, and below it one less a step; between two pivots the part starts from T at the earlier one's in
+-- T at a QP up to pivot j's in. T[in0] = out0, and below it one less a step; between two pivots the part starts from T at the earlier one's in.
+-- (Between two whole numbers natAbs counts the steps. What a `let` binds is computed only where it is picked.)
 unfoldable pub upTo : ℤ → Points → ℕ → ℤ → ℤ
 upTo s p zero qp = below (outOf s p 0) (natAbs (inOf s p 0 -ℤ qp))
 upTo s p (suc j) qp =
-    pick (leZ qp (inOf s p j)) (upTo s p j qp)
-    (between (upTo s p j (inOf s p j)) (outOf s p (suc j) -ℤ outOf s p j) (aAt p (suc j) +ℤ pos 1) (qp -ℤ inOf s p j))
+    let earlier = upTo s p j qp in
+    let part = between (upTo s p j (inOf s p j)) (outOf s p (suc j) -ℤ outOf s p j) (aAt p (suc j) +ℤ pos 1) (qp -ℤ inOf s p j) in
+    pick (leZ qp (inOf s p j)) earlier part
 
 -- the last pivot's number
 abbrev pub lastOf : Points → ℕ
@@ -72,8 +74,10 @@ lastOf p = p .count - 1
 -- T at a QP: up to the last pivot, and past it one more a step
 unfoldable pub mapped : ℤ → Points → ℤ → ℤ
 mapped s p qp =
-    pick (leZ qp (inOf s p (lastOf p))) (upTo s p (lastOf p) qp)
-    (past (upTo s p (lastOf p) (inOf s p (lastOf p))) (natAbs (qp -ℤ inOf s p (lastOf p))))
+    let end = inOf s p (lastOf p) in
+    let earlier = upTo s p (lastOf p) qp in
+    let later = past (upTo s p (lastOf p) end) (natAbs (qp -ℤ end)) in
+    pick (leZ qp end) earlier later
 
 -- the QP whose entry stands at k: the index is 12+QP
 unfoldable pub qpAt : ℕ → ℤ

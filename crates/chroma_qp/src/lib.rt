@@ -1,7 +1,8 @@
 // The derived chroma QP mapping tables. The Rust beside it: `evc_derived_chroma_qp_mapping_tables` in util.rs.
-// A pivot's in and out and a table's value are held as 12 more than they are: an in is then the index of its entry, and none is below 0.
+// The start, a pivot's in and out and a table's entry are held as 12 more than they are: an in is then its entry's index, and none is below 0.
+// So 0 holds -12 and 69 holds 57.
 ghost use mathlib.Core.Path.{_≡_};
-ghost use mathlib.Core.Bool.{Bool, true, _||_};
+ghost use mathlib.Core.Bool.{true, _||_};
 ghost use Prim.Native.Nat.{ℕ, _+_, _-_, _*_, _/_, _≤_, _<_, min};
 ghost use lib.IntN.{pos, _-ℤ_};
 ghost use lib.ListN.{length, getD, set};
@@ -9,8 +10,8 @@ ghost use lib.Signed.{leZ};
 ghost use Rattle.laws.specs.Call.{Gives};
 ghost use Rattle.laws.specs.Plane.{withRow};
 ghost use Rattle.def.specs.Answers.{answerNumber};
-ghost use Rattle.chroma_qp.specs.Derived.{lengthsOk, pointsOk, pivotsOk, Counted, Checked, check, outcome};
-ghost use Rattle.chroma_qp.specs.Held.{heldBelow, heldBetween, heldPast};
+ghost use Rattle.chroma_qp.specs.Derived.{lengthsOk, pointsOk, pivotsOk, check, outcome};
+ghost use Rattle.chroma_qp.specs.Held.{heldBelow, heldBetween, heldPast, Counted, Checked};
 ghost use Rattle.chroma_qp.specs.Mapping.{startOf, qpAt, tableOf};
 use def::Answer;
 use def::Refusal;
@@ -30,7 +31,7 @@ fn least(x: usize, y: usize) -> usize
     if x < y { x } else { y }
 }
 
-// An a that is not below 0.
+// An a, delta_qp_in_val_minus1, that is not below 0.
 fn delta_in(a: &[i8], j: usize) -> usize
     requires { ⌜ (j < length (now a)) × (leZ (pos 0) (getD (now a) j (pos 0)) ≡ true) ⌝ }
     ensures { λ r. ⌜ (getD (now (a .entry)) j (pos 0) ≡ pos r) × (r ≤ 127) ⌝ }
@@ -38,7 +39,7 @@ fn delta_in(a: &[i8], j: usize) -> usize
     a[j] as usize
 }
 
-// 128 more than a b, which may be below 0.
+// 128 more than a b, delta_qp_out_val, which may be below 0.
 fn delta_out(b: &[i8], j: usize) -> usize
     requires { ⌜ j < length (now b) ⌝ }
     ensures { λ r. ⌜ (getD (now (b .entry)) j (pos 0) ≡ pos r -ℤ pos 128) × (r ≤ 255) ⌝ }
@@ -46,7 +47,7 @@ fn delta_out(b: &[i8], j: usize) -> usize
     (b[j] as i16 + 128) as usize
 }
 
-// The value that is held as v, into entry k.
+// The entry that is held as v, at k.
 fn put(t: &mut [i8], k: usize, v: usize)
     requires { ⌜ (k < length (now t)) × (v ≤ 103) ⌝ }
     ensures { λ _. ⌜ now (t .exit) ≡ set (now (t .entry)) k (qpAt v) ⌝ }
@@ -54,7 +55,7 @@ fn put(t: &mut [i8], k: usize, v: usize)
     t[k] = v as i8 - 12;
 }
 
-// The start: 16, or -12.
+// The start: 16 with the global flag, else -12.
 fn start(global_offset: bool) -> usize
     ensures { λ r. ⌜ (qpAt r ≡ startOf «global_offset») × (r ≤ 28) ⌝ }
 {
@@ -70,9 +71,9 @@ fn lengths_ok(a0: usize, b0: usize, a1: usize, b1: usize, t0: usize, t1: usize) 
 }
 
 // Whether a table's count is 1..58, and no a that counts is below 0.
-fn points_ok(count: usize, a: &[i8], b: &[i8]) -> bool
+fn points_ok(count: usize, a: &[i8]) -> bool
     requires { ⌜ length (now a) ≡ 58 ⌝ }
-    ensures { λ r. ⌜ r ≡ pointsOk (record { count = count; a = now (a .entry); b = now (b .entry) }) ⌝ }
+    ensures { λ r. ⌜ r ≡ pointsOk count (now (a .entry)) ⌝ }
 {
     if count < 1 {
         return false;
@@ -90,7 +91,8 @@ fn points_ok(count: usize, a: &[i8], b: &[i8]) -> bool
     true
 }
 
-// Whether every pivot of a table, in and out, is within -12..57. An out is held as 140 more than it is, since it may be below -12 by up to 128.
+// Whether every pivot of a table, in and out, is within -12..57. Here an out is held as 140 more than it is, and is in range at 128..197: a b may
+// take it 128 below -12.
 fn pivots_ok(s: usize, count: usize, a: &[i8], b: &[i8]) -> bool
     requires { ⌜ Counted s (record { count = count; a = now a; b = now b }) ⌝ }
     ensures { λ r. ⌜ r ≡ pivotsOk (qpAt s) (record { count = count; a = now (a .entry); b = now (b .entry) }) ⌝ }
@@ -110,19 +112,19 @@ fn pivots_ok(s: usize, count: usize, a: &[i8], b: &[i8]) -> bool
     false
 }
 
-// The same of the second table, whose points are not read where there is one table.
-fn second_points_ok(same_table: bool, count: usize, a: &[i8], b: &[i8]) -> bool
+// The same of the second table: with `same_table` its points are not read.
+fn second_points_ok(same_table: bool, count: usize, a: &[i8]) -> bool
     requires { ⌜ length (now a) ≡ 58 ⌝ }
-    ensures { λ r. ⌜ r ≡ («same_table» || pointsOk (record { count = count; a = now (a .entry); b = now (b .entry) })) ⌝ }
+    ensures { λ r. ⌜ r ≡ («same_table» || pointsOk count (now (a .entry))) ⌝ }
 {
     if same_table {
         return true;
     }
-    points_ok(count, a, b)
+    points_ok(count, a)
 }
 
 fn second_pivots_ok(same_table: bool, s: usize, count: usize, a: &[i8], b: &[i8]) -> bool
-    requires { ⌜ (s ≤ 28) × (length (now a) ≡ 58) × (length (now b) ≡ 58) × ((«same_table» || pointsOk (record { count = count; a = now a; b = now b })) ≡ true) ⌝ }
+    requires { ⌜ (s ≤ 28) × (length (now a) ≡ 58) × (length (now b) ≡ 58) × ((«same_table» || pointsOk count (now a)) ≡ true) ⌝ }
     ensures { λ r. ⌜ r ≡ («same_table» || pivotsOk (qpAt s) (record { count = count; a = now (a .entry); b = now (b .entry) })) ⌝ }
 {
     if same_table {
@@ -131,6 +133,7 @@ fn second_pivots_ok(same_table: bool, s: usize, count: usize, a: &[i8], b: &[i8]
     pivots_ok(s, count, a, b)
 }
 
+// The refusals, in their order. Nothing has been written yet.
 fn checked(
     global_offset: bool,
     same_table: bool,
@@ -155,10 +158,10 @@ fn checked(
     if !lengths_ok(a0.len(), b0.len(), a1.len(), b1.len(), t0.len(), t1.len()) {
         return Answer::Refused(Refusal::Length);
     }
-    if !points_ok(count0, a0, b0) {
+    if !points_ok(count0, a0) {
         return Answer::Refused(Refusal::Points);
     }
-    if !second_points_ok(same_table, count1, a1, b1) {
+    if !second_points_ok(same_table, count1, a1) {
         return Answer::Refused(Refusal::Points);
     }
     let s = start(global_offset);

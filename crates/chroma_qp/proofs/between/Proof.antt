@@ -1,6 +1,5 @@
 -- `chroma_qp::between` meets its contract: the numbers are small, and what is taken away is no more than what is there. Assumes nothing.
-use Prim.Native.Nat.{ℕ, _-_, _*_, _/_, _+_, _≤_}
-use mathlib.Core.Path.{_≡_, ap, _∙_}
+use Prim.Native.Nat.{ℕ, _-_, _*_, _/_, _≤_}
 use native.Mathlib.Nat.{mul-le-mul}
 use native.Mathlib.Omega.{arith}
 use borrow.Author.Needs.{needs}

@@ -1,7 +1,7 @@
 -- `chroma_qp::checked` meets its contract: a row of checks. `past-K` is what check K, passed, tells; each return cites those before it.
 -- Assumes nothing.
 use mathlib.Core.Path.{_≡_, sym, ap, _∙_}
-use mathlib.Core.Bool.{true, false, _||_}
+use mathlib.Core.Bool.{true, _||_}
 use borrow.Author.Needs.{needs}
 use borrow.Author.Tests.{not-true, not-false}
 use denote.Ref.{now}
@@ -39,7 +39,7 @@ points-ok-requires c κs = lengths c .a0
 returns-2 : tie.Need-returns-2
 returns-2 c = at-first-points _ (past-1 (c .before .before)) (sym (c .before .points-ok .ensures) ∙ not-true _ (c .if2 .taken))
 
-past-2 : (c : tie.Else2) → pointsOk (input (c .before .before .before .before) .first) ≡ true
+past-2 : (c : tie.Else2) → let i = input (c .before .before .before .before) in pointsOk (i .first .count) (i .first .a) ≡ true
 past-2 c = sym (c .before .points-ok .ensures) ∙ not-false _ (c .if2 .left)
 
 second-points-ok-requires : tie.Need-second-points-ok-requires
@@ -50,7 +50,7 @@ returns-3 c =
     let two = c .before .before in
     at-second-points _ (past-1 (two .before .before)) (past-2 two) (sym (c .before .second-points-ok .ensures) ∙ not-true _ (c .if3 .taken))
 
-past-3 : (c : tie.Else3) → let i = input (c .before .before .before .before .before .before) in (i .same-table || pointsOk (i .second)) ≡ true
+past-3 : (c : tie.Else3) → let i = input (c .before .before .before .before .before .before) in (i .same-table || pointsOk (i .second .count) (i .second .a)) ≡ true
 past-3 c = sym (c .before .second-points-ok .ensures) ∙ not-false _ (c .if3 .left)
 
 pivots-ok-requires : tie.Need-pivots-ok-requires

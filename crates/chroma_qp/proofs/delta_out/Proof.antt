@@ -1,14 +1,14 @@
 -- `chroma_qp::delta_out` meets its contract: a byte and 128 is not below 0. Assumes nothing.
 use borrow.Author.Needs.{needs}
 use native.Mathlib.Omega.{arith}
-use mathlib.Core.Path.{_≡_, _∙_, ap}
+use mathlib.Core.Path.{_≡_}
 use mir.Syntax.{w8, w16}
 use mir.Val.{SFits, toZ, ofZ}
 use lib.IntN.{pos, _+ℤ_, ℤ}
 use lib.ListN.{getD}
 use denote.Ref.{now}
 use Rattle.laws.proofs.Widths.{sfits, back}
-use Rattle.chroma_qp.proofs.Bytes.{Raised, raised, raised-fits}
+use Rattle.chroma_qp.proofs.Bytes.{raised, raised-fits}
 use Rattle.chroma_qp.proofs.delta_out.Statement.{statement}
 use Rattle.chroma_qp.proofs.delta_out.Tie as tie
 

@@ -1,5 +1,6 @@
 -- `chroma_qp::derived_chroma_qp_mapping_tables` meets its contract: the checks, then each table. Assumes nothing.
-use mathlib.Core.Path.{_≡_, refl, sym, ap, _∙_}
+use mathlib.Core.Path.{sym, _∙_}
+use native.Mathlib.Omega.{arith}
 use borrow.Author.Needs.{needs}
 use denote.Ref.{now}
 use Rattle.chroma_qp.specs.Derived.{Input}
@@ -35,7 +36,7 @@ copy-requires : tie.Need-copy-requires
 copy-requires c κs =
     let f = c .before .before .before .before in
     let l = lengths _ _ (ready (f .before .before)) in
-    f .fill .kept .0 ∙ l .t0 ∙ sym (l .t1)
+    omega (arith, f .fill .kept .0, l .t0, l .t1)
 
 fill-requires-2 : tie.Need-fill-requires-2
 fill-requires-2 c κs =

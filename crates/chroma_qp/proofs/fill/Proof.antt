@@ -1,11 +1,9 @@
 -- `chroma_qp::fill` meets its contract: the table is made up to one pivot after the other. Assumes nothing.
-use Prim.Native.Nat.{ℕ, suc, _+_, _-_, _≤_, _<_}
-use mathlib.Core.Path.{_≡_, refl, sym, ap, _∙_}
+use Prim.Native.Nat.{suc, _+_, _-_}
+use mathlib.Core.Path.{sym, _∙_}
 use native.Mathlib.Numerals.{add-one}
 use native.Mathlib.Omega.{arith}
-use lib.ListN.{length}
 use denote.Ref.{now}
-use Rattle.chroma_qp.specs.Derived.{Checked}
 use Rattle.chroma_qp.specs.Mapping.{Points, qpAt}
 use Rattle.chroma_qp.proofs.Pivots.{Tested}
 use Rattle.chroma_qp.proofs.Points.{countable}
@@ -25,7 +23,7 @@ abbrev points : tie.Start Inv-loop μ-loop → Points
 points c = record { count = c .args .count; a = now (c .args .a); b = now (c .args .b) }
 
 delta-in-requires : tie.Need-delta-in-requires Inv-loop μ-loop
-delta-in-requires c κs = let k = countable _ (c .pre .1 .counted .points) in (omega (arith, c .pre .1 .counted .a-long), k .not-below 0 (k .some))
+delta-in-requires c κs = let k = countable _ _ (c .pre .1 .counted .points) in (omega (arith, c .pre .1 .counted .a-long), k .not-below 0 (k .some))
 
 add-qp-in : tie.Need-add-qp-in Inv-loop μ-loop
 add-qp-in c = omega (arith, c .before .pre .1 .counted .start)
@@ -60,7 +58,7 @@ add-j c = omega arith
 delta-in-requires-2 : tie.Need-delta-in-requires-2 Inv-loop μ-loop
 delta-in-requires-2 c κs =
     let at = c .before .before .before .before .before .before .before in
-    let k = countable _ (at .pre .1 .counted .points) in
+    let k = countable _ _ (at .pre .1 .counted .points) in
     (omega (arith, k .most, at .pre .1 .counted .a-long), k .not-below _ (c .loop-test .taken))
 
 add-n : tie.Need-add-n Inv-loop μ-loop
@@ -72,7 +70,7 @@ add-next c = omega (arith, c .before .before .loop .inv .reached .out-most)
 delta-out-requires-2 : tie.Need-delta-out-requires-2 Inv-loop μ-loop
 delta-out-requires-2 c κs =
     let at = c .before .before .before .before .before .before .before .before in
-    omega (arith, countable _ (at .pre .1 .counted .points) .most, at .pre .1 .counted .b-long)
+    omega (arith, countable _ _ (at .pre .1 .counted .points) .most, at .pre .1 .counted .b-long)
 
 add-next-2 : tie.Need-add-next-2 Inv-loop μ-loop
 add-next-2 c = omega (arith, c .before .before .before .loop .inv .reached .out-most)
@@ -90,7 +88,7 @@ fill-between-requires : tie.Need-fill-between-requires Inv-loop μ-loop
 fill-between-requires c κs =
     let m = c .before .before .before .before .loop .inv in
     let r = next (c .before) in
-    (m .filled .long, r .in-most, omega arith, m .reached .least, m .reached .most, m .reached .out-most, omega (arith, r .out-most))
+    (m .filled .long, r .in-most, omega arith, omega (arith, m .reached .least), omega (arith, m .reached .most), m .reached .out-most, omega (arith, r .out-most))
 
 between-requires : tie.Need-between-requires Inv-loop μ-loop
 between-requires c κs =

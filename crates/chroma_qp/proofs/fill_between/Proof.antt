@@ -1,9 +1,8 @@
 -- `chroma_qp::fill_between` meets its contract: a loop that writes a row's part. Assumes nothing.
-use Prim.Native.Nat.{ℕ, _+_, _-_, _≤_, _<_}
-use mathlib.Core.Path.{_≡_, refl, sym, ap, _∙_}
+use Prim.Native.Nat.{ℕ, _+_, _-_, _≤_}
+use mathlib.Core.Path.{refl}
 use native.Mathlib.Omega.{arith}
 use lib.IntN.{pos}
-use lib.ListN.{length}
 use Rattle.laws.proofs.Planes.{Rowed, rowed-none, rowed-all}
 use Rattle.chroma_qp.specs.Held.{heldBetween}
 use Rattle.chroma_qp.specs.Mapping.{qpAt}

@@ -1,18 +1,17 @@
 -- `chroma_qp::pivots_ok` meets its contract: a scan of the pivots, each made from the one before. Assumes nothing.
-use Prim.Native.Nat.{ℕ, suc, _+_, _-_, _≤_, _<_}
-use mathlib.Core.Path.{_≡_, refl, sym, ap, _∙_}
+use Prim.Native.Nat.{ℕ, _+_, _-_, _≤_, _<_}
+use mathlib.Core.Path.{_≡_, refl, sym, _∙_}
 use mathlib.Core.Bool.{true, false, _&&_}
 use native.Mathlib.Numerals.{add-one}
 use native.Mathlib.Omega.{arith}
 use lib.Dec.{leb}
 use lib.IntN.{pos, _-ℤ_}
-use denote.Ref.{now}
 use Rattle.laws.specs.Scan.{allBelow}
 use Rattle.laws.proofs.Scans.{scan-none, scan-more, scan-stop}
 use Rattle.chroma_qp.specs.Derived.{pivotOk, pivotsOk}
 use Rattle.chroma_qp.specs.Mapping.{Points, aAt, bAt, qpAt}
 use Rattle.chroma_qp.proofs.Pivots.{Held, held-first, held-next, pivot-test, Tested, tested}
-use Rattle.chroma_qp.proofs.Points.{Countable, countable}
+use Rattle.chroma_qp.proofs.Points.{countable}
 use Rattle.chroma_qp.proofs.pivots_ok.Statement.{statement}
 use Rattle.chroma_qp.proofs.pivots_ok.Tie as tie
 
@@ -62,7 +61,7 @@ abbrev μ-loop : tie.MeasureT-loop
 μ-loop s count a b qp-in₀ qp-out₀ j₀ qp-in qp-out j = count - j
 
 delta-in-requires : tie.Need-delta-in-requires Inv-loop μ-loop
-delta-in-requires c κs = let k = countable _ (c .pre .points) in (omega (arith, c .pre .a-long), k .not-below 0 (k .some))
+delta-in-requires c κs = let k = countable _ _ (c .pre .points) in (omega (arith, c .pre .a-long), k .not-below 0 (k .some))
 
 add-qp-in : tie.Need-add-qp-in Inv-loop μ-loop
 add-qp-in c = omega (arith, c .before .pre .start)
@@ -77,7 +76,7 @@ loop-holds : tie.Need-loop-holds Inv-loop μ-loop
 loop-holds c =
     let at = c .before .before in
     record {
-      within = countable _ (at .pre .points) .some;
+      within = countable _ _ (at .pre .points) .some;
       passed = scan-none _;
       held = held-first _ _ (at .args .s) _ _ refl (c .before .delta-in .ensures .0) (c .delta-out .ensures .0);
       in-small = omega (arith, at .pre .start);
@@ -93,7 +92,7 @@ returns c = ended _ _ _ _ _ (c .before .before .loop .inv) (c .before .loop-test
 delta-in-requires-2 : tie.Need-delta-in-requires-2 Inv-loop μ-loop
 delta-in-requires-2 c κs =
     let at = c .before .before .before .before .before in
-    let k = countable _ (at .pre .points) in
+    let k = countable _ _ (at .pre .points) in
     let h : c .before .before .loop .j + 1 < at .args .count = omega (arith, c .before .before .loop .inv .within) in
     (omega (arith, k .most, at .pre .a-long), k .not-below _ h)
 
@@ -112,7 +111,7 @@ add-qp-out-2 c = omega (arith, c .before .before .before .loop .inv .out-small)
 delta-out-requires-2 : tie.Need-delta-out-requires-2 Inv-loop μ-loop
 delta-out-requires-2 c κs =
     let at = c .before .before .before .before .before .before in
-    let k = countable _ (at .pre .points) in
+    let k = countable _ _ (at .pre .points) in
     omega (arith, k .most, at .pre .b-long, c .before .before .before .loop .inv .within)
 
 add-qp-out-3 : tie.Need-add-qp-out-3 Inv-loop μ-loop

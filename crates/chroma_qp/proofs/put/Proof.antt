@@ -1,6 +1,5 @@
 -- `chroma_qp::put` meets its contract: what an entry is held as, less 12, is a byte. Assumes nothing.
 use borrow.Author.Needs.{needs}
-use native.Mathlib.Omega.{arith}
 use mathlib.Core.Path.{_≡_}
 use Prim.Native.Nat.{ℕ, _≤_}
 use mir.Syntax.{w8}
