@@ -3,8 +3,7 @@
 --     fitting    into a plane: the block fits the plane, counted in the component's samples
 -- Assumes nothing.
 use Prim.Native.Nat.{ℕ, _+_, _*_, _/_, _≤_, _<_}
-use mathlib.Core.Path.{_≡_, refl, sym, ap, _∙_}
-use mathlib.Core.Bool.{true}
+use mathlib.Core.Path.{_≡_}
 use mathlib.Core.List.{List, [], _∷_}
 use native.Mathlib.Nat.{mul-le-mul-right, mul-comm}
 use native.Mathlib.Omega.{arith}
@@ -13,9 +12,7 @@ use lib.Dec.{eqb}
 use lib.IntN.{ℤ}
 use lib.ListN.{length}
 use Rattle.laws.proofs.Calls.{all-at}
-use Rattle.def.specs.Blocks.{blockOk}
-use Rattle.def.specs.Components.{scaleOf, planeLength}
-use Rattle.def.specs.Picture.{sizeOk}
+use Rattle.def.specs.Components.{scaleOf}
 use Rattle.def.specs.declared.Component.{Component}
 use Rattle.def.specs.declared.Component.the-variants.{Luma, Chroma}
 use Rattle.def.specs.declared.Answer.the-variants.{Done}

@@ -1,8 +1,7 @@
 // Residual addition: the prediction, or where a block is coded clip(0, 1023, prediction + residual).
 // The Rust beside it: recon.rs, evc_recon and evc_recon_plane_region.
 ghost use mathlib.Core.Path.{_≡_};
-ghost use mathlib.Core.Bool.{true};
-ghost use Prim.Native.Nat.{ℕ, _+_, _*_, _/_, _≤_, _<_};
+ghost use Prim.Native.Nat.{ℕ, _+_, _*_, _/_, _≤_};
 ghost use lib.Dec.{eqb};
 ghost use lib.IntN.{pos, _+ℤ_};
 ghost use lib.ListN.{length, getD};

@@ -1,11 +1,9 @@
 -- `recon::reconstructed` meets its contract: the sum in 32 bits is the whole numbers', and the comparisons clip it. Assumes nothing.
 use Prim.Native.Nat.{_<_}
-use mathlib.Core.Path.{_≡_, _∙_, ap}
-use mathlib.Core.Bool.{true, false}
+use mathlib.Core.Path.{_∙_, ap}
 use native.Mathlib.Omega.{arith}
 use borrow.Author.Needs.{needs}
 use lib.IntN.{ℤ, pos, natAbs, _+ℤ_}
-use lib.Signed.{ltZ}
 use mir.Syntax.{w16}
 use Rattle.laws.proofs.Widths.{back}
 use Rattle.recon.proofs.Residuals.{residual-fits, sum-fits, machine-terms, machine-sum, clip-low, clip-high, Within, clip-within}
