@@ -1,8 +1,8 @@
 -- The mean of DC: its shift is a division by twice the side, it is no larger than the samples, and a row of it is the block.
---     halved-side, mean-most, dc-block
+--     halved-side, quotient-below, mean-most, dc-block
 -- Assumes nothing.
 use Prim.Native.Nat.{ℕ, _+_, _*_, _/_, _^_, _≤_, _<_}
-use mathlib.Core.Path.{_≡_, refl, sym, ap, _∙_}
+use mathlib.Core.Path.{_≡_, refl, ap, _∙_}
 use mathlib.Core.Bool.{true}
 use mathlib.Core.List.{List}
 use native.Mathlib.Nat.{zero-add, div-lt-iff-lt-mul}
@@ -20,13 +20,13 @@ pub halved-side : (side : ℕ) → componentSideOk side ≡ true → 2 ^ (log2 s
 unfolding log2
 halved-side = by-component-side (λ (n : ℕ). 2 ^ (log2 n + 1) ≡ 2 * n) (refl, (refl, (refl, (refl, (refl, (refl, tt))))))
 
+pub quotient-below : (t d m : ℕ) → 0 < d → t < m * d → t / d < m
+quotient-below t d m some h = div-lt-iff-lt-mul some .1 h
+
 -- s is the sum of 2 * side samples that are at most m
 pub mean-most : (m side s : ℕ) → 0 < side → s ≤ m * side + m * side → (s + side) / (2 * side) ≤ m
 mean-most m side s some h =
-    let few : s + side < (m + 1) * (2 * side) = omega arith in
-    let twice : 0 < 2 * side = omega arith in
-    let below : (s + side) / (2 * side) < m + 1 = div-lt-iff-lt-mul twice .1 few in
-    omega arith
+    omega (arith, quotient-below (s + side) (2 * side) (m + 1) (omega arith) (omega arith))
 
 -- a and b are the sums of the two arms, as the code takes them
 pub dc-block : (side : ℕ) (run block : List ℕ) (a b : ℕ) → componentSideOk side ≡ true → length block ≡ side * side → a ≡ sumBelow (λ (j : ℕ). getD run (0 + j) 0) side → b ≡ sumBelow (up side run) side → withRow 0 0 (side * side) (λ (j : ℕ). (a + b + side) / (2 * side)) block ≡ blockOf side (dc side run)

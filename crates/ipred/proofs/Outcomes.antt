@@ -10,13 +10,12 @@ use mathlib.Core.Bool.{Bool, true, false, not, _&&_}
 use mathlib.Core.List.{List, [], _∷_}
 use native.Mathlib.Omega.{arith}
 use borrow.Author.Tests.{eqb-true, le-leb, lt-leb}
-use lib.Dec.{leb, eqb}
+use lib.Dec.{eqb}
 use lib.ListN.{length}
 use Rattle.laws.specs.Call.{Gives}
 use Rattle.laws.proofs.Calls.{all-at, stops, goes-on, at-refusal, past-refusal}
 use Rattle.def.specs.Blocks.{componentSideOk}
 use Rattle.def.specs.Answers.{afterChecks}
-use Rattle.def.specs.declared.Answer.{Answer}
 use Rattle.def.specs.declared.Answer.the-variants.{Done, Refused}
 use Rattle.def.specs.declared.Refusal.the-variants.{Block, Length, Mode, Sample}
 use Rattle.def.proofs.Answers.{on-refusal, on-done}

@@ -5,16 +5,16 @@
 --     ur-at     row i of UR
 -- Assumes nothing.
 use Prim.Native.Nat.{ℕ, zero, suc, _+_, _-_, _*_, _/_, _≤_, _<_}
-use mathlib.Core.Path.{_≡_, refl, sym, ap, _∙_}
+use mathlib.Core.Path.{_≡_, refl, ap, _∙_}
 use mathlib.Core.List.{List}
 use native.Mathlib.Nat.{le-of-eq}
 use native.Mathlib.Omega.{arith}
 use borrow.Author.Tests.{lt-ltb, le-ltb, eq-eqb, ne-eqb}
-use lib.ListN.{length, getD}
+use lib.ListN.{getD}
 use Rattle.laws.specs.Plane.{withRow}
 use Rattle.laws.proofs.Flat.{row-below}
 use Rattle.laws.proofs.Whole.{row-join, Rows, rows-more, rows-all, whole-block}
-use Rattle.ipred.specs.Modes.{left, up, upLeft, upRight, blockOf}
+use Rattle.ipred.specs.Modes.{upLeft, upRight, blockOf}
 use Rattle.ipred.specs.Predict.{Lent}
 
 pub row-in : {side : ℕ} {run block : List ℕ} (i : ℕ) → Lent side run block → i < side → i * side + side ≤ side * side

@@ -3,7 +3,7 @@
 --     fitting    into a plane: the block fits the plane, counted in the component's samples
 -- Assumes nothing.
 use Prim.Native.Nat.{ℕ, _+_, _*_, _/_, _≤_, _<_}
-use mathlib.Core.Path.{_≡_, refl, sym, ap, _∙_}
+use mathlib.Core.Path.{_≡_}
 use mathlib.Core.Bool.{true}
 use mathlib.Core.List.{List, [], _∷_}
 use native.Mathlib.Nat.{mul-le-mul-right, mul-comm}
@@ -13,9 +13,7 @@ use lib.Dec.{eqb}
 use lib.IntN.{ℤ}
 use lib.ListN.{length}
 use Rattle.laws.proofs.Calls.{all-at}
-use Rattle.def.specs.Blocks.{blockOk}
-use Rattle.def.specs.Components.{scaleOf, planeLength}
-use Rattle.def.specs.Picture.{sizeOk}
+use Rattle.def.specs.Components.{scaleOf}
 use Rattle.def.specs.declared.Component.{Component}
 use Rattle.def.specs.declared.Component.the-variants.{Luma, Chroma}
 use Rattle.def.specs.declared.Answer.the-variants.{Done}
@@ -23,26 +21,30 @@ use Rattle.def.proofs.Blocks.{blocked}
 use Rattle.def.proofs.Ladders.{passes}
 use Rattle.def.proofs.Sides.{component-side}
 use Rattle.def.proofs.Sizes.{sized}
+use Rattle.samples.specs.Samples.{samplesOk}
 use Rattle.recon.specs.Recon.{lengthsOk, blockCheck}
 use Rattle.recon.specs.Plane.{Fitting, blockLengthsOk, planeCheck}
 
-pub record Lent (side pred coef rec : ℕ) : Type 0 where
+pub record Lent (side : ℕ) (pred : List ℕ) (coef rec : ℕ) : Type 0 where
   pub most : side ≤ 64
-  pub pred-long : pred ≡ side * side
+  pub pred-long : length pred ≡ side * side
   pub coef-long : coef ≡ side * side
   pub rec-long : rec ≡ side * side
+  pub good : samplesOk pred ≡ true
 
-pub lent : (side : ℕ) (pred : List ℕ) (coef rec : ℕ) → blockCheck side pred coef rec ≡ Done → Lent side (length pred) coef rec
+pub lent : (side : ℕ) (pred : List ℕ) (coef rec : ℕ) → blockCheck side pred coef rec ≡ Done → Lent side pred coef rec
 unfolding blockCheck lengthsOk
 lent side pred coef rec e =
     let first = passes _ _ _ e in
     let tests = eqb (length pred) (side * side) ∷ eqb coef (side * side) ∷ eqb rec (side * side) ∷ [] in
-    let long = passes _ _ _ (first .rest) .holds in
+    let second = passes _ _ _ (first .rest) in
+    let long = second .holds in
     record {
       most = component-side side (first .holds) .most;
       pred-long = eqb-true _ _ (all-at tests 0 long);
       coef-long = eqb-true _ _ (all-at tests 1 long);
       rec-long = eqb-true _ _ (all-at tests 2 long);
+      good = passes _ _ _ (second .rest) .holds;
     }
 
 -- a block inside a picture, counted in a component of that picture
@@ -66,7 +68,8 @@ fitting c w h x y side pred coef rec e =
     let size = passes _ _ _ e in
     let plane = passes _ _ _ (size .rest) in
     let block = passes _ _ _ (plane .rest) in
-    let long = passes _ _ _ (block .rest) .holds in
+    let lengths = passes _ _ _ (block .rest) in
+    let long = lengths .holds in
     let n = side / scaleOf c in
     let tests = eqb (length pred) (n * n) ∷ eqb (length coef) (n * n) ∷ [] in
     let s = sized w h (size .holds) in
@@ -79,4 +82,5 @@ fitting c w h x y side pred coef rec e =
       rows = i .rows;
       pred-long = eqb-true _ _ (all-at tests 0 long);
       coef-long = eqb-true _ _ (all-at tests 1 long);
+      good = passes _ _ _ (lengths .rest) .holds;
     }

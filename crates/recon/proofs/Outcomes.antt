@@ -1,9 +1,8 @@
 -- Outcomes of the two calls by what their checks found: k is the answer of the checks.
 -- Assumes nothing.
-use Prim.Native.Nat.{ℕ, _+_, _*_, _/_}
-use mathlib.Core.Path.{_≡_, refl, sym, ap, _∙_}
+use Prim.Native.Nat.{ℕ, _+_, _*_}
+use mathlib.Core.Path.{_≡_, ap, _∙_}
 use mathlib.Core.List.{List}
-use lib.IntN.{ℤ}
 use lib.ListN.{length}
 use Rattle.laws.specs.Call.{Gives}
 use Rattle.laws.specs.Plane.{withRow, withBlock}
@@ -11,7 +10,7 @@ use Rattle.def.specs.declared.Refusal.{Refusal}
 use Rattle.def.specs.declared.Answer.{Answer}
 use Rattle.def.specs.declared.Answer.the-variants.{Done, Refused}
 use Rattle.def.proofs.Answers.{on-refusal, on-done}
-use Rattle.recon.specs.Recon.{Input, Outcome, reconAt, check, refused, done, outcome}
+use Rattle.recon.specs.Recon.{Input, reconAt, check, refused, done, outcome}
 use Rattle.recon.specs.Plane as plane
 use Rattle.recon.proofs.Rows.{row-whole}
 

@@ -2,7 +2,7 @@
 -- Assumes nothing: these are definitions.
 use Prim.Native.Nat.{ℕ, _+_, _*_, _/_, _≤_, _<_}
 use mathlib.Core.Path.{_≡_}
-use mathlib.Core.Bool.{Bool}
+use mathlib.Core.Bool.{Bool, true}
 use mathlib.Core.List.{List, [], _∷_}
 use lib.Dec.{eqb}
 use lib.IntN.{ℤ}
@@ -77,6 +77,7 @@ pub record Fitting (w x y n : ℕ) (pred : List ℕ) (coef : List ℤ) (rec : Li
   pub rows : y + n ≤ 4096
   pub pred-long : length pred ≡ n * n
   pub coef-long : length coef ≡ n * n
+  pub good : samplesOk pred ≡ true
 
 unfoldable pub outcome : Input → Outcome
 outcome i = afterChecks (refused i) (done i) (check i)

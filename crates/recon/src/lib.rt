@@ -2,15 +2,16 @@
 // The Rust beside it: recon.rs, evc_recon and evc_recon_plane_region.
 ghost use mathlib.Core.Path.{_≡_};
 ghost use mathlib.Core.Bool.{true};
-ghost use Prim.Native.Nat.{ℕ, _+_, _*_, _/_, _≤_, _<_};
+ghost use Prim.Native.Nat.{ℕ, _+_, _*_, _/_, _≤_};
 ghost use lib.Dec.{eqb};
-ghost use lib.IntN.{pos, _+ℤ_};
+ghost use lib.IntN.{pos, negℤ, _+ℤ_};
 ghost use lib.ListN.{length, getD};
 ghost use Rattle.laws.specs.Call.{Gives};
-ghost use Rattle.laws.specs.Clip.{sampleZ};
+ghost use Rattle.laws.specs.Clip.{clipZ, sampleZ};
 ghost use Rattle.laws.specs.Plane.{withRow, withBlock};
 ghost use Rattle.def.specs.Answers.{answerNumber};
 ghost use Rattle.def.specs.Components.{scaleOf, planeLength};
+ghost use Rattle.samples.specs.Samples.{samplesOk};
 ghost use Rattle.recon.specs.Plane as plane;
 ghost use Rattle.recon.specs.Plane.{Fitting, blockLengthsOk, planeCheck};
 ghost use Rattle.recon.specs.Recon.{reconAt, lengthsOk, blockCheck, outcome};
@@ -19,11 +20,25 @@ use def::Component;
 use def::Pel;
 use def::Refusal;
 
-// clip(0, 1023, p + r), right for every p and r. Two comparisons: the compiler makes them a minimum and a maximum.
+// A residual held within -1023..1023. Of a sample it makes the same, and the sum fits 16 bits: twice as many at a time.
+fn held(r: i16) -> i16
+    ensures { λ h. ⌜ h ≡ clipZ (negℤ (pos 1023)) (pos 1023) r ⌝ }
+{
+    if r < -1023 {
+        -1023
+    } else if 1023 < r {
+        1023
+    } else {
+        r
+    }
+}
+
+// clip(0, 1023, p + r). The compiler makes each two comparisons a minimum and a maximum.
 fn reconstructed(p: u16, r: i16) -> u16
+    requires { ⌜ p ≤ 1023 ⌝ }
     ensures { λ s. ⌜ s ≡ sampleZ (pos p +ℤ r) ⌝ }
 {
-    let t = p as i32 + r as i32;
+    let t = p as i16 + held(r);
     if t < 0 {
         0
     } else if 1023 < t {
@@ -49,7 +64,7 @@ fn copy_row(rec: &mut [u16], at: usize, pred: &[u16], from: usize, n: usize)
 
 // They are the prediction's with the residual, both from place `from`.
 fn add_row(rec: &mut [u16], at: usize, pred: &[u16], coef: &[i16], from: usize, n: usize)
-    requires { ⌜ (at + n ≤ length (now rec)) × (from + n ≤ length (now pred)) × (from + n ≤ length (now coef)) ⌝ }
+    requires { ⌜ (at + n ≤ length (now rec)) × (from + n ≤ length (now pred)) × (from + n ≤ length (now coef)) × (samplesOk (now pred) ≡ true) ⌝ }
     ensures { λ _. ⌜ now (rec .exit) ≡ withRow 0 at n (λ (j : ℕ). sampleZ (pos (getD (now (pred .entry)) (from + j) 0) +ℤ getD (now (coef .entry)) (from + j) (pos 0))) (now (rec .entry)) ⌝ }
 {
     let mut j = 0;
@@ -69,7 +84,7 @@ fn recon_row(
     from: usize,
     n: usize,
 )
-    requires { ⌜ (at + n ≤ length (now rec)) × (from + n ≤ length (now pred)) × (from + n ≤ length (now coef)) ⌝ }
+    requires { ⌜ (at + n ≤ length (now rec)) × (from + n ≤ length (now pred)) × (from + n ≤ length (now coef)) × (samplesOk (now pred) ≡ true) ⌝ }
     ensures { λ _. ⌜ now (rec .exit) ≡ withRow 0 at n (λ (j : ℕ). reconAt coded (now (pred .entry)) (now (coef .entry)) (from + j)) (now (rec .entry)) ⌝ }
 {
     if coded {

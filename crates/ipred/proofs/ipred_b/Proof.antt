@@ -1,5 +1,4 @@
 -- `ipred::ipred_b` meets its contract: the side, the lengths, and then what is left of the rule. Assumes nothing.
-use Prim.Native.Nat.{_≤_}
 use mathlib.Core.Path.{_≡_, sym, _∙_}
 use mathlib.Core.Bool.{true}
 use borrow.Author.Needs.{needs}

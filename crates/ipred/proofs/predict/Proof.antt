@@ -1,5 +1,4 @@
 -- `ipred::predict` meets its contract: each arm is its mode's, and the rest are refused. Assumes nothing.
-use Prim.Native.Nat.{_≤_, _<_}
 use native.Mathlib.Omega.{arith}
 use borrow.Author.Needs.{needs}
 use Rattle.ipred.specs.Modes.{predicted}

@@ -1,6 +1,6 @@
 -- `recon::add_row` meets its contract: a turn stores one sample more of the row. Assumes nothing.
 use Prim.Native.Nat.{ℕ, _+_, _-_, _≤_}
-use mathlib.Core.Path.{_≡_, _∙_}
+use mathlib.Core.Path.{_∙_}
 use native.Mathlib.Omega.{arith}
 use borrow.Author.Needs.{needs}
 use lib.IntN.{pos, _+ℤ_}
@@ -9,6 +9,7 @@ use lib.ListN.{getD}
 use Rattle.laws.specs.Clip.{sampleZ}
 use Rattle.laws.proofs.Widths.{back}
 use Rattle.laws.proofs.Planes.{Rowed, rowed-none, rowed-more, rowed-all}
+use Rattle.samples.proofs.Samples.{sample-any}
 use Rattle.recon.proofs.add_row.Statement.{statement}
 use Rattle.recon.proofs.add_row.Tie as tie
 
@@ -20,6 +21,10 @@ abbrev μ-loop : tie.MeasureT-loop
 
 loop-holds : tie.Need-loop-holds Inv-loop μ-loop
 loop-holds c = (omega arith, rowed-none _ _ _ _)
+
+-- the prediction's sample is one
+reconstructed-requires : tie.Need-reconstructed-requires Inv-loop μ-loop
+reconstructed-requires c κs = sample-any _ _ (c .before .before .before .before .before .before .pre .3)
 
 loop-again : tie.Need-loop-again Inv-loop μ-loop
 loop-again c =
@@ -35,4 +40,4 @@ returns c = rowed-all _ _ _ _ _ _ (c .before .loop .j) (omega arith) (c .before 
 pub add-row-spec : {M : Type 1} → statement M
 add-row-spec =
     tie.close
-    (tie.spec Inv-loop μ-loop loop-holds (λ c. search needs) (λ c. search needs) (λ c. search needs) (λ c. search needs) (λ c. search needs) (λ c. search needs) (λ c κs. search needs) (λ c. search needs) (λ c. search needs) (λ c. search needs) (λ c. search needs) (λ c. search needs) loop-again same-length returns)
+    (tie.spec Inv-loop μ-loop loop-holds (λ c. search needs) (λ c. search needs) (λ c. search needs) (λ c. search needs) (λ c. search needs) (λ c. search needs) reconstructed-requires (λ c. search needs) (λ c. search needs) (λ c. search needs) (λ c. search needs) (λ c. search needs) loop-again same-length returns)

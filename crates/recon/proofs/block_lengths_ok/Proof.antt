@@ -1,5 +1,4 @@
 -- `recon::block_lengths_ok` meets its contract: the list of tests, at the side in the component. Assumes nothing.
-use mathlib.Core.Path.{_≡_, refl}
 use native.Mathlib.Nat.{mul-le-mul}
 use native.Mathlib.Omega.{arith}
 use borrow.Author.Needs.{needs}

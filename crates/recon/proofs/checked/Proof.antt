@@ -1,5 +1,4 @@
 -- `recon::checked` meets its contract: a row of checks. `past-K` is what check K, passed, leaves of the row. Assumes nothing.
-use Prim.Native.Nat.{ℕ, _≤_}
 use mathlib.Core.Path.{_≡_, refl, sym, _∙_}
 use borrow.Author.Needs.{needs}
 use borrow.Author.Tests.{not-false}

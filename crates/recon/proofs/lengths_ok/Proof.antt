@@ -2,7 +2,6 @@
 use mathlib.Core.Path.{refl}
 use native.Mathlib.Nat.{mul-le-mul}
 use native.Mathlib.Omega.{arith}
-use borrow.Author.Needs.{needs}
 use Rattle.recon.specs.Recon.{lengthsOk}
 use Rattle.recon.proofs.lengths_ok.Statement.{statement}
 use Rattle.recon.proofs.lengths_ok.Tie as tie

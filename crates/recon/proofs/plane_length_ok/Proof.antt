@@ -1,5 +1,4 @@
 -- `recon::plane_length_ok` meets its contract: the product of the two lengths in the component. Assumes nothing.
-use mathlib.Core.Path.{_≡_, refl}
 use native.Mathlib.Nat.{mul-le-mul}
 use native.Mathlib.Omega.{arith}
 use borrow.Author.Needs.{needs}

@@ -1,6 +1,5 @@
 -- `recon::recon` meets its contract: the checks, and then one row that is the whole block. Assumes nothing.
-use Prim.Native.Nat.{_*_, _≤_}
-use mathlib.Core.Path.{_≡_, sym, ap, _∙_}
+use mathlib.Core.Path.{sym, _∙_}
 use native.Mathlib.Nat.{mul-le-mul}
 use native.Mathlib.Omega.{arith}
 use borrow.Author.Needs.{needs}
@@ -12,14 +11,16 @@ use Rattle.recon.proofs.recon.Statement.{statement}
 use Rattle.recon.proofs.recon.Tie as tie
 
 -- where the checks found nothing
-lent-at : (c : tie.After-enum-told) → let a = c .before .before .before .before .before .args in Lent (a .side) (length (now (a .pred))) (length (now (a .coef))) (length (now (a .rec)))
+lent-at : (c : tie.After-enum-told) → let a = c .before .before .before .before .before .args in Lent (a .side) (now (a .pred)) (length (now (a .coef))) (length (now (a .rec)))
 lent-at c = lent _ _ _ _ (sym (c .before .before .checked .ensures) ∙ c .enum-told .given .1)
 
 mul-recon-row : tie.Need-mul-recon-row
 mul-recon-row c = let l = lent-at (c .before) in omega (arith, mul-le-mul (l .most) (l .most))
 
 recon-row-requires : tie.Need-recon-row-requires
-recon-row-requires c κs = let l = lent-at (c .before) in omega arith
+recon-row-requires c κs =
+    let l = lent-at (c .before) in
+    (omega arith, omega arith, omega arith, l .good)
 
 returns : tie.Need-returns
 returns c = block-refused _ _ _ (c .before .before .before .checked .ensures) (c .before .r .given .1)

@@ -1,6 +1,6 @@
 -- `recon::recon_block` meets its contract: a turn writes one row more of the block. Assumes nothing.
 use Prim.Native.Nat.{ℕ, _+_, _-_, _*_, _≤_}
-use mathlib.Core.Path.{_≡_, refl}
+use mathlib.Core.Path.{refl}
 use native.Mathlib.Nat.{le-of-eq}
 use native.Mathlib.Omega.{arith}
 use borrow.Author.Needs.{needs}
@@ -43,7 +43,10 @@ mul-recon-row-2 : tie.Need-mul-recon-row-2 Inv-loop μ-loop
 mul-recon-row-2 c = omega (arith, in-block (c .before))
 
 recon-row-requires : tie.Need-recon-row-requires Inv-loop μ-loop
-recon-row-requires c κs = omega (arith, in-plane (c .before), in-block (c .before))
+recon-row-requires c κs =
+    let plane = in-plane (c .before) in
+    let block = in-block (c .before) in
+    (omega arith, omega arith, omega arith, c .before .before .before .before .before .pre .good)
 
 loop-again : tie.Need-loop-again Inv-loop μ-loop
 loop-again c =

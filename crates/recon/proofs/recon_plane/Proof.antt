@@ -1,6 +1,6 @@
 -- `recon::recon_plane` meets its contract: the checks, and then the block, counted in the component. Assumes nothing.
 use Prim.Native.Nat.{_/_}
-use mathlib.Core.Path.{_≡_, sym, _∙_}
+use mathlib.Core.Path.{sym, _∙_}
 use borrow.Author.Needs.{needs}
 use denote.Ref.{now}
 use Rattle.def.specs.Components.{scaleOf}
