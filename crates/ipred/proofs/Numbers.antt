@@ -8,7 +8,7 @@ use mathlib.Core.List.{List, [], _∷_, _++_}
 use Rattle.ipred.specs.Modes.{sumBelow, log2, dc, predicted}
 
 -- eight samples that are all v
-abbrev eight : ℕ → List ℕ
+abbrev pub eight : ℕ → List ℕ
 eight v = v ∷ v ∷ v ∷ v ∷ v ∷ v ∷ v ∷ v ∷ []
 
 pub dc-of-four : (corner i j : ℕ) → predicted 0 4 (eight 100 ++ corner ∷ eight 101) i j ≡ 101

@@ -20,7 +20,7 @@ use Rattle.def.specs.declared.Refusal.the-variants.{Size, Block, Length, Sample
 use Rattle.def.specs.declared.Answer.{Answer}
 use Rattle.def.specs.declared.Answer.the-variants.{Done, Refused}
 use Rattle.samples.specs.Samples.{samplesOk}
-use Rattle.recon.specs.Recon.{Outcome, reconAt}
+use Rattle.recon.specs.Recon.{Outcome, blockAt}
 
 pub record Input : Type 0 where
   pub component : Component
@@ -66,7 +66,7 @@ done i =
       number = 0;
       rec =
           withBlock 0 (inComponent i (i .w)) (inComponent i (i .x)) (inComponent i (i .y)) n n
-          (λ (r c : ℕ). reconAt (i .coded) (i .pred) (i .coef) (r * n + c)) (i .rec);
+          (blockAt (i .coded) (i .pred) (i .coef) n) (i .rec);
     }
 
 -- what the function inside asks: a block of n by n samples at column x, row y of a plane of rows of w, with what is lent for it

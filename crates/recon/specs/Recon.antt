@@ -26,6 +26,10 @@ reconOf coded p r = pick coded (sampleZ (pos p +ℤ r)) p
 abbrev pub reconAt : Bool → List ℕ → List ℤ → ℕ → ℕ
 reconAt coded pred coef k = reconOf coded (getD pred k 0) (getD coef k (pos 0))
 
+-- the sample at row r, column c of a block of n columns
+abbrev pub blockAt : Bool → List ℕ → List ℤ → ℕ → ℕ → ℕ → ℕ
+blockAt coded pred coef n r c = reconAt coded pred coef (r * n + c)
+
 -- ---- into a block of `side` by `side` samples
 
 pub record Input : Type 0 where

@@ -14,13 +14,13 @@ ghost use Rattle.def.specs.Components.{scaleOf, planeLength};
 ghost use Rattle.samples.specs.Samples.{samplesOk};
 ghost use Rattle.recon.specs.Plane as plane;
 ghost use Rattle.recon.specs.Plane.{Fitting, blockLengthsOk, planeCheck};
-ghost use Rattle.recon.specs.Recon.{reconAt, lengthsOk, blockCheck, outcome};
+ghost use Rattle.recon.specs.Recon.{reconAt, blockAt, lengthsOk, blockCheck, outcome};
 use def::Answer;
 use def::Component;
 use def::Pel;
 use def::Refusal;
 
-// A residual held within -1023..1023. Of a sample it makes the same, and the sum fits 16 bits: twice as many at a time.
+// A residual held within -1023..1023: of a sample it makes the same, and their sum fits 16 bits, so that more are added at a time.
 fn held(r: i16) -> i16
     ensures { λ h. ⌜ h ≡ clipZ (negℤ (pos 1023)) (pos 1023) r ⌝ }
 {
@@ -149,7 +149,7 @@ fn recon_block(
     rec: &mut [u16],
 )
     requires { ⌜ Fitting w x y n (now pred) (now coef) (now rec) ⌝ }
-    ensures { λ _. ⌜ now (rec .exit) ≡ withBlock 0 w x y n n (λ (r c : ℕ). reconAt coded (now (pred .entry)) (now (coef .entry)) (r * n + c)) (now (rec .entry)) ⌝ }
+    ensures { λ _. ⌜ now (rec .exit) ≡ withBlock 0 w x y n n (blockAt coded (now (pred .entry)) (now (coef .entry)) n) (now (rec .entry)) ⌝ }
 {
     let mut r = 0;
     while r < n {

@@ -42,4 +42,5 @@ returns c = all-rows _ _ (c .before .loop .i) (c .before .before .before .before
 pub ipred-hor-b-spec : {M : Type 1} → statement M
 ipred-hor-b-spec =
     tie.close
-    (tie.spec Inv-loop μ-loop loop-holds mul-fill-row (λ c. search needs) (λ c. search needs) fill-row-requires (λ c. search needs) (λ c. search needs) loop-again same-length returns)
+    (tie.spec Inv-loop μ-loop loop-holds mul-fill-row (λ c. search needs) (λ c. search needs) fill-row-requires
+    (λ c. search needs) (λ c. search needs) loop-again same-length returns)

@@ -37,7 +37,10 @@ copy-row-requires c κs = omega (arith, row (c .before .before .before .before .
 loop-again : tie.Need-loop-again Inv-loop μ-loop
 loop-again c =
     let h = c .before .before .before .before .before .before .before .before .before .loop in
-    (search needs, next-row-done _ _ _ _ _ (h .i) _ (omega arith) (λ j p. refl) (ul-row _ _ (h .i) _ _ _ _ (omega arith) (c .before .before .before .before .before .before .reverse-row .ensures) (c .before .before .copy-row .ensures)) (h .inv .1))
+    let first = c .before .before .before .before .before .before .reverse-row .ensures in (
+      search needs,
+      next-row-done _ _ _ _ _ (h .i) _ (omega arith) (λ j p. refl) (ul-row _ _ (h .i) _ _ _ _ (omega arith) first (c .before .before .copy-row .ensures)) (h .inv .1),
+    )
 
 same-length : tie.Need-same-length Inv-loop μ-loop
 same-length c = c .before .loop .inv .1 .long
@@ -48,4 +51,5 @@ returns c = all-rows _ _ (c .before .loop .i) (c .before .before .before .before
 pub ipred-ul-spec : {M : Type 1} → statement M
 ipred-ul-spec =
     tie.close
-    (tie.spec Inv-loop μ-loop (λ c. search needs) loop-holds mul-at reverse-row-requires add-copy-row (λ c. search needs) copy-row-requires (λ c. search needs) (λ c. search needs) loop-again same-length returns)
+    (tie.spec Inv-loop μ-loop (λ c. search needs) loop-holds mul-at reverse-row-requires add-copy-row (λ c. search needs)
+    copy-row-requires (λ c. search needs) (λ c. search needs) loop-again same-length returns)

@@ -43,4 +43,6 @@ returns c = all-rows _ _ (c .before .loop .i) (c .before .before .before .before
 pub ipred-ur-spec : {M : Type 1} → statement M
 ipred-ur-spec =
     tie.close
-    (tie.spec Inv-loop μ-loop (λ c. search needs) (λ c. search needs) loop-holds mul-mean-row (λ c. search needs) (λ c. search needs) (λ c. search needs) mean-row-requires (λ c. search needs) (λ c. search needs) loop-again same-length returns)
+    (tie.spec Inv-loop μ-loop (λ c. search needs) (λ c. search needs) loop-holds mul-mean-row (λ c. search needs)
+    (λ c. search needs) (λ c. search needs) mean-row-requires (λ c. search needs) (λ c. search needs) loop-again same-length
+    returns)

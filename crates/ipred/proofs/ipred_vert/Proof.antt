@@ -42,4 +42,5 @@ returns c = all-rows _ _ (c .before .loop .i) (c .before .before .before .before
 pub ipred-vert-spec : {M : Type 1} → statement M
 ipred-vert-spec =
     tie.close
-    (tie.spec Inv-loop μ-loop (λ c. search needs) (λ c. search needs) loop-holds mul-copy-row copy-row-requires (λ c. search needs) (λ c. search needs) loop-again same-length returns)
+    (tie.spec Inv-loop μ-loop (λ c. search needs) (λ c. search needs) loop-holds mul-copy-row copy-row-requires
+    (λ c. search needs) (λ c. search needs) loop-again same-length returns)

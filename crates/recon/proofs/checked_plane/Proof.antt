@@ -79,4 +79,5 @@ returns-6 c = past4 (c .before .before) _ (goes-on _ _ _ _ _ (c .before .samples
 pub checked-plane-spec : {M : Type 1} → statement M
 checked-plane-spec =
     tie.close
-    (tie.spec (λ c κs. search needs) returns plane-length-ok-requires returns-2 (λ c κs. search needs) returns-3 block-lengths-ok-requires returns-4 (λ c κs. search needs) returns-5 returns-6)
+    (tie.spec (λ c κs. search needs) returns plane-length-ok-requires returns-2 (λ c κs. search needs) returns-3
+    block-lengths-ok-requires returns-4 (λ c κs. search needs) returns-5 returns-6)

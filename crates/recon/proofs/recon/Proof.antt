@@ -23,14 +23,15 @@ recon-row-requires c κs =
     (omega arith, omega arith, omega arith, l .good)
 
 returns : tie.Need-returns
-returns c = block-refused _ _ _ (c .before .before .before .checked .ensures) (c .before .r .given .1)
+returns c = block-refused _ _ (c .before .before .before .checked .ensures) _ (c .before .r .given .1)
 
 returns-2 : tie.Need-returns-2
 returns-2 c =
     let told = c .before .before .before .before in
-    block-done _ _ _ (told .before .before .checked .ensures) (told .enum-told .given .1) (lent-at told .rec-long) (c .before .before .recon-row .ensures)
+    block-done _ _ (told .before .before .checked .ensures) _ (told .enum-told .given .1) (lent-at told .rec-long) (c .before .before .recon-row .ensures)
 
 pub recon-spec : {M : Type 1} → statement M
 recon-spec =
     tie.close
-    (tie.spec (λ c κs. search needs) (λ c. search needs) (λ c. search needs) mul-recon-row recon-row-requires returns (λ c. search needs) returns-2)
+    (tie.spec (λ c κs. search needs) (λ c. search needs) (λ c. search needs) mul-recon-row recon-row-requires returns
+    (λ c. search needs) returns-2)

@@ -8,12 +8,12 @@ use denote.Ref.{now}
 use lib.ListN.{length}
 use Rattle.laws.proofs.Flat.{row-below}
 use Rattle.laws.proofs.Whole.{Rows, rows-none, rows-more, rows-all}
-use Rattle.recon.specs.Recon.{reconAt}
+use Rattle.recon.specs.Recon.{blockAt}
 use Rattle.recon.proofs.recon_block.Statement.{statement}
 use Rattle.recon.proofs.recon_block.Tie as tie
 
 abbrev Inv-loop : tie.InvT-loop
-Inv-loop coded w x y n pred coef rec₀ r₀ rec r = (r ≤ n) × Rows 0 w x y n (λ (i j : ℕ). reconAt coded pred coef (i * n + j)) rec₀ rec r
+Inv-loop coded w x y n pred coef rec₀ r₀ rec r = (r ≤ n) × Rows 0 w x y n (blockAt coded pred coef n) rec₀ rec r
 
 abbrev μ-loop : tie.MeasureT-loop
 μ-loop coded w x y n pred coef rec₀ r₀ rec r = n - r
@@ -62,4 +62,5 @@ returns c = rows-all _ _ _ _ _ _ _ _ (c .before .loop .r) _ (omega arith) (c .be
 pub recon-block-spec : {M : Type 1} → statement M
 recon-block-spec =
     tie.close
-    (tie.spec Inv-loop μ-loop loop-holds add-recon-row mul-recon-row add-recon-row-2 mul-recon-row-2 recon-row-requires (λ c. search needs) (λ c. search needs) loop-again same-length returns)
+    (tie.spec Inv-loop μ-loop loop-holds add-recon-row mul-recon-row add-recon-row-2 mul-recon-row-2 recon-row-requires
+    (λ c. search needs) (λ c. search needs) loop-again same-length returns)

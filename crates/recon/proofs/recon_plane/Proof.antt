@@ -20,16 +20,17 @@ recon-block-requires c κs =
     (fits-at (c .before .before .before .before .before))
 
 returns : tie.Need-returns
-returns c = plane-refused _ _ _ (c .before .before .before .checked-plane .ensures) (c .before .r .given .1)
+returns c = plane-refused _ _ (c .before .before .before .checked-plane .ensures) _ (c .before .r .given .1)
 
 returns-2 : tie.Need-returns-2
 returns-2 c =
     let told = c .before .before .before .before .before .before .before .before in
-    plane-done _ _ _ _ _ _ _ (told .before .before .checked-plane .ensures) (told .enum-told .given .1)
+    plane-done _ _ (told .before .before .checked-plane .ensures) _ _ _ _
     (c .before .before .before .before .before .in-component3 .ensures) (c .before .before .before .before .before .before .before .in-component .ensures) (c .before .before .before .before .before .before .in-component2 .ensures) (c .before .before .before .before .in-component4 .ensures)
-    (c .before .before .recon-block .ensures)
+    _ (told .enum-told .given .1) (c .before .before .recon-block .ensures)
 
 pub recon-plane-spec : {M : Type 1} → statement M
 recon-plane-spec =
     tie.close
-    (tie.spec (λ c κs. search needs) (λ c. search needs) (λ c. search needs) (λ c κs. search needs) (λ c κs. search needs) (λ c κs. search needs) (λ c κs. search needs) recon-block-requires returns (λ c. search needs) returns-2)
+    (tie.spec (λ c κs. search needs) (λ c. search needs) (λ c. search needs) (λ c κs. search needs) (λ c κs. search needs)
+    (λ c κs. search needs) (λ c κs. search needs) recon-block-requires returns (λ c. search needs) returns-2)

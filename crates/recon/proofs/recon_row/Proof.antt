@@ -17,4 +17,6 @@ returns-2 c =
     row-known _ (now (a .pred)) (now (a .coef)) (now (a .rec)) _ false (a .at) (a .n) (a .from) (c .before .before .before .before .if1 .left) (c .before .before .copy-row .ensures)
 
 pub recon-row-spec : {M : Type 1} → statement M
-recon-row-spec = tie.close (tie.spec (λ c κs. search needs) (λ c κs. search needs) (λ c. search needs) returns (λ c. search needs) returns-2)
+recon-row-spec =
+    tie.close
+    (tie.spec (λ c κs. search needs) (λ c κs. search needs) (λ c. search needs) returns (λ c. search needs) returns-2)

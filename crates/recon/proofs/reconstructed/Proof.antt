@@ -49,4 +49,6 @@ returns-3 : tie.Need-returns-3
 returns-3 c = ap natAbs (sum-at (c .before .before)) ∙ within c .same ∙ same (c .before .before)
 
 pub reconstructed-spec : {M : Type 1} → statement M
-reconstructed-spec = tie.close (tie.spec (λ c. search needs) (λ c κs. search needs) add-t cast-result returns returns-2 returns-3)
+reconstructed-spec =
+    tie.close
+    (tie.spec (λ c. search needs) (λ c κs. search needs) add-t cast-result returns returns-2 returns-3)
