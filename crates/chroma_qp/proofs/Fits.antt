@@ -121,7 +121,7 @@ module _ (s : ℤ) (p : Points) (points : pointsOk (p .count) (p .a) ≡ true) (
       let x = natAbs (aAt p (suc j)) in
       let b = the-out (suc j) h in
       let at-a : aAt p (suc j) ≡ pos x = plain-a (aAt p (suc j)) (countable (p .count) (p .a) points .not-below (suc j) h) in
-      let at-in : inOf s p (suc j) ≡ qpAt (t .i + (x + 1)) = in-next s p j (t .i) (t .o) x 0 (t .reached .in-is) (t .reached .out-is) at-a in
+      let at-in : inOf s p (suc j) ≡ qpAt (t .i + (x + 1)) = in-next s p j (t .i) x (t .reached .in-is) at-a in
       let top : leZ (qpAt (t .i + (x + 1))) (qpAt 69) ≡ true = rw at-in at (tests (suc j) h 1) in
       there-next j t x (b .v) at-a (b .is) (b .small) (leb-true (t .i + (x + 1)) 69 (sym (qp-le (t .i + (x + 1)) 69) ∙ top))
 

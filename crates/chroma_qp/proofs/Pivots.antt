@@ -1,6 +1,6 @@
 -- Pivots as the code holds them, and the entries that stand at them and between them.
---     Held, held-first, held-next      a pivot's in, held as 12 more, and its out, held as 140 more, of which it is not known yet that they are in range
---     pivot-test, tested               the code's test of them
+--     Held, held-first, in-next, held-next     a pivot's in, held as 12 more, and its out, held as 140 more, which may be out of range
+--     pivot-test, tested     the code's test of them
 --     Reached, reached-first, reached-next     a pivot in range, with its entry
 --     at-below, at-between, settled, at-past   the table's entries
 -- Assumes nothing.
@@ -34,14 +34,14 @@ module _ (s : ℤ) (p : Points) where
       let h : s +ℤ aAt p 0 ≡ qpAt (k + x) = ap (λ (z : ℤ). z +ℤ aAt p 0) e ∙ ap (λ (z : ℤ). qpAt k +ℤ z) f ∙ qp-add k x in
       record { in-is = h; out-is = ap (λ (z : ℤ). z +ℤ bAt p 0) h ∙ ap (λ (z : ℤ). qpAt (k + x) +ℤ z) g ∙ diff-add (k + x) 12 y 128 }
 
-  module _ (j i o x y : ℕ) (at-in : inOf s p j ≡ qpAt i) (at-out : outOf s p j ≡ qpAt o) (at-a : aAt p (suc j) ≡ pos x) where
+  module _ (j i x : ℕ) (at-in : inOf s p j ≡ qpAt i) (at-a : aAt p (suc j) ≡ pos x) where
     pub in-next : inOf s p (suc j) ≡ qpAt (i + (x + 1))
     unfolding inOf
     in-next = ap (λ (z : ℤ). z +ℤ (aAt p (suc j) +ℤ pos 1)) at-in ∙ ap (λ (z : ℤ). qpAt i +ℤ (z +ℤ pos 1)) at-a ∙ qp-add i (x + 1)
 
-    pub held-next : bAt p (suc j) ≡ pos y -ℤ pos 128 → Held (suc j) (i + (x + 1)) (o + (x + 1) + y)
+    pub held-next : (o y : ℕ) → outOf s p j ≡ qpAt o → bAt p (suc j) ≡ pos y -ℤ pos 128 → Held (suc j) (i + (x + 1)) (o + (x + 1) + y)
     unfolding outOf qpAt
-    held-next g =
+    held-next o y at-out g =
         record {
           in-is = in-next;
           out-is =
@@ -133,7 +133,7 @@ module _ (s : ℤ) (p : Points) where
     pub reached-next : i + (x + 1) ≤ 69 → u ≤ 69 → Reached (suc j) (i + (x + 1)) u (heldBetween v o u (x + 1) (x + 1))
     reached-next h k =
         record {
-          in-is = in-next j i o x 0 (r .in-is) (r .out-is) at-a;
+          in-is = in-next j i x (r .in-is) at-a;
           out-is = at-out;
           entry-is = at-between (x + 1) (omega arith) (omega arith);
           in-most = h;

@@ -1,8 +1,9 @@
 -- What is promised of every call, read off its rule.
---     tables-fit        every entry of either table lies within -12..91
 --     refusal-keeps     a number that is not 0 leaves both tables as they were
---     one-table         with the one-table flag the second table is the first, whatever the second's count and contents
+--     copied            with the one-table flag the second table is the first
+--     one-table         and the second's count and contents do not matter
 --     points-first      10 in either table that is used comes before 11 in either
+--     tables-fit        every entry of either table lies within -12..91
 -- Assumes nothing.
 use mathlib.Core.Path.{_≡_, refl, sym}
 use Prim.Native.Nat.{ℕ, _<_}
@@ -33,6 +34,14 @@ refusal-keeps i n = kept i (check i) n
 
 -- ---- one table
 
+none-refused : (i : Input) (k : Answer) → afterChecks (refused i) (done i) k .number ≡ 0 → k ≡ Done
+none-refused i Done e = refl
+none-refused i (Refused r) e = absurd (omega (arith, number-some r))
+
+pub copied : (i : Input) → i .same-table ≡ true → outcome i .number ≡ 0 → outcome i .t1 ≡ outcome i .t0
+unfolding outcome
+copied i e n = rw (none-refused i (check i) n, e)
+
 -- the input with other points for the second table
 abbrev pub withSecond : Points → Input → Input
 withSecond q i = record { global-offset = i .global-offset; same-table = i .same-table; first = i .first; second = q; t0 = i .t0; t1 = i .t1 }
@@ -55,10 +64,6 @@ points-first i long e = go (pointsOk (i .first .count) (i .first .a)) refl where
   go false f = rw (sym (at-first-points i long f))
 
 -- ---- the tables' entries
-
-none-refused : (i : Input) (k : Answer) → afterChecks (refused i) (done i) k .number ≡ 0 → k ≡ Done
-none-refused i Done e = refl
-none-refused i (Refused r) e = absurd (omega (arith, number-some r))
 
 -- the second table's entries, by the one-table flag
 second : (i : Input) (same : Bool) → i .same-table ≡ same → Passed i → (k : ℕ) → k < 70 → Entry (getD (done i .t1) k (pos 0))

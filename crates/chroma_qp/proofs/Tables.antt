@@ -67,7 +67,7 @@ module _ (s : ℕ) (p : Points) (ok : Checked s p) where
   module _ (t : List ℤ) (i o v j : ℕ) (m : Made s p t i o v j) where
     module _ (x y : ℕ) (h : suc j < p .count) (at-a : aAt p (suc j) ≡ pos x) (at-b : bAt p (suc j) ≡ pos y -ℤ pos 128) where
       held-1 : Held (qpAt s) p (suc j) (i + (x + 1)) (o + (x + 1) + y)
-      held-1 = held-next (qpAt s) p j i o x y (m .reached .in-is) (m .reached .out-is) at-a at-b
+      held-1 = held-next (qpAt s) p j i x (m .reached .in-is) at-a o y (m .reached .out-is) at-b
 
       pub next-range : Tested (qpAt s) p (suc j) (i + (x + 1)) (o + (x + 1) + y)
       next-range = tested (qpAt s) p (suc j) (i + (x + 1)) (o + (x + 1) + y) held-1 (passes (qpAt s) p (ok .pivots) (suc j) h)

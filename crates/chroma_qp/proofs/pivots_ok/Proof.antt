@@ -49,7 +49,7 @@ module _ (s : ℕ) (p : Points) (i q j : ℕ) (c : Scanned s p i q j) where
           passed = more;
           held =
               rw (add-one j)
-              (held-next (qpAt s) p j i (q - 128) x y (c .held .in-is) (range .out-is) (rw (add-one j) at f) (rw (add-one j) at g));
+              (held-next (qpAt s) p j i x (c .held .in-is) (rw (add-one j) at f) (q - 128) y (range .out-is) (rw (add-one j) at g));
           in-small = omega (arith, range .in-most);
           out-small = omega (arith, range .out-most);
         }
