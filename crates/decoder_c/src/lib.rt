@@ -37,8 +37,8 @@ pub extern "C" fn lomsakeun_derived_chroma_qp_mapping_tables(
 ) -> u8
     ensures { λ n. ⌜ Gives derived.outcome
         (record {
-          «global_offset» = «global_offset»;
-          «same_table» = «same_table»;
+          global-offset = «global_offset»;
+          same-table = «same_table»;
           first = record { count = count0; a = now (a0 .entry); b = now (b0 .entry) };
           second = record { count = count1; a = now (a1 .entry); b = now (b1 .entry) };
           t0 = now (t0 .entry);
