@@ -1,4 +1,8 @@
 //! The comparison tool's commands.
+#[cfg(feature = "archive")]
+mod archive;
+#[cfg(feature = "archive")]
+mod bench;
 mod model;
 mod record;
 mod rng;
@@ -18,8 +22,10 @@ fn main() {
     let args: Vec<&str> = args.iter().map(String::as_str).collect();
     let good = match args[..] {
         ["record", name, dir] => record::record(name, Path::new(dir)).expect("writing the recording"),
+        #[cfg(feature = "archive")]
+        ["bench"] => bench::bench(),
         _ => {
-            eprintln!("usage: record NAME OUTDIR | record all CRATESDIR");
+            eprintln!("usage: record NAME OUTDIR | record all CRATESDIR | bench");
             exit(2);
         }
     };

@@ -10,3 +10,9 @@ pub fn predict(mode: u8, side: usize, run: &[u16], block: &mut [u16]) -> Option<
     block.copy_from_slice(&predicted);
     Some(())
 }
+
+/// The call alone, for measuring speed.
+pub fn bare(mode: u8, side: usize, run: &[u16], block: &mut [u16]) {
+    let (left, rest) = run.split_at(2 * side);
+    ipred::evc_ipred_b(left, rest[0], &rest[1..], block, IntraPredDir::from(mode), side, side);
+}

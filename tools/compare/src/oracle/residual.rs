@@ -12,6 +12,11 @@ pub fn block(coded: bool, side: usize, prediction: &[u16], residual: &[i16], blo
     Some(())
 }
 
+/// The call alone, for measuring speed.
+pub fn bare(coded: bool, side: usize, prediction: &[u16], residual: &[i16], block: &mut [u16]) {
+    recon::evc_recon(&mut None, residual, prediction, coded, side, side, block, Y_C);
+}
+
 /// Adds the residual into the luma plane or one chroma plane. The Rust does all three planes in one call; the
 /// other two are lent zeros and dropped.
 pub fn plane(
