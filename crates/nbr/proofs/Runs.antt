@@ -120,7 +120,6 @@ module _ (c : Component) (w h x y side : ℕ) (plane words : List ℕ) (block : 
   up-reads u e f = rw (e, f) (up-within c w h x y side plane words (beside c w h x y side block) lent)
 
 pub record Room (side u n len : ℕ) : Type 0 where
-  pub units : side / 2 ≤ 1024
   pub left-room : 0 + side / 2 * u ≤ len
   pub corner-room : 2 * n + 1 ≤ len
   pub up-room : 2 * n + 1 + side / 2 * u ≤ len
@@ -132,7 +131,6 @@ room c w h x y side u n len block e f g =
     let k = unit-sided c side (b .by-four) .arm-long in
     let z : side / 2 * u ≡ 2 * n = rw (e, f) k in
     record {
-      units = omega (arith, b .low);
       left-room = omega arith;
       corner-room = omega arith;
       up-room = omega arith;

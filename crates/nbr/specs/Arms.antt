@@ -12,7 +12,8 @@ use Rattle.def.specs.Components.{scaleOf, planeLength}
 use Rattle.def.specs.Picture.{sizeOk, unitCount}
 use Rattle.def.specs.declared.Component.{Component}
 use Rattle.nbr.specs.declared.gather.Arm.{Arm}
-use Rattle.nbr.specs.Gather.{counts}
+use Rattle.nbr.specs.declared.gather.Block.{Block}
+use Rattle.nbr.specs.Gather.{Around, counts}
 
 -- unit i of an arm is present
 unfoldable pub presentIn : Arm → Bool → List ℕ → ℕ → Bool
@@ -83,3 +84,34 @@ pub record BlockOf (w h x y side : ℕ) : Type 0 where
 pub record Lent (c : Component) (w h : ℕ) (plane words : List ℕ) : Type 0 where
   pub plane-long : length plane ≡ planeLength c w h
   pub words-long : length words ≡ unitCount w h
+
+-- ---- the same of the code's block
+
+abbrev pub leftOf : Block → Arm
+leftOf b = leftArm (b .component) (b .w) (b .h) (b .x .0) (b .y .0)
+
+abbrev pub cornerOf : Block → Arm
+cornerOf b = cornerArm (b .component) (b .w) (b .x .0) (b .y .0)
+
+abbrev pub upOf : Block → Arm
+upOf b = upArm (b .component) (b .w) (b .x .0) (b .y .0)
+
+abbrev pub Stands : Block → Type 0
+Stands b = BlockOf (b .w) (b .h) (b .x .0) (b .y .0) (b .side)
+
+abbrev pub LentTo : Block → (plane words : List ℕ) → Type 0
+LentTo b plane words = Lent (b .component) (b .w) (b .h) plane words
+
+abbrev pub aroundOf : Block → (plane words : List ℕ) → Bool → Around
+aroundOf b plane words constrained =
+    record {
+      component = b .component;
+      w = b .w;
+      h = b .h;
+      plane = plane;
+      words = words;
+      x = b .x .0;
+      y = b .y .0;
+      side = b .side;
+      constrained = constrained;
+    }

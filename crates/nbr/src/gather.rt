@@ -1,6 +1,6 @@
 // Neighbour gathering: evc_get_nbr_b of ipred.rs. The Rust's three loops are one over an arm, with a start and a stride.
 ghost use mathlib.Core.Path.{_≡_};
-ghost use Prim.Native.Nat.{ℕ, _+_, _*_, _≤_, _<_};
+ghost use Prim.Native.Nat.{ℕ, _+_, _*_, _≤_, _<_, min};
 ghost use lib.ListN.{length, getD};
 ghost use Rattle.laws.specs.Plane.{withRow};
 ghost use Rattle.laws.specs.Scan.{allBelow};
@@ -8,7 +8,7 @@ ghost use lib.Dec.{leb};
 ghost use Rattle.laws.specs.Call.{Gives};
 ghost use Rattle.def.specs.Answers.{answerNumber};
 ghost use Rattle.nbr.specs.Gather.{runLength, runOf, samplesOk, lengthsOk, checkOf, outcome};
-ghost use Rattle.nbr.specs.Arms.{presentIn, armAt, Within, noArm, leftArm, cornerArm, upArm, BlockOf, Lent};
+ghost use Rattle.nbr.specs.Arms.{presentIn, armAt, Within, noArm, leftOf, cornerOf, upOf, Stands, LentTo, aroundOf};
 use def::Answer;
 use def::Component;
 use def::Pel;
@@ -61,7 +61,7 @@ fn put_samples(run: &mut [u16], to: usize, plane: &[u16], from: usize, step: usi
     }
 }
 
-// Unit i of an arm into run from `to`: its n samples, or as many missing ones.
+// Unit i of an arm into run from `to`: its n samples, or as many missing ones. Four is told apart so that its loops have a length that is known.
 fn put_unit(
     plane: &[u16],
     map_scu: &[u32],
@@ -76,10 +76,19 @@ fn put_unit(
     ensures { λ _. ⌜ now (run .exit) ≡ withRow 0 to n (λ (j : ℕ). armAt arm n constrained (now (plane .entry)) (now («map_scu» .entry)) (i * n + j)) (now (run .entry)) ⌝ }
 {
     if !present(map_scu, arm, i, constrained) {
+        if n == 4 {
+            put_missing(run, to, 4);
+            return;
+        }
         put_missing(run, to, n);
         return;
     }
-    put_samples(run, to, plane, arm.from + i * n * arm.step, arm.step, n);
+    let from = arm.from + i * n * arm.step;
+    if n == 4 {
+        put_samples(run, to, plane, from, arm.step, 4);
+        return;
+    }
+    put_samples(run, to, plane, from, arm.step, n);
 }
 
 // An arm of `units` units of n samples, into run from `to`.
@@ -135,8 +144,8 @@ fn unit_small(
     samples_small(plane, arm.from + i * n * arm.step, arm.step, n)
 }
 
-// Whether those of an arm of `units` units are.
-fn arm_small(
+// Whether those of an arm of `units` units are, one unit after the other.
+fn units_small(
     plane: &[u16],
     map_scu: &[u32],
     arm: Arm,
@@ -144,7 +153,7 @@ fn arm_small(
     n: usize,
     constrained: bool,
 ) -> bool
-    requires { ⌜ Within arm n (now plane) (now «map_scu») × (units ≤ 1024) ⌝ }
+    requires { ⌜ Within arm n (now plane) (now «map_scu») ⌝ }
     ensures { λ r. ⌜ r ≡ allBelow (λ (k : ℕ). leb (armAt arm n constrained (now (plane .entry)) (now («map_scu» .entry)) k) 1023) (units * n) ⌝ }
 {
     let mut small = true;
@@ -156,7 +165,42 @@ fn arm_small(
     small
 }
 
+fn least(a: usize, b: usize) -> usize
+    ensures { λ r. ⌜ r ≡ min a b ⌝ }
+{
+    if a < b { a } else { b }
+}
+
+// The same. Where all that lies in the picture is small, present or not, no unit is asked.
+fn arm_small(
+    plane: &[u16],
+    map_scu: &[u32],
+    arm: Arm,
+    units: usize,
+    n: usize,
+    constrained: bool,
+) -> bool
+    requires { ⌜ Within arm n (now plane) (now «map_scu») ⌝ }
+    ensures { λ r. ⌜ r ≡ allBelow (λ (k : ℕ). leb (armAt arm n constrained (now (plane .entry)) (now («map_scu» .entry)) k) 1023) (units * n) ⌝ }
+{
+    let there = least(arm.there, units);
+    if samples_small(plane, arm.from, arm.step, there * n) {
+        return true;
+    }
+    units_small(plane, map_scu, arm, units, n, constrained)
+}
+
 // ---- the three arms of a block
+
+// A block of a picture of w by h, by its place and side in luma, in one component.
+struct Block {
+    component: Component,
+    w: usize,
+    h: usize,
+    x: Pel,
+    y: Pel,
+    side: usize,
+}
 
 // The place of column c in row r, the rows having n.
 fn flat(n: usize, c: usize, r: usize) -> usize
@@ -180,43 +224,47 @@ fn no_arm() -> Arm
 }
 
 // Down the column left of the block.
-fn left_arm(component: Component, w: usize, h: usize, x: Pel, y: Pel, side: usize) -> Arm
-    requires { ⌜ BlockOf w h (x .0) (y .0) side ⌝ }
-    ensures { λ r. ⌜ r ≡ leftArm component w h (x .0) (y .0) ⌝ }
+fn left_arm(block: Block) -> Arm
+    requires { ⌜ Stands block ⌝ }
+    ensures { λ r. ⌜ r ≡ leftOf block ⌝ }
 {
-    let u = def::pel2scu(x).0;
-    let v = def::pel2scu(y).0;
+    let w = block.w;
+    let u = def::pel2scu(block.x).0;
+    let v = def::pel2scu(block.y).0;
     if u == 0 {
         return no_arm();
     }
+    let component = block.component;
     let across = def::in_component(component, w);
-    let column = def::in_component(component, x.0);
-    let row = def::in_component(component, y.0);
+    let column = def::in_component(component, block.x.0);
+    let row = def::in_component(component, block.y.0);
     Arm {
         from: flat(across, column - 1, row),
         step: across,
         word: flat(w / 4, u - 1, v),
         next: w / 4,
-        there: h / 4 - v,
+        there: block.h / 4 - v,
     }
 }
 
 // The corner, an arm of one sample.
-fn corner_arm(component: Component, w: usize, h: usize, x: Pel, y: Pel, side: usize) -> Arm
-    requires { ⌜ BlockOf w h (x .0) (y .0) side ⌝ }
-    ensures { λ r. ⌜ r ≡ cornerArm component w (x .0) (y .0) ⌝ }
+fn corner_arm(block: Block) -> Arm
+    requires { ⌜ Stands block ⌝ }
+    ensures { λ r. ⌜ r ≡ cornerOf block ⌝ }
 {
-    let u = def::pel2scu(x).0;
-    let v = def::pel2scu(y).0;
+    let w = block.w;
+    let u = def::pel2scu(block.x).0;
+    let v = def::pel2scu(block.y).0;
     if u == 0 {
         return no_arm();
     }
     if v == 0 {
         return no_arm();
     }
+    let component = block.component;
     let across = def::in_component(component, w);
-    let column = def::in_component(component, x.0);
-    let row = def::in_component(component, y.0);
+    let column = def::in_component(component, block.x.0);
+    let row = def::in_component(component, block.y.0);
     Arm {
         from: flat(across, column - 1, row - 1),
         step: 1,
@@ -227,18 +275,20 @@ fn corner_arm(component: Component, w: usize, h: usize, x: Pel, y: Pel, side: us
 }
 
 // Along the row above the block.
-fn up_arm(component: Component, w: usize, h: usize, x: Pel, y: Pel, side: usize) -> Arm
-    requires { ⌜ BlockOf w h (x .0) (y .0) side ⌝ }
-    ensures { λ r. ⌜ r ≡ upArm component w (x .0) (y .0) ⌝ }
+fn up_arm(block: Block) -> Arm
+    requires { ⌜ Stands block ⌝ }
+    ensures { λ r. ⌜ r ≡ upOf block ⌝ }
 {
-    let u = def::pel2scu(x).0;
-    let v = def::pel2scu(y).0;
+    let w = block.w;
+    let u = def::pel2scu(block.x).0;
+    let v = def::pel2scu(block.y).0;
     if v == 0 {
         return no_arm();
     }
+    let component = block.component;
     let across = def::in_component(component, w);
-    let column = def::in_component(component, x.0);
-    let row = def::in_component(component, y.0);
+    let column = def::in_component(component, block.x.0);
+    let row = def::in_component(component, block.y.0);
     Arm {
         from: flat(across, column, row - 1),
         step: 1,
@@ -250,81 +300,43 @@ fn up_arm(component: Component, w: usize, h: usize, x: Pel, y: Pel, side: usize)
 
 // ---- the call
 
-fn lengths_ok(component: Component, w: usize, h: usize, plane: usize, words: usize) -> bool
-    requires { ⌜ (w ≤ 4096) × (h ≤ 4096) ⌝ }
-    ensures { λ r. ⌜ r ≡ lengthsOk component w h plane words ⌝ }
+fn lengths_ok(block: Block, plane: usize, words: usize) -> bool
+    requires { ⌜ (block .w ≤ 4096) × (block .h ≤ 4096) ⌝ }
+    ensures { λ r. ⌜ r ≡ lengthsOk (block .component) (block .w) (block .h) plane words ⌝ }
 {
-    let samples = def::in_component(component, w) * def::in_component(component, h);
-    (plane == samples) & (words == (w / 4) * (h / 4))
+    let component = block.component;
+    let w = def::in_component(component, block.w);
+    let h = def::in_component(component, block.h);
+    (plane == w * h) & (words == (block.w / 4) * (block.h / 4))
 }
 
 // Whether every sample to be gathered is at most 1023.
-fn samples_ok(
-    component: Component,
-    w: usize,
-    h: usize,
-    plane: &[u16],
-    map_scu: &[u32],
-    x: Pel,
-    y: Pel,
-    side: usize,
-    constrained: bool,
-) -> bool
-    requires { ⌜ BlockOf w h (x .0) (y .0) side × Lent component w h (now plane) (now «map_scu») ⌝ }
-    ensures { λ r. ⌜ r ≡ samplesOk (record { component = component; w = w; h = h; plane = now (plane .entry); words = now («map_scu» .entry); x = x .0; y = y .0; side = side; constrained = constrained }) ⌝ }
+fn samples_ok(plane: &[u16], map_scu: &[u32], block: Block, constrained: bool) -> bool
+    requires { ⌜ Stands block × LentTo block (now plane) (now «map_scu») ⌝ }
+    ensures { λ r. ⌜ r ≡ samplesOk (aroundOf block (now (plane .entry)) (now («map_scu» .entry)) constrained) ⌝ }
 {
+    let component = block.component;
     let n = def::in_component(component, 4);
-    let units = side / 2;
-    let left = arm_small(
-        plane,
-        map_scu,
-        left_arm(component, w, h, x, y, side),
-        units,
-        n,
-        constrained,
-    );
-    let corner = arm_small(
-        plane,
-        map_scu,
-        corner_arm(component, w, h, x, y, side),
-        1,
-        1,
-        constrained,
-    );
-    let up = arm_small(
-        plane,
-        map_scu,
-        up_arm(component, w, h, x, y, side),
-        units,
-        n,
-        constrained,
-    );
+    let units = block.side / 2;
+    let left = arm_small(plane, map_scu, left_arm(block), units, n, constrained);
+    let corner = arm_small(plane, map_scu, corner_arm(block), 1, 1, constrained);
+    let up = arm_small(plane, map_scu, up_arm(block), units, n, constrained);
     left & corner & up
 }
 
 // The run, past the checks: left downwards, the corner, up rightwards.
-fn put_run(
-    component: Component,
-    w: usize,
-    h: usize,
-    plane: &[u16],
-    map_scu: &[u32],
-    x: Pel,
-    y: Pel,
-    side: usize,
-    constrained: bool,
-    run: &mut [u16],
-)
-    requires { ⌜ BlockOf w h (x .0) (y .0) side × Lent component w h (now plane) (now «map_scu») × (length (now run) ≡ runLength component side) ⌝ }
-    ensures { λ _. ⌜ now (run .exit) ≡ runOf (record { component = component; w = w; h = h; plane = now (plane .entry); words = now («map_scu» .entry); x = x .0; y = y .0; side = side; constrained = constrained }) ⌝ }
+fn put_run(plane: &[u16], map_scu: &[u32], block: Block, constrained: bool, run: &mut [u16])
+    requires { ⌜ Stands block × LentTo block (now plane) (now «map_scu») × (length (now run) ≡ runLength (block .component) (block .side)) ⌝ }
+    ensures { λ _. ⌜ now (run .exit) ≡ runOf (aroundOf block (now (plane .entry)) (now («map_scu» .entry)) constrained) ⌝ }
 {
+    let component = block.component;
     let n = def::in_component(component, 4);
-    let units = side / 2;
-    let corner = 2 * def::in_component(component, side);
+    let units = block.side / 2;
+    let corner = 2 * def::in_component(component, block.side);
     put_arm(
         plane,
         map_scu,
-        left_arm(component, w, h, x, y, side),
+        left_arm(block),
         units,
         n,
         constrained,
@@ -334,7 +346,7 @@ fn put_run(
     put_arm(
         plane,
         map_scu,
-        corner_arm(component, w, h, x, y, side),
+        corner_arm(block),
         1,
         1,
         constrained,
@@ -344,7 +356,7 @@ fn put_run(
     put_arm(
         plane,
         map_scu,
-        up_arm(component, w, h, x, y, side),
+        up_arm(block),
         units,
         n,
         constrained,
@@ -353,33 +365,23 @@ fn put_run(
     );
 }
 
-fn checked(
-    component: Component,
-    w: usize,
-    h: usize,
-    plane: &[u16],
-    map_scu: &[u32],
-    x: Pel,
-    y: Pel,
-    side: usize,
-    constrained: bool,
-    run: usize,
-) -> Answer
-    ensures { λ r. ⌜ r ≡ checkOf (record { component = component; w = w; h = h; plane = now (plane .entry); words = now («map_scu» .entry); x = x .0; y = y .0; side = side; constrained = constrained }) run ⌝ }
+fn checked(plane: &[u16], map_scu: &[u32], block: Block, constrained: bool, run: usize) -> Answer
+    ensures { λ r. ⌜ r ≡ checkOf (aroundOf block (now (plane .entry)) (now («map_scu» .entry)) constrained) run ⌝ }
 {
-    if !def::size_ok(w, h) {
+    if !def::size_ok(block.w, block.h) {
         return Answer::Refused(Refusal::Size);
     }
-    if !lengths_ok(component, w, h, plane.len(), map_scu.len()) {
+    if !lengths_ok(block, plane.len(), map_scu.len()) {
         return Answer::Refused(Refusal::Length);
     }
-    if !def::block_ok(w, h, x, y, side) {
+    if !def::block_ok(block.w, block.h, block.x, block.y, block.side) {
         return Answer::Refused(Refusal::Block);
     }
-    if run != 4 * def::in_component(component, side) + 1 {
+    let component = block.component;
+    if run != 4 * def::in_component(component, block.side) + 1 {
         return Answer::Refused(Refusal::Length);
     }
-    if !samples_ok(component, w, h, plane, map_scu, x, y, side, constrained) {
+    if !samples_ok(plane, map_scu, block, constrained) {
         return Answer::Refused(Refusal::Sample);
     }
     Answer::Done
@@ -402,32 +404,18 @@ pub fn get_nbr(
         (record { around = record { component = component; w = w; h = h; plane = now (plane .entry); words = now («map_scu» .entry); x = x .0; y = y .0; side = side; constrained = constrained }; run = now (run .entry) })
         (record { number = answerNumber r; run = now (run .exit) }) ⌝ }
 {
-    match checked(
+    let block = Block {
         component,
         w,
         h,
-        plane,
-        map_scu,
         x,
         y,
         side,
-        constrained,
-        run.len(),
-    ) {
+    };
+    match checked(plane, map_scu, block, constrained, run.len()) {
         Answer::Refused(r) => Answer::Refused(r),
         Answer::Done => {
-            put_run(
-                component,
-                w,
-                h,
-                plane,
-                map_scu,
-                x,
-                y,
-                side,
-                constrained,
-                run,
-            );
+            put_run(plane, map_scu, block, constrained, run);
             Answer::Done
         }
     }

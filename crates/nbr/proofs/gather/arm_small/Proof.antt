@@ -1,43 +1,28 @@
--- `nbr::gather::arm_small` meets its contract: a loop that scans one unit after the other. Assumes nothing.
-use Prim.Native.Nat.{ℕ, _+_, _-_, _*_, _≤_}
-use mathlib.Core.Path.{_≡_, sym, ap, _∙_}
-use native.Mathlib.Nat.{zero-mul}
+-- `nbr::gather::arm_small` meets its contract: an arm that is small as it lies passes, and any other is scanned by units. Assumes nothing.
+use mathlib.Core.Path.{sym, _∙_}
 use native.Mathlib.Omega.{arith}
 use borrow.Author.Needs.{needs}
-use lib.Dec.{leb}
-use Rattle.laws.specs.Scan.{allBelow}
-use Rattle.laws.proofs.Flat.{next-row}
-use Rattle.laws.proofs.Scans.{scan-none}
-use Rattle.laws.proofs.Parts.{scan-parts}
-use Rattle.nbr.specs.Arms.{armAt}
+use Rattle.nbr.proofs.Arms.{quick-few, quick-in, quick-small}
 use Rattle.nbr.proofs.gather.arm_small.Statement.{statement}
 use Rattle.nbr.proofs.gather.arm_small.Tie as tie
 
-abbrev Inv-loop : tie.InvT-loop
-Inv-loop plane map-scu arm units n constrained small₀ i₀ small i = (i ≤ units) × (small ≡ allBelow (λ (k : ℕ). leb (armAt arm n constrained plane map-scu k) 1023) (i * n))
+mul-samples-small : tie.Need-mul-samples-small
+mul-samples-small c =
+    let s = c .before .before .before in
+    let a = s .args in
+    omega (arith, quick-few (a .arm) (a .n) (a .constrained) _ _ (a .units) (c .least .result) (s .pre) (c .least .ensures))
 
-abbrev μ-loop : tie.MeasureT-loop
-μ-loop plane map-scu arm units n constrained small₀ i₀ small i = units - i
+samples-small-requires : tie.Need-samples-small-requires
+samples-small-requires c κs =
+    let s = c .before .before .before in
+    quick-in _ _ (s .args .constrained) _ _ (s .args .units) _ (s .pre) (c .least .ensures)
 
-loop-holds : tie.Need-loop-holds Inv-loop μ-loop
-loop-holds c = (omega arith, rw (zero-mul (c .before .before .args .n)) (sym (scan-none _)))
-
-unit-small-requires : tie.Need-unit-small-requires Inv-loop μ-loop
-unit-small-requires c κs = c .before .before .before .before .pre .0
-
-loop-again : tie.Need-loop-again Inv-loop μ-loop
-loop-again c =
-    let h = c .before .before in
-    let n = h .before .before .before .args .n in
-    (search needs, rw (h .loop .inv .1, c .unit-small .ensures, next-row (h .loop .i) n) (sym (scan-parts _ (h .loop .i * n) n)))
-
-returns : tie.Need-returns Inv-loop μ-loop
+returns : tie.Need-returns
 returns c =
-    let a = c .before .before .before .before .args in
-    let e : c .before .loop .i ≡ a .units = omega arith in
-    c .before .loop .inv .1 ∙ rw e
+    let d = c .before .before in
+    sym (quick-small _ _ _ _ _ _ _ (d .before .before .before .pre) (d .least .ensures) (sym (c .before .samples-small .ensures) ∙ c .if1 .taken))
 
 pub arm-small-spec : {M : Type 1} → statement M
 arm-small-spec =
     tie.close
-    (tie.spec Inv-loop μ-loop loop-holds unit-small-requires (λ c. search needs) (λ c. search needs) loop-again returns)
+    (tie.spec (λ c κs. search needs) mul-samples-small samples-small-requires returns (λ c κs. search needs) (λ c. search needs))

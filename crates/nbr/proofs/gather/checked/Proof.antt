@@ -16,6 +16,7 @@ use Rattle.def.specs.declared.Answer.the-variants.{Done, Refused}
 use Rattle.def.proofs.Sizes.{sized}
 use Rattle.def.proofs.Blocks.{blocked}
 use Rattle.nbr.specs.Gather.{Around, runLength, lengthsOk, samplesOk, checkOf}
+use Rattle.nbr.specs.Arms.{aroundOf}
 use Rattle.nbr.proofs.Sides.{scaled-le}
 use Rattle.nbr.proofs.Runs.{lent-of}
 use Rattle.nbr.proofs.gather.checked.Statement.{statement}
@@ -23,9 +24,7 @@ use Rattle.nbr.proofs.gather.checked.Tie as tie
 
 -- the input of a call
 abbrev of : tie.Start → Around
-of s =
-    let a = s .args in
-    record { component = a .component; w = a .w; h = a .h; plane = now (a .plane); words = now (a .map-scu); x = a .x .0; y = a .y .0; side = a .side; constrained = a .constrained }
+of s = aroundOf (s .args .block) (now (s .args .plane)) (now (s .args .map-scu)) (s .args .constrained)
 
 -- the row past its first check, its second, its third and its fourth
 abbrev rest4 : Around → Answer
@@ -74,7 +73,7 @@ returns-3 c = past2 (c .before .before) _ (stops _ _ _ _ (c .before .block-ok .e
 short : (c : tie.After-in-component) → c .in-component .result ≤ 64
 short c =
     let k = blocked _ _ _ _ _ (sym (c .before .before .block-ok .ensures) ∙ not-false _ (c .before .if3 .left)) in
-    rw (c .in-component .ensures) (scaled-le (c .before .before .before .before .before .before .before .before .before .args .component) _ 64 (k .most))
+    rw (c .in-component .ensures) (scaled-le (c .before .before .before .before .before .before .before .before .before .args .block .component) _ 64 (k .most))
 
 mul-if4 : tie.Need-mul-if4
 mul-if4 c = omega (arith, short c)

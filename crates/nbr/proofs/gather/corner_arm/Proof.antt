@@ -8,22 +8,22 @@ use Rattle.nbr.proofs.gather.corner_arm.Statement.{statement}
 use Rattle.nbr.proofs.gather.corner_arm.Tie as tie
 
 -- the block's numbers
-frame : (c : tie.After-in-component3) → let d = c .before .before .before .before .before in let a = d .before .before .args in Frame (a .w) (a .h) (d .before .pel2scu .result .0) (d .pel2scu2 .result .0) (c .before .before .in-component .result) (c .before .in-component2 .result) (c .in-component3 .result)
+frame : (c : tie.After-in-component3) → let d = c .before .before .before .before .before in let a = d .before .before .args in Frame (a .block .w) (a .block .h) (d .before .pel2scu .result .0) (d .pel2scu2 .result .0) (c .before .before .in-component .result) (c .before .in-component2 .result) (c .in-component3 .result)
 frame c =
     let d = c .before .before .before .before .before in
-    framed (d .before .before .args .component) _ _ _ _ _ _ _ _ _ _ (d .before .before .pre) (d .before .pel2scu .ensures) (d .pel2scu2 .ensures)
+    framed (d .before .before .args .block .component) _ _ _ _ _ _ _ _ _ _ (d .before .before .pre) (d .before .pel2scu .ensures) (d .pel2scu2 .ensures)
     (c .before .before .in-component .ensures) (c .before .in-component2 .ensures) (c .in-component3 .ensures)
 
 returns : tie.Need-returns
 returns c =
     let d = c .before .before in
-    c .no-arm .ensures ∙ corner-none (d .before .before .args .component) _ _ _ _ (d .before .pel2scu .ensures) (c .before .if1 .taken)
+    c .no-arm .ensures ∙ corner-none (d .before .before .args .block .component) _ _ _ _ (d .before .pel2scu .ensures) (c .before .if1 .taken)
 
 returns-2 : tie.Need-returns-2
 returns-2 c =
     let d = c .before .before .before in
     c .no-arm2 .ensures
-    ∙ corner-none-above (d .before .before .args .component) _ _ _ _ _ (d .before .pel2scu .ensures) (d .pel2scu2 .ensures) (c .before .before .if1 .left) (c .before .if2 .taken)
+    ∙ corner-none-above (d .before .before .args .block .component) _ _ _ _ _ (d .before .pel2scu .ensures) (d .pel2scu2 .ensures) (c .before .before .if1 .left) (c .before .if2 .taken)
 
 sub-flat : tie.Need-sub-flat
 sub-flat c = frame c .left (omega arith)
@@ -44,7 +44,7 @@ returns-3 c =
     let k = c .before .before in
     let t = k .before .before .before in
     let d = t .before .before in
-    corner-made (d .before .before .args .component) _ (d .before .before .args .h) _ _ _ _ _ _ _ _ _ (d .before .pel2scu .ensures) (d .pel2scu2 .ensures)
+    corner-made (d .before .before .args .block .component) _ (d .before .before .args .block .h) _ _ _ _ _ _ _ _ _ (d .before .pel2scu .ensures) (d .pel2scu2 .ensures)
     (k .before .before .in-component .ensures) (k .before .in-component2 .ensures) (k .in-component3 .ensures) (t .before .if1 .left) (t .if2 .left)
     (c .before .flat .ensures) (c .flat2 .ensures)
 
