@@ -18,7 +18,7 @@ use Rattle.laws.specs.Orders.{each}
 use Rattle.split.specs.Edges.{Pass, Edge, stretch, edgeList}
 use Rattle.split.specs.Picture.{across, roots, rootBytes, rootX, rootY, rootWalk, rootLeaves, leavesOf, allLeaves}
 use Rattle.split.specs.Stored.{area}
-use Rattle.split.specs.Walk.{Leaf, leaf, walk}
+use Rattle.split.specs.Walk.{Leaf, walk}
 use Rattle.split.proofs.Induct.{Cases, walk-ind, test}
 use Rattle.split.proofs.Passes.{by-leaves}
 use Rattle.split.proofs.Places.{known}

@@ -4,31 +4,30 @@
 --     across-order    the edges of one place along follow each other across; rows-across the same of the list row by row
 --     only-rows    row by row and left to right is one order
 -- Assumes nothing.
-use mathlib.Core.Bool.{Bool, true, false}
-use mathlib.Core.Logic.{_⊎_, inl, inr, ⊎-elim, _↔_}
-use mathlib.Core.List.{List, [], _∷_, _++_, List·Memᴰ}
-use mathlib.Core.Path.{_≡_, refl, sym, ap, _∙_, subst}
-use Prim.Native.Nat.{ℕ, _+_, _*_, _%_, _≤_, _<_}
+use mathlib.Core.Bool.{Bool}
+use mathlib.Core.Logic.{_⊎_, ⊎-elim, _↔_}
+use mathlib.Core.List.{List, [], _∷_, List·Memᴰ}
+use mathlib.Core.Path.{_≡_, refl, sym, ap, subst}
+use Prim.Native.Nat.{ℕ, _*_, _≤_, _<_}
 use native.Mathlib.Omega.{arith}
-use lib.ListN.{length, length-append}
-use lib.Pow.{pow-pos}
+use lib.ListN.{length}
 use Rattle.def.specs.declared.Answer.the-variants.{Done}
 use Rattle.laws.specs.Orders.{Pairwise, each}
 use Rattle.laws.proofs.Orders.{pairwise-imp, same-list}
 use Rattle.split.specs.Demand3.{OneLeaf, Aligned, Demand3}
-use Rattle.split.specs.Edges.{Pass, vertical, horizontal, Edge, edgeAt, edgeList, edgeNumbers}
+use Rattle.split.specs.Edges.{Pass, vertical, horizontal, Edge, edgeList, edgeNumbers}
 use Rattle.split.specs.Order.{InOrder}
 use Rattle.split.specs.Picture.{roots, rootWalk, allLeaves, pictureWalk}
-use Rattle.split.specs.Rows.{homeOf, crossOf, alongOf, IsEdge, EdgeOf, isEdge, rowsOf, rowList}
-use Rattle.split.specs.Tiling.{Holds, leafOf}
+use Rattle.split.specs.Rows.{homeOf, crossOf, alongOf, EdgeOf, rowList}
+use Rattle.split.specs.Tiling.{leafOf}
 use Rattle.split.specs.Walk.{Leaf}
 use Rattle.split.proofs.Area.{few-edges}
 use Rattle.split.proofs.Order.{strict-order, leaves-in-order}
 use Rattle.split.proofs.Passes.{by-leaves, vertical-pass, horizontal-pass, left-done, right-not}
-use Rattle.split.proofs.Places.{Before, Rooted, leaves-mem, sound-at, stands-at, leaves-order, known, found, covered, tiled-v, tiled-h}
-use Rattle.split.proofs.Ranks.{Stands, in-picture}
+use Rattle.split.proofs.Places.{leaves-mem, stands-at, leaves-order, known, found, covered, tiled-v, tiled-h}
+use Rattle.split.proofs.Ranks.{in-picture}
 use Rattle.split.proofs.Rows.{Earlier, rows-mem, mem-rows, rows-order, is-edge, edge-is}
-use Rattle.split.proofs.Sides.{Found, edges-mem, mem-edges, edges-order}
+use Rattle.split.proofs.Sides.{edges-mem, mem-edges, edges-order}
 use Rattle.split.proofs.Walks.{each-done}
 
 pub edges-twice : (l : List Edge) → length (each edgeNumbers l) ≡ 2 * length l

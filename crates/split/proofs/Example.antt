@@ -1,14 +1,14 @@
 -- 01's sheet, width 16, height 8, splits 11110: its lists, by the walk and row by row. And two leaves of 64 side by side, with limit 5.
 -- Assumes nothing.
 use mathlib.Core.Bool.{true, false}
-use mathlib.Core.List.{List, [], _∷_, _++_}
+use mathlib.Core.List.{List, [], _∷_}
 use mathlib.Core.Path.{_≡_, refl}
 use Prim.Native.Nat.{ℕ}
 use lib.ListN.{set, replicate, length}
 use Rattle.def.specs.declared.Answer.the-variants.{Done}
 use Rattle.laws.specs.Orders.{each}
 use Rattle.split.specs.Edges.{vertical, horizontal, edge, edgeNumbers, visitOf, stretch, edgeList}
-use Rattle.split.specs.Picture.{leavesOf, allLeaves, pictureWalk}
+use Rattle.split.specs.Picture.{leavesOf, pictureWalk}
 use Rattle.split.specs.Rows.{isEdge, rowOf, rowsOf, rowList}
 use Rattle.split.specs.Tiling.{leafAt, leafOf}
 use Rattle.split.specs.Walk.{leaf, met, onward, inTurn, leafWalk, byByte, walk}

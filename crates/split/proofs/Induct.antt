@@ -4,13 +4,13 @@
 use mathlib.Core.Bool.{Bool, true, false}
 use mathlib.Core.Logic.{_⊎_, inl, inr}
 use mathlib.Core.List.{List, [], _∷_, _++_}
-use mathlib.Core.Path.{_≡_, refl, sym, ap, _∙_, subst}
+use mathlib.Core.Path.{_≡_, refl, sym, subst}
 use Prim.Native.Nat.{ℕ, zero, suc, _+_, _^_, _≤_, _<_}
 use native.Mathlib.Omega.{arith}
 use borrow.Author.Tests.{ltb-true, ltb-false, leb-true, leb-false}
 use lib.Dec.{ltb, leb}
 use lib.ListN.{getD}
-use Rattle.def.specs.declared.Answer.the-variants.{Done, Refused}
+use Rattle.def.specs.declared.Answer.the-variants.{Done}
 use Rattle.split.specs.Walk.{Leaf, leaf, Walk, inTurn, leafWalk, place, part, walk}
 use Rattle.split.proofs.Walks.{not-done, four, walk-x, walk-y, walk-unit, walk-leaf, walk-cut, walk-bad, leaf-in, leaf-x, leaf-y, part₀, part₁, part₂, part₃}
 

@@ -1,9 +1,12 @@
+pub mod Apart
 pub mod Area
 pub mod Blocks
+pub mod Callers
 pub mod Demand3
 pub mod Example
 pub mod Induct
 pub mod Listing
+pub mod Once
 pub mod Order
 pub mod Outcomes
 pub mod Parts

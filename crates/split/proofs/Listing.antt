@@ -3,8 +3,8 @@
 use mathlib.Core.Bool.{Bool, true, false, _&&_}
 use mathlib.Core.List.{List, [], _∷_, _++_, append-nil, List·Memᴰ, List·Memᴰ·head, List·Memᴰ·tail, List·Memᴰ·not-nil, List·Memᴰ·append-cases, List·Memᴰ·eq-of-singleton}
 use mathlib.Core.Logic.{⊎-elim}
-use mathlib.Core.Path.{_≡_, refl, sym, ap, ap₂, _∙_, subst}
-use Prim.Native.Nat.{ℕ, zero, suc, _+_, _-_, _*_, _/_, _%_, _≤_, _<_, zero-le}
+use mathlib.Core.Path.{_≡_, refl, sym, ap, ap₂, _∙_}
+use Prim.Native.Nat.{ℕ, zero, suc, _+_, _-_, _*_, _/_, _%_, _≤_, _<_}
 use native.Mathlib.Nat.{add-zero, zero-add, add-suc, le-refl, le-of-suc-le-suc, not-suc-le-zero}
 use native.Mathlib.Numerals.{add-one}
 use native.Mathlib.Decide.{decLt, ℕ-discrete}
@@ -20,7 +20,7 @@ use Rattle.laws.specs.Orders.{each}
 use Rattle.laws.proofs.Orders.{each-append, each-each}
 use Rattle.split.specs.Edges.{Pass, Visit, passOf, stretch, nearEdge, visitOf, edgesOf, edgeNumbers}
 use Rattle.split.specs.Picture.{roots, rootBytes, rootX, rootY, rootWalk, rootLeaves, leavesOf, allLeaves, pictureWalk}
-use Rattle.split.specs.Stored.{area, leafNumbers, Stored, leafFrom, leavesFrom, LeafAt, Ready, Put, Starts, stretchNumbers, nearNumbers, leafEdgeNumbers}
+use Rattle.split.specs.Stored.{area, leafNumbers, Stored, leafFrom, leavesFrom, LeafAt, Ready, Put, Starts, leafEdgeNumbers}
 use Rattle.split.specs.Walk.{Leaf, leaf as leaf′}
 use Rattle.split.specs.declared.Walked.{Walked}
 use Rattle.split.specs.declared.Walked.the-variants.{Done as Counted}

@@ -1,9 +1,9 @@
 -- The edges of the walk stand in 01's order, which is strict: there is one list of these edges that stands in it.
 -- Assumes nothing.
 use mathlib.Core.Bool.{Bool, true, false, _&&_}
-use mathlib.Core.Logic.{_⊎_, inl, inr, ⊎-elim, _↔_}
-use mathlib.Core.List.{List, [], _∷_, _++_, List·Memᴰ}
-use mathlib.Core.Path.{_≡_, refl, sym, ap, _∙_, subst}
+use mathlib.Core.Logic.{_⊎_, inl, inr, ⊎-elim}
+use mathlib.Core.List.{List, [], List·Memᴰ}
+use mathlib.Core.Path.{_≡_, refl, sym, ap, _∙_}
 use Prim.Native.Nat.{ℕ, zero, suc, _+_, _/_, _%_, _≤_, _<_}
 use native.Mathlib.Omega.{arith}
 use borrow.Author.Tests.{eqb-true}
@@ -11,7 +11,7 @@ use lib.Dec.{ltb, eqb}
 use Rattle.def.specs.declared.Answer.the-variants.{Done}
 use Rattle.laws.specs.Index.{pick}
 use Rattle.laws.specs.Orders.{Pairwise, each}
-use Rattle.laws.proofs.Orders.{pairwise-append, pairwise-imp, pairwise-both, pairwise-each, same-list}
+use Rattle.laws.proofs.Orders.{pairwise-append, pairwise-imp, pairwise-both, pairwise-each}
 use Rattle.split.specs.Edges.{Pass, vertical, horizontal, Edge, edgeAt, stretch}
 use Rattle.split.specs.Order.{InOrder, firstUnit}
 use Rattle.split.specs.Picture.{roots, rootWalk, allLeaves}
@@ -19,7 +19,7 @@ use Rattle.split.specs.Ranks.{Sooner, rank, spread}
 use Rattle.split.specs.Rows.{homeOf, alongOf}
 use Rattle.split.specs.Walk.{Leaf}
 use Rattle.split.proofs.Places.{Before, tiled-v, tiled-h, leaves-sooner}
-use Rattle.split.proofs.Sides.{X, Y, Tiled, leafEdges, leaf-mem, On, stretch-mem, pick-mem, and-true}
+use Rattle.split.proofs.Sides.{X, Y, Tiled, leafEdges, leaf-mem, stretch-mem, pick-mem, and-true}
 
 -- how far a half's first unit stands from its leaf's
 abbrev Offset : Leaf → ℕ → Type 0

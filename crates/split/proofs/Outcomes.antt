@@ -51,7 +51,7 @@ check-gives i a e = rw e (by-number (check-call.check i))
 -- ---- leaves
 
 -- a ladder that ends in done has passed its first rung
-past : (t : Bool) (r : Refusal) (k : Answer) → unless t (Refused r) k ≡ Done → (t ≡ true) × (k ≡ Done)
+pub past : (t : Bool) (r : Refusal) (k : Answer) → unless t (Refused r) k ≡ Done → (t ≡ true) × (k ≡ Done)
 past true r k e = (refl, e)
 past false r k e = absurd (not-done r e)
 
@@ -88,18 +88,32 @@ root-told w h x y e =
     let l = leaves-call.rootTests w h x y in
     (eqb-true _ _ (all-at l 0 e), eqb-true _ _ (all-at l 1 e), ltb-true _ _ (all-at l 2 e), ltb-true _ _ (all-at l 3 e))
 
--- where the checks pass, the lent list holds what is listed
-passed : (w h : ℕ) (s : List ℕ) (x y out : ℕ) → leaves-call.checkOf w h s x y out ≡ Done → out ≡ 768
+-- where the checks pass
+pub record LeavesPassed (w h : ℕ) (s : List ℕ) (x y out : ℕ) : Type 0 where
+  pub size : Sized w h
+  pub bytes : length s ≡ 1024 * rootCount w h
+  pub room : out ≡ 768
+  pub column : x < w
+  pub row : y < h
+  pub walked : rootWalk s (w / 4) (h / 4) (leaves-call.rootIndex w x y) .answer ≡ Done
+
+pub leaves-passed : (w h : ℕ) (s : List ℕ) (x y out : ℕ) → leaves-call.checkOf w h s x y out ≡ Done → LeavesPassed w h s x y out
 unfolding leaves-call.checkOf
-passed w h s x y out e =
+leaves-passed w h s x y out e =
     let t = leaves-call.lengthsOk w h (length s) out in
-    let rest = unless (leaves-call.rootOk w h x y) (Refused Block) (rootWalk s (w / 4) (h / 4) (leaves-call.rootIndex w x y) .answer) in
-    lengths-told w h (length s) out (past t Length rest (past (sizeOk w h) Size (unless t (Refused Length) rest) e .1) .0) .1
+    let k = rootWalk s (w / 4) (h / 4) (leaves-call.rootIndex w x y) .answer in
+    let rest = unless (leaves-call.rootOk w h x y) (Refused Block) k in
+    let a = past (sizeOk w h) Size (unless t (Refused Length) rest) e in
+    let b = past t Length rest (a .1) in
+    let c = past (leaves-call.rootOk w h x y) Block k (b .1) in
+    let l = lengths-told w h (length s) out (b .0) in
+    let r = root-told w h x y (c .0) in
+    record { size = sized w h (a .0); bytes = l .0; room = l .1; column = r .2; row = r .3; walked = c .1 }
 
 pub met-room : {w h : ℕ} {s : List ℕ} {x y out : ℕ} {list : List ℕ} {r : Walked} (n : ℕ) → leaves-call.Met w h s x y out list r → r ≡ Counted n → (n ≤ 256) × (out ≡ 768)
 met-room {w} {h} {s} {x} {y} {out} n m e =
     let k = counted-done n _ (leaves-call.checkOf w h s x y out) (sym e ∙ m .answer) in
-    (omega (arith, k .1, m .few), passed w h s x y out (k .0))
+    (omega (arith, k .1, m .few), leaves-passed w h s x y out (k .0) .room)
 
 -- n is what the walk counted
 pub leaves-done : (i : leaves-call.Input) (list : List ℕ) (n : ℕ) (r : Walked) (o : List ℕ)

@@ -6,10 +6,9 @@ use Prim.Native.Nat.{ℕ, suc, _+_, _-_, _*_, _/_, _%_, _≤_, _<_}
 use native.Mathlib.Nat.{mul-le-mul-right}
 use native.Mathlib.Numerals.{add-one}
 use native.Mathlib.Omega.{arith}
-use lib.ListN.{length}
 use Rattle.def.specs.declared.Refusal.{Refusal}
 use Rattle.split.specs.Stored.{Block, Stored}
-use Rattle.split.specs.Walk.{Walk, inTurn, walk}
+use Rattle.split.specs.Walk.{inTurn, walk}
 use Rattle.split.specs.declared.Walked.{Walked}
 use Rattle.split.specs.declared.Walked.the-variants.{Done as Counted, Refused as NotCounted}
 use Rattle.split.proofs.Blocks.{partOf, Cut}

@@ -12,15 +12,15 @@ use lib.Dec.{ltb, leb, eqb}
 use Rattle.def.specs.declared.Answer.the-variants.{Done}
 use Rattle.laws.specs.Index.{pick}
 use Rattle.laws.specs.Orders.{Pairwise, each}
-use Rattle.laws.proofs.Orders.{pairwise-each, pairwise-cross, pairwise-rest, From, each-mem, mem-each, each-each}
+use Rattle.laws.proofs.Orders.{pairwise-each, pairwise-cross, pairwise-rest, each-mem, mem-each, each-each}
 use Rattle.split.specs.Edges.{Pass, vertical, horizontal, Edge, Visit, visit, halves, visitOf, visits, stretch, nearEdge, edgeList}
-use Rattle.split.specs.Passes.{leftEdge, rightEdge, has, done, verticalPass, horizontalPass}
+use Rattle.split.specs.Passes.{has, done, verticalPass, horizontalPass}
 use Rattle.split.specs.Picture.{roots, rootWalk, allLeaves}
 use Rattle.split.specs.Rows.{homeOf}
 use Rattle.split.specs.Walk.{Leaf}
 use Rattle.split.proofs.Induct.{test}
 use Rattle.split.proofs.Places.{tiled-v}
-use Rattle.split.proofs.Sides.{X, Y, Has, Tiled, leafEdges, and-true}
+use Rattle.split.proofs.Sides.{Has, Tiled, leafEdges, and-true}
 
 -- ---- which units a visit has
 

@@ -2,7 +2,7 @@
 -- Assumes nothing.
 use mathlib.Core.Logic.{_⊎_, inl, inr, ⊎-elim}
 use mathlib.Core.List.{List, [], _∷_, _++_, List·Memᴰ, List·Memᴰ·not-nil, List·Memᴰ·append-cases, List·Memᴰ·eq-of-singleton, Memᴰ·append-left, Memᴰ·append-right}
-use mathlib.Core.Path.{_≡_, refl, sym, ap, _∙_, subst}
+use mathlib.Core.Path.{_≡_, refl, sym, ap, subst}
 use Prim.Native.Nat.{ℕ, zero, suc, _+_, _*_, _/_, _%_, _^_, _≤_, _<_}
 use native.Mathlib.Nat.{two-pow-succ, le-refl, div-add-mod'}
 use native.Mathlib.Omega.{arith}
@@ -12,7 +12,7 @@ use lib.Pow.{pow-pos}
 use Rattle.def.specs.declared.Answer.the-variants.{Done}
 use Rattle.laws.specs.Orders.{Pairwise}
 use Rattle.laws.proofs.Orders.{pairwise-append, pairwise-imp}
-use Rattle.split.specs.Edges.{Pass, vertical, horizontal}
+use Rattle.split.specs.Edges.{vertical, horizontal}
 use Rattle.split.specs.Picture.{across, roots, rootBytes, rootX, rootY, rootWalk, rootLeaves, leavesOf, allLeaves}
 use Rattle.split.specs.Ranks.{Sooner}
 use Rattle.split.specs.Rows.{homeOf}
@@ -20,8 +20,8 @@ use Rattle.split.specs.Tiling.{Holds, leafAt, leafOf}
 use Rattle.split.specs.Walk.{Leaf, leaf, walk}
 use Rattle.split.proofs.Induct.{Cases, walk-ind, test}
 use Rattle.split.proofs.Ranks.{Stands, standing, rising}
-use Rattle.split.proofs.Roots.{column-in, row-in, later-root, root-at}
-use Rattle.split.proofs.Sides.{Has, Within, Tiled}
+use Rattle.split.proofs.Roots.{later-root, root-at}
+use Rattle.split.proofs.Sides.{Within, Tiled}
 use Rattle.split.proofs.Tiling.{covers, sound, Sound}
 
 abbrev pub Before : Leaf → Leaf → Type 0

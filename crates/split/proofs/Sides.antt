@@ -2,15 +2,15 @@
 -- Assumes nothing.
 use mathlib.Core.Bool.{Bool, true, false, _&&_, true≢false}
 use mathlib.Core.Logic.{_⊎_, inl, inr, ⊎-elim}
-use mathlib.Core.List.{List, [], _∷_, _++_, List·Memᴰ, List·Memᴰ·head, List·Memᴰ·tail, List·Memᴰ·not-nil, List·Memᴰ·cases-cons, List·Memᴰ·append-cases, Memᴰ·append-left, Memᴰ·append-right}
+use mathlib.Core.List.{List, [], _++_, List·Memᴰ, List·Memᴰ·head, List·Memᴰ·tail, List·Memᴰ·not-nil, List·Memᴰ·cases-cons, List·Memᴰ·append-cases, Memᴰ·append-left, Memᴰ·append-right}
 use mathlib.Core.Path.{_≡_, refl, sym, ap, _∙_, subst}
 use Prim.Native.Nat.{ℕ, zero, suc, _+_, _-_, _%_, _≤_, _<_}
 use native.Mathlib.Omega.{arith}
-use borrow.Author.Tests.{ltb-true, ltb-false, lt-ltb, eqb-true, eqb-false, eq-eqb}
+use borrow.Author.Tests.{ltb-true, lt-ltb, eqb-true, eqb-false, eq-eqb}
 use lib.Dec.{ltb, eqb}
 use Rattle.laws.specs.Index.{pick}
 use Rattle.laws.specs.Orders.{Pairwise, each}
-use Rattle.laws.proofs.Orders.{pairwise-append, pairwise-each, From, each-mem, mem-each}
+use Rattle.laws.proofs.Orders.{pairwise-append, pairwise-each, each-mem, mem-each}
 use Rattle.split.specs.Edges.{Pass, vertical, horizontal, Edge, edgeAt, stretch}
 use Rattle.split.specs.Rows.{IsEdge}
 use Rattle.split.specs.Walk.{Leaf}

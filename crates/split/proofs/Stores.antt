@@ -2,7 +2,7 @@
 -- Assumes nothing.
 use mathlib.Core.List.{List, [], _∷_, _++_}
 use mathlib.Core.Path.{_≡_, refl, sym, ap, ap₂, _∙_, subst}
-use Prim.Native.Nat.{ℕ, zero, suc, _+_, _*_, _≤_, _<_}
+use Prim.Native.Nat.{ℕ, suc, _+_, _*_, _≤_, _<_}
 use native.Mathlib.Nat.{add-zero, zero-add}
 use native.Mathlib.Numerals.{add-one, add-two}
 use native.Mathlib.Omega.{arith}
@@ -17,7 +17,7 @@ use Rattle.split.specs.Stored.{leafNumbers, counted, Stored}
 use Rattle.split.specs.Walk.{Leaf, Walk, met, nothing, andThen}
 use Rattle.split.specs.declared.Walked.{Walked}
 use Rattle.split.specs.declared.Walked.the-variants.{Done as Counted, Refused as NotCounted}
-use Rattle.split.proofs.Walks.{onward-done, onward-stop}
+use Rattle.split.proofs.Walks.{onward-done}
 
 pub sets-append : (vs ws l : List ℕ) (n : ℕ) → sets (sets l n vs) (n + length vs) ws ≡ sets l n (vs ++ ws)
 sets-append [] ws l n = rw add-zero

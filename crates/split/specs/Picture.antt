@@ -1,6 +1,6 @@
 -- The walk of a picture: its roots in raster order. w and h are the picture's sides in units, s the split bytes of all its roots.
 -- Assumes nothing: these are definitions.
-use mathlib.Core.List.{List, [], _∷_, _++_}
+use mathlib.Core.List.{List, [], _++_}
 use Prim.Native.Nat.{ℕ, zero, suc, _+_, _*_, _/_, _%_}
 use lib.ListN.{take, drop}
 use Rattle.split.specs.Walk.{Leaf, Walk, inTurn, walk}

@@ -1,8 +1,7 @@
 -- The call `visiting_rank`: the rank of the unit of column x and row y in its root.
 -- Assumes nothing: these are definitions.
 use Prim.Native.Nat.{ℕ}
-use mathlib.Core.Bool.{Bool}
-use mathlib.Core.List.{List, [], _∷_}
+use mathlib.Core.List.{[], _∷_}
 use lib.Dec.{ltb}
 use Rattle.def.specs.Answers.{afterChecks}
 use Rattle.def.specs.Refusals.{numberOf}

@@ -1,7 +1,7 @@
 // The split tree: the walk from a root to its leaves, the visiting ranks, and both passes' lists of edges.
 // The Rust beside it: evc_get_split_mode and evc_split_get_part_structure in util.rs, the recursion of evc_deblock_tree in df.rs.
 ghost use mathlib.Core.Path.{_≡_};
-ghost use Prim.Native.Nat.{ℕ, _+_, _-_, _*_, _/_, _%_, _^_, _≤_, _<_};
+ghost use Prim.Native.Nat.{_+_, _-_, _*_, _/_, _%_, _^_, _≤_, _<_};
 ghost use lib.ListN.{length, getD, take};
 ghost use lib.Seq.{sets};
 ghost use Rattle.def.specs.Answers.{answerNumber};

@@ -1,6 +1,6 @@
 -- `split::walk_block` meets its contract: it calls itself on blocks of half the side, which is the measure. The loop's invariant: the parts so far are stored.
 -- Assumes nothing.
-use mathlib.Core.Path.{_≡_, refl, sym, ap, _∙_}
+use mathlib.Core.Path.{_≡_, refl, _∙_}
 use Prim.Native.Nat.{ℕ, _-_, _≤_, _<_}
 use native.Mathlib.Omega.{arith}
 use borrow.Author.Needs.{needs}
@@ -50,35 +50,65 @@ pub +walk-block-spec : {M : Type 1} → statement M
     walk-block.Post
     walk-block-Inv-loop
     walk-block-μ-loop
-    (λ c. stored-as (skip-x _ (c .before .before .before .pre .1 .0) (c .if1 .taken)) (stored-nothing _ _))
+    -- outside the picture, to the right or below: nothing is met
+    (λ c. stored-as (skip-x _ (c .before .before .before .pre .1 .0) (omega (arith, c .if1 .taken))) (stored-nothing _ _))
     (λ c. stored-as (skip-y _ (c .before .before .before .before .pre .1 .0) (c .before .if1 .left) (c .if2 .taken)) (stored-nothing _ _))
-    (λ c κs. (c .before .before .before .before .before .before .pre .1 .0, room-one (c .before .before .before .before .before .before .pre .1 .0) _ _ (c .before .before .before .before .before .before .pre .1 .2)))
+    -- a unit. e is where the block is known to start inside
+    (λ c κs. let e = c .before .before in let p = e .before .before .before .before .pre .1 in (p .0, room-one (p .0) _ _ (p .2)))
     (λ c. c .before .before .put-leaf .kept .1 .1 .1 .1 .1 .1 .0)
-    (λ c. stored-as (at-unit _ (c .before .before .before .before .before .before .before .before .before .pre .1 .0) (c .before .before .before .before .before .before .if1 .left) (c .before .before .before .before .before .if2 .left) (c .before .before .before .before .if3 .taken)) (c .before .before .put-leaf .ensures))
-    (λ c κs. omega (arith, c .before .before .before .before .before .pre .1 .0))
-    (λ c. stored-as (at-bad _ (c .before .before .before .before .before .before .before .pre .1 .0) (c .before .before .before .before .if1 .left) (c .before .before .before .if2 .left) (omega (arith, c .before .before .before .before .before .before .before .pre .1 .0)) _ (c .before .get-split-mode .ensures) (c .if4 .taken)) (stored-refused _ _ _))
-    (λ c κs. (c .before .before .before .before .before .before .before .before .before .pre .1 .0, room-one (c .before .before .before .before .before .before .before .before .before .pre .1 .0) _ _ (c .before .before .before .before .before .before .before .before .before .pre .1 .2)))
+    (λ c.
+    let e = c .before .before .before .before .before in
+    stored-as (at-unit _ (e .before .before .before .before .pre .1 .0) (e .before .if1 .left) (e .if2 .left) (c .before .before .before .before .if3 .taken)) (c .before .before .put-leaf .ensures))
+    -- the byte: neither 0 nor 1
+    (λ c κs. let e = c .before in omega (arith, e .before .before .before .before .pre .1 .0))
+    (λ c.
+    let e = c .before .before .before in
+    let k = e .before .before .before .before .pre .1 .0 in
+    stored-as (at-bad _ k (e .before .if1 .left) (e .if2 .left) (omega (arith, k)) _ (c .before .get-split-mode .ensures) (c .if4 .taken)) (stored-refused _ _ _))
+    -- 0: a leaf
+    (λ c κs. let e = c .before .before .before .before .before in let p = e .before .before .before .before .pre .1 in (p .0, room-one (p .0) _ _ (p .2)))
     (λ c. c .before .before .put-leaf2 .kept .1 .1 .1 .1 .1 .1 .0)
-    (λ c. stored-as (at-leaf _ (c .before .before .before .before .before .before .before .before .before .before .before .before .pre .1 .0) (c .before .before .before .before .before .before .before .before .before .if1 .left) (c .before .before .before .before .before .before .before .before .if2 .left) (omega (arith, c .before .before .before .before .before .before .before .before .before .before .before .before .pre .1 .0)) _ (c .before .before .before .before .before .before .get-split-mode .ensures) (c .before .before .before .before .if5 .taken)) (c .before .before .put-leaf2 .ensures))
-    (λ c. (omega arith, refl, cut _ (c .before .before .before .before .before .before .before .before .pre .1 .0) (c .before .before .before .before .before .if1 .left) (c .before .before .before .before .if2 .left) (omega (arith, c .before .before .before .before .before .before .before .before .pre .1 .0)) _ (c .before .before .get-split-mode .ensures) (omega arith), no-part _ _ _ _ _ _ _ _))
+    (λ c.
+    let g = c .before .before .before .before .before .before in
+    let e = g .before .before in
+    let k = e .before .before .before .before .pre .1 .0 in
+    stored-as (at-leaf _ k (e .before .if1 .left) (e .if2 .left) (omega (arith, k)) _ (g .get-split-mode .ensures) (c .before .before .before .before .if5 .taken)) (c .before .before .put-leaf2 .ensures))
+    -- 1: the loop over the four parts
+    (λ c.
+    let g = c .before .before in
+    let e = g .before .before in
+    let k = e .before .before .before .before .pre .1 .0 in
+    (omega arith, refl, cut _ k (e .before .if1 .left) (e .if2 .left) (omega (arith, k)) _ (g .get-split-mode .ensures) (omega arith), no-part _ _ _ _ _ _ _ _))
     (λ c κs. omega arith)
     (λ c κs. omega arith)
     (λ c. omega (arith, c .before .before .before .before .before .before .before .before .before .before .before .before .pre .1 .0))
-    (λ c κs. let v = c .before .before .before .before .loop .inv in let l = c .before .before .before .loop-test .taken in let p = c .before .before .before .before .before .before .before .before .before .before .before .before .before .pre in (
+    -- what the next part asks: half the side, a block of its own, and room for its leaves
+    (λ c κs.
+    let v = c .before .before .before .before .loop .inv in
+    let l = c .before .before .before .loop-test .taken in
+    let p = c .before .before .before .before .before .before .before .before .before .before .before .before .before .pre in (
       omega (arith, v .2 .less, p .0),
       (part-block (v .2) _ _ _ l (c .before .before .part-at .ensures) (c .before .part-at2 .ensures), p .1 .1, part-room (v .2) (v .3) _ l (omega (arith, v .1, p .1 .2))),
     ))
     (λ c. search needs)
     (λ c. search needs)
-    (λ c. c .before .before .before .before .before .walk-block .kept .1 .1 .1 .1 .1 .1 .1 .0 ∙ c .before .before .before .before .before .before .before .before .before .before .loop .inv .1)
-    (λ c. let v = c .before .before .before .before .before .before .before .before .before .before .loop .inv in part-refused (v .2) (v .3) _ _ (c .before .before .before .before .before .before .before .before .part-at .ensures) (c .before .before .before .before .before .before .before .part-at2 .ensures) _ _ (c .before .before .before .before .before .walk-block .ensures) _ (c .before .before .before .before .before .before .before .before .before .loop-test .taken) (c .before .r .given .1))
+    -- a part that is refused ends the walk
+    (λ c. let m = c .before .before .before .before .before in m .walk-block .kept .1 .1 .1 .1 .1 .1 .1 .0 ∙ m .before .before .before .before .before .loop .inv .1)
+    (λ c.
+    let m = c .before .before .before .before .before in
+    let v = m .before .before .before .before .before .loop .inv in
+    part-refused (v .2) (v .3) _ _ (m .before .before .before .part-at .ensures) (m .before .before .part-at2 .ensures) _ _ (m .walk-block .ensures) _ (m .before .before .before .before .loop-test .taken) (c .before .r .given .1))
+    -- a part more
     (λ c. search needs)
     (λ c. search needs)
-    (λ c. let v = c .before .before .before .before .before .before .before .before .before .before .loop .inv in (
+    (λ c.
+    let m = c .before .before .before .before .before in
+    let v = m .before .before .before .before .before .loop .inv in (
       omega arith,
-      c .before .before .before .before .before .walk-block .kept .1 .1 .1 .1 .1 .1 .1 .0 ∙ v .1,
+      m .walk-block .kept .1 .1 .1 .1 .1 .1 .1 .0 ∙ v .1,
       v .2,
-      part-more (v .2) (v .3) _ _ (c .before .before .before .before .before .before .before .before .part-at .ensures) (c .before .before .before .before .before .before .before .part-at2 .ensures) _ _ (c .before .before .before .before .before .walk-block .ensures) _ (c .before .met .given .1),
+      part-more (v .2) (v .3) _ _ (m .before .before .before .part-at .ensures) (m .before .before .part-at2 .ensures) _ _ (m .walk-block .ensures) _ (c .before .met .given .1),
     ))
+    -- all four
     (λ c. c .before .loop .inv .1)
-    (λ c. whole (c .before .loop .inv .2) (c .before .loop .inv .3) (c .loop-test .left) (c .before .loop .inv .0))
+    (λ c. let v = c .before .loop .inv in whole (v .2) (v .3) (c .loop-test .left) (v .0))

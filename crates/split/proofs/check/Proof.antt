@@ -1,7 +1,6 @@
 -- `split::check` meets its contract: 1, 2, and then what the walk of the picture finds. Assumes nothing.
 use mathlib.Core.Path.{sym, ap, _∙_}
 use Prim.Native.Nat.{ℕ, _*_}
-use native.Mathlib.Omega.{arith}
 use borrow.Author.Needs.{needs}
 use borrow.Author.Tests.{not-false, eq-eqb, ne-eqb}
 use Rattle.def.proofs.Sizes.{sized}

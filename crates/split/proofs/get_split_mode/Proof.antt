@@ -1,5 +1,4 @@
 -- `split::get_split_mode` meets its contract: the centre's column and row are turned into units by `pel2scu`. Assumes nothing.
-use mathlib.Core.Path.{_≡_, ap}
 use borrow.Author.Needs.{needs}
 use Rattle.split.proofs.get_split_mode.Statement.{statement}
 use Rattle.split.proofs.get_split_mode.Tie as tie

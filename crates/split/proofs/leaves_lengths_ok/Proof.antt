@@ -1,5 +1,4 @@
 -- `split::leaves_lengths_ok` meets its contract: the code is the list of tests. Assumes nothing.
-use mathlib.Core.Path.{refl}
 use borrow.Author.Needs.{needs}
 use Rattle.split.specs.LeavesCall.{lengthsOk}
 use Rattle.split.proofs.leaves_lengths_ok.Statement.{statement}

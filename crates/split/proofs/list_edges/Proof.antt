@@ -1,8 +1,7 @@
 -- `split::list_edges` meets its contract: nothing is written before all checks passed, and then each pass writes its list. Assumes nothing.
-use mathlib.Core.Path.{_≡_, sym, _∙_}
-use native.Mathlib.Omega.{arith}
+use mathlib.Core.Path.{sym, _∙_}
 use borrow.Author.Needs.{needs}
-use Rattle.split.proofs.Outcomes.{Passed, list-passed, list-refused, list-done}
+use Rattle.split.proofs.Outcomes.{list-passed, list-refused, list-done}
 use Rattle.split.proofs.list_edges.Statement.{statement}
 use Rattle.split.proofs.list_edges.Tie as tie
 

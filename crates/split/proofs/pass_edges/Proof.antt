@@ -1,8 +1,7 @@
 -- `split::pass_edges` meets its contract: after i turns the edges of the first i roots are written. Assumes nothing.
 use mathlib.Core.Path.{_≡_, refl, sym, _∙_}
-use Prim.Native.Nat.{ℕ, _-_, _/_, _≤_, _<_}
+use Prim.Native.Nat.{_-_, _/_, _≤_, _<_}
 use native.Mathlib.Omega.{arith}
-use borrow.Author.Needs.{needs}
 use lib.ListN.{length}
 use Rattle.split.specs.Picture.{roots, rootWalk}
 use Rattle.split.proofs.Listing.{Rooted, none-rooted, one-rooted, all-rooted, root-room}
