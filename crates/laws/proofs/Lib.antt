@@ -4,6 +4,7 @@ pub mod Differences
 pub mod Fill
 pub mod Flat
 pub mod Ladders
+pub mod Orders
 pub mod Parts
 pub mod Planes
 pub mod ScanAll
