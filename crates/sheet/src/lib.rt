@@ -1,0 +1,2 @@
+// The sheet and its listing, bytes to bytes.
+mod lines;
