@@ -1,4 +1,6 @@
+pub mod Demand3
 pub mod Edges
+pub mod Order
 pub mod Passes
 pub mod Picture
 pub mod Ranks
