@@ -1,3 +1,5 @@
+pub mod Blocks
+pub mod Descents
 pub mod Forms
 pub mod Ladder
 pub mod Reading

@@ -1,2 +1,3 @@
 // The sheet and its listing, bytes to bytes.
 mod lines;
+mod tree;
