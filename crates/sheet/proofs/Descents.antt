@@ -2,7 +2,8 @@
 --     descend-x, descend-y, descend-unit, descend-out, descend-leaf, descend-cut    its equations
 --     owns-centre, owns-part, centre-no-part, parts-apart    whose bytes are whose
 --     met-x, met-y, met-unit, met-leaf, met-cut    what is known after each way
---     Parts, parts-none, parts-more, parts-stop    the parts of a block that is cut, one after the other
+--     one-more, more-done, more-stop    descents one after the other
+--     Parts, parts-none, parts-more, parts-stop    the parts of a block that is cut
 -- Assumes nothing.
 use mathlib.Core.Path.{_≡_, refl, sym, ap, ap₂, _∙_, subst}
 use mathlib.Core.List.{List, [], _∷_}
@@ -224,6 +225,37 @@ module _ (w h x y : ℕ) (digits : List ℕ) (at : ℕ) (map : List ℕ) (p : x 
           reads = λ m a. walk-leaf m w h k x y p q (sym (a _ (owns-centre k x y b)) ∙ put-here v ∙ g) ∙ sym (ap (λ (d : Descent). d .walk) e);
         }
 
+-- ---- descents one after the other
+
+module _ (f : ℕ → List ℕ → Descent) (ds : List ℕ) where
+  more : (n : ℕ) → descents f (suc n) ds ≡ after (f n (descents f n ds .left) .left) (andThen (descents f n ds .walk) (f n (descents f n ds .left) .walk))
+  unfolding descents
+  more n = refl
+
+  -- n of them have been made, and left what is left
+  module _ (n : ℕ) (rest : List ℕ) (left : descents f n ds .left ≡ rest) where
+    pub one-more : descents f (suc n) ds ≡ after (f n rest .left) (andThen (descents f n ds .walk) (f n rest .walk))
+    one-more = more n ∙ ap (λ (d : Descent). after (d .left) (andThen (descents f n ds .walk) (d .walk))) (ap (f n) left)
+
+    next-answer : descents f n ds .walk .answer ≡ Done → descents f (suc n) ds .walk .answer ≡ f n rest .walk .answer
+    next-answer e = ap (λ (d : Descent). d .walk .answer) one-more ∙ ap (λ (v : Walk). v .answer) (onward-done _ _ _ e)
+
+    pub more-done : descents f n ds .walk .answer ≡ Done → f n rest .walk .answer ≡ Done → descents f (suc n) ds .walk .answer ≡ Done
+    more-done e g = next-answer e ∙ g
+
+  -- once one is refused, all are
+  stays : (r : Refusal) (n : ℕ) → descents f n ds .walk .answer ≡ Refused r → (m : ℕ) → descents f (n + m) ds .walk .answer ≡ Refused r
+  stays r n e zero = ap (λ (j : ℕ). descents f j ds .walk .answer) (add-zero n) ∙ e
+  stays r n e (suc m) =
+      ap (λ (j : ℕ). descents f j ds .walk .answer) (add-suc n m)
+      ∙ ap (λ (d : Descent). d .walk .answer) (more (n + m))
+      ∙ ap (λ (v : Walk). v .answer) (onward-stop _ _ _ r (stays r n e m))
+
+  pub more-stop : (n m : ℕ) (rest : List ℕ) (r : Refusal) → n < m → descents f n ds .walk .answer ≡ Done → descents f n ds .left ≡ rest → f n rest .walk .answer ≡ Refused r → descents f m ds .walk .answer ≡ Refused r
+  more-stop n m rest r l e left g =
+      let q : suc n + (m - suc n) ≡ m = omega arith in
+      ap (λ (j : ℕ). descents f j ds .walk .answer) (sym q) ∙ stays r (suc n) (next-answer n rest left e ∙ g) (m - suc n)
+
 -- ---- the parts of a block that is cut, one after the other
 
 -- the first n parts took the digits from `at` to `next`, and made map of map₀
@@ -243,18 +275,12 @@ module _ (w h k x y : ℕ) (digits : List ℕ) (at : ℕ) (map₀ : List ℕ) wh
   unfolding descents inTurn
   parts-none l = record { done = refl; left = refl; within = l; kept = λ p n. refl; reads = λ m a. refl }
 
-  more : (n : ℕ) → descents parts (suc n) (drop at digits) ≡ after (parts n (descents parts n (drop at digits) .left) .left) (andThen (descents parts n (drop at digits) .walk) (parts n (descents parts n (drop at digits) .left) .walk))
-  unfolding descents
-  more n = refl
-
   pub parts-more : (n next next′ : ℕ) (map map′ : List ℕ) → n < 4 → Rooted (suc k) x y → Parts w h k x y digits at map₀ map n next
       → Met w h k (partX k x n) (partY k y n) digits next map map′ next′ → Parts w h k x y digits at map₀ map′ (suc n) next′
   parts-more n next next′ map map′ l b g d =
-      let a = descents parts n (drop at digits) in
-      let z : parts n (a .left) ≡ parts n (drop next digits) = ap (parts n) (g .left) in
-      let e : descents parts (suc n) (drop at digits) ≡ after (parts n (drop next digits) .left) (andThen (a .walk) (parts n (drop next digits) .walk)) = more n ∙ ap (λ (c : Descent). after (c .left) (andThen (a .walk) (c .walk))) z in
+      let e = one-more parts (drop at digits) n (drop next digits) (g .left) in
       record {
-        done = ap (λ (c : Descent). c .walk .answer) e ∙ ap (λ (c : Walk). c .answer) (onward-done _ _ _ (g .done)) ∙ d .done;
+        done = more-done parts (drop at digits) n (drop next digits) (g .left) (g .done) (d .done);
         left = ap (λ (c : Descent). c .left) e ∙ d .left;
         within = d .within;
         kept = λ p f. d .kept p (f n (omega arith)) ∙ g .kept p (λ i r. f i (omega arith));
@@ -267,22 +293,9 @@ module _ (w h k x y : ℕ) (digits : List ℕ) (at : ℕ) (map₀ : List ℕ) wh
       }
 
   -- once a part is refused, the block is
-  stays : (r : Refusal) (n : ℕ) → descents parts n (drop at digits) .walk .answer ≡ Refused r → (m : ℕ) → descents parts (n + m) (drop at digits) .walk .answer ≡ Refused r
-  stays r n e zero = ap (λ (j : ℕ). descents parts j (drop at digits) .walk .answer) (add-zero n) ∙ e
-  stays r n e (suc m) =
-      ap (λ (j : ℕ). descents parts j (drop at digits) .walk .answer) (add-suc n m)
-      ∙ ap (λ (c : Descent). c .walk .answer) (more (n + m))
-      ∙ ap (λ (c : Walk). c .answer) (onward-stop _ _ _ r (stays r n e m))
-
   pub parts-stop : (n next : ℕ) (map : List ℕ) (r : Refusal) → n < 4 → Parts w h k x y digits at map₀ map n next
       → descend w h k (partX k x n) (partY k y n) (drop next digits) .walk .answer ≡ Refused r → descents parts 4 (drop at digits) .walk .answer ≡ Refused r
-  parts-stop n next map r l g d =
-      let a = descents parts n (drop at digits) in
-      let z : parts n (a .left) ≡ parts n (drop next digits) = ap (parts n) (g .left) in
-      let e : descents parts (suc n) (drop at digits) .walk .answer ≡ Refused r =
-      ap (λ (c : Descent). c .walk .answer) (more n) ∙ ap (λ (c : Walk). c .answer) (onward-done _ _ _ (g .done)) ∙ ap (λ (c : Descent). c .walk .answer) z ∙ d in
-      let q : suc n + (3 - n) ≡ 4 = omega arith in
-      ap (λ (j : ℕ). descents parts j (drop at digits) .walk .answer) (sym q) ∙ stays r (suc n) e (3 - n)
+  parts-stop n next map r l g d = more-stop parts (drop at digits) n 4 (drop next digits) r l (g .done) (g .left) d
 
 module _ (w h x y : ℕ) (digits : List ℕ) (at : ℕ) (map : List ℕ) (p : x < w) (q : y < h) (k : ℕ) (b : Rooted (suc k) x y) (long : length map ≡ 1024) (some : at < length digits)
     (v : ℕ) (f : v ≡ getD digits at 0 - 48) (g : v ≡ 1) where

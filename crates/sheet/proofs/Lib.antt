@@ -2,4 +2,5 @@ pub mod Blocks
 pub mod Descents
 pub mod Forms
 pub mod Ladder
+pub mod Pictures
 pub mod Reading

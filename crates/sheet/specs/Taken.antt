@@ -6,8 +6,9 @@ use Prim.Native.Nat.{ℕ, suc, _+_, _-_, _*_, _/_, _%_, _^_, _≤_, _<_}
 use lib.ListN.{length, drop, getD}
 use Rattle.def.specs.declared.Answer.{Answer}
 use Rattle.def.specs.declared.Answer.the-variants.{Done, Refused}
-use Rattle.split.specs.Walk.{walk}
-use Rattle.sheet.specs.Descent.{descend}
+use Rattle.split.specs.Picture.{roots, rootWalk}
+use Rattle.split.specs.Walk.{inTurn, walk}
+use Rattle.sheet.specs.Descent.{descents, descend, rootDescent, pictureDescent}
 use Rattle.sheet.specs.declared.tree.Taken.{Taken}
 use Rattle.sheet.specs.declared.tree.Taken.the-variants.{Done as Took, Refused as NotTaken}
 
@@ -23,8 +24,8 @@ pub record Block (w h x y side level : ℕ) : Type 0 where
   pub power : side ≡ 4 * 2 ^ (4 - level)
   pub right : x % 64 + side ≤ 64
   pub bottom : y % 64 + side ≤ 64
-  pub near : x + side ≤ 512
-  pub near-down : y + side ≤ 512
+  pub near : x + side ≤ 8192
+  pub near-down : y + side ≤ 8192
 
 -- the answer where a leaf is met, or where it is refused
 abbrev pub takenBy : ℕ → Answer → Taken
@@ -53,3 +54,25 @@ pub record Met (w h k x y : ℕ) (digits : List ℕ) (at : ℕ) (map map′ : Li
 abbrev pub Descended : (w h k x y : ℕ) (digits : List ℕ) (at : ℕ) (map map′ : List ℕ) → Taken → Type 0
 Descended w h k x y digits at map map′ (Took next) = Met w h k x y digits at map map′ next
 Descended w h k x y digits at map map′ (NotTaken r) = descend w h k x y (drop at digits) .walk .answer ≡ Refused r
+
+-- ---- a whole picture
+
+-- a sheet's sides: multiples of 4, from 4 to 256
+pub record Sides (w h : ℕ) : Type 0 where
+  pub some-wide : 4 ≤ w
+  pub wide : w ≤ 256
+  pub units-wide : w % 4 ≡ 0
+  pub some-high : 4 ≤ h
+  pub high : h ≤ 256
+  pub units-high : h % 4 ≡ 0
+
+-- the first n roots took the digits up to `next`, and the map is walked as the digits say
+pub record RootsMet (w h : ℕ) (digits map : List ℕ) (n next : ℕ) : Type 0 where
+  pub done : descents (rootDescent w h) n digits .walk .answer ≡ Done
+  pub left : descents (rootDescent w h) n digits .left ≡ drop next digits
+  pub within : next ≤ length digits
+  pub reads : inTurn (rootWalk map w h) n ≡ descents (rootDescent w h) n digits .walk
+
+abbrev pub Pictured : (w h : ℕ) (digits map : List ℕ) → Taken → Type 0
+Pictured w h digits map (Took next) = RootsMet w h digits map (roots w h) next
+Pictured w h digits map (NotTaken r) = pictureDescent w h digits .walk .answer ≡ Refused r

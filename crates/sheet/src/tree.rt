@@ -4,8 +4,9 @@ ghost use mathlib.Core.Bool.{true};
 ghost use Prim.Native.Nat.{_+_, _-_, _*_, _/_, _%_, _≤_, _<_, _^_};
 ghost use lib.ListN.{length};
 ghost use Rattle.sheet.specs.Lines.{binary};
+ghost use Rattle.split.specs.Picture.{roots};
 ghost use Rattle.split.specs.Walk.{leafWalk};
-ghost use Rattle.sheet.specs.Taken.{Block, takenBy, Descended};
+ghost use Rattle.sheet.specs.Taken.{Block, takenBy, Descended, Sides, Pictured};
 use def::Pel;
 use def::Refusal;
 use def::pel2scu;
@@ -18,7 +19,7 @@ pub(crate) enum Taken {
 
 // Where the split byte of the block at (x, y) stands among its root's: by the unit at its centre.
 fn byte_place(x: Pel, y: Pel, side: usize, level: usize) -> usize
-    requires { ⌜ (x .0 ≤ 512) × (y .0 ≤ 512) × (side ≤ 64) × (level < 4) ⌝ }
+    requires { ⌜ (x .0 ≤ 8192) × (y .0 ≤ 8192) × (side ≤ 64) × (level < 4) ⌝ }
     ensures { λ r. ⌜ r ≡ 256 * level + (16 * ((y .0 + side / 2) / 4 % 16) + (x .0 + side / 2) / 4 % 16) ⌝ }
     ensures { λ r. ⌜ r < 1024 ⌝ }
 {
@@ -91,6 +92,33 @@ fn take_block(
             }
         }
         part += 1;
+    }
+    Taken::Done(next)
+}
+
+// The digits of a picture, root by root, put into its map of 1,024 bytes a root.
+pub(crate) fn take_picture(digits: &[u8], w: usize, h: usize, map: &mut [u8]) -> Taken
+    requires { ⌜ Sides w h × (binary (now digits) ≡ true) × (length (now map) ≡ 1024 * roots (w / 4) (h / 4)) ⌝ }
+    ensures { λ r. ⌜ Pictured (w / 4) (h / 4) (now (digits .entry)) (now (map .exit)) r ⌝ }
+{
+    let across = (w + 63) / 64;
+    let count = across * ((h + 63) / 64);
+    let mut next = 0;
+    let mut i = 0;
+    while i < count {
+        let x = Pel(64 * (i % across));
+        let y = Pel(64 * (i / across));
+        let start = 1024 * i;
+        let end = start + 1024;
+        match take_block(digits, next, w, h, x, y, 64, 0, &mut map[start..end]) {
+            Taken::Done(taken) => {
+                next = taken;
+            }
+            Taken::Refused(r) => {
+                return Taken::Refused(r);
+            }
+        }
+        i += 1;
     }
     Taken::Done(next)
 }
