@@ -1,5 +1,7 @@
 pub mod Descent
 pub mod Fields
 pub mod Lines
+pub mod Puts
 pub mod Taken
+pub mod Text
 pub mod Words

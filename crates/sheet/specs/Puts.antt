@@ -1,0 +1,18 @@
+-- What the functions that write a text leave behind.
+-- Assumes nothing: these are definitions.
+use mathlib.Core.List.{List, [], _++_}
+use mathlib.Core.Path.{_≡_}
+use Prim.Native.Nat.{ℕ, zero, suc, _+_, _*_}
+use lib.ListN.{length, getD}
+use lib.Seq.{sets}
+use Rattle.sheet.specs.Text.{placeText}
+
+-- the text stands in the buffer from a place on, and r is the place after it
+pub record Put (text out : List ℕ) (at : ℕ) (out′ : List ℕ) (r : ℕ) : Type 0 where
+  pub count : r ≡ at + length text
+  pub stored : out′ ≡ sets out at text
+
+-- the first n pairs of a list of numbers, each as a place
+unfoldable pub placesText : ℕ → List ℕ → ℕ → List ℕ
+placesText letter l zero = []
+placesText letter l (suc n) = placesText letter l n ++ placeText letter (getD l (2 * n) 0) (getD l (2 * n + 1) 0)
