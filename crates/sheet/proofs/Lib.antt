@@ -1,7 +1,10 @@
 pub mod Blocks
 pub mod Descents
 pub mod Forms
+pub mod Founds
 pub mod Ladder
 pub mod Pictures
 pub mod Puts
 pub mod Reading
+pub mod Room
+pub mod Texts

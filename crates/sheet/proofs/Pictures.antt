@@ -1,6 +1,6 @@
 -- The roots of a picture, one after another, each with its own part of the map.
 --     turn-same                              walks in turn that are the same one by one
---     Grid, grid, root-block                 a root, in luma samples as the code has it
+--     Grid, count-roots, grid, root-block    a root, in luma samples as the code has it
 --     roots-none, roots-more, roots-stop     the roots so far
 -- Assumes nothing.
 use mathlib.Core.Path.{_≡_, refl, sym, ap, ap₂, _∙_, subst}
@@ -43,12 +43,17 @@ pub record Grid (w h a n : ℕ) : Type 0 where
   pub narrow : a ≤ 4
   pub few : n ≤ 16
 
-pub grid : (w h : ℕ) → Sides w h → Grid w h ((w + 63) / 64) ((w + 63) / 64 * ((h + 63) / 64))
-grid w h s =
+pub count-roots : (w h : ℕ) → Sides w h → ((w + 63) / 64 * ((h + 63) / 64) ≡ roots (w / 4) (h / 4)) × ((w + 63) / 64 * ((h + 63) / 64) ≤ 16)
+count-roots w h s =
     let a : (w + 63) / 64 ≡ across (w / 4) = omega arith in
     let b : (h + 63) / 64 ≡ across (h / 4) = omega arith in
     let m : (w + 63) / 64 * ((h + 63) / 64) ≤ 4 * ((h + 63) / 64) = mul-le-mul-right _ (omega arith) in
-    record { sides = s; columns = a; all = ap₂ _*_ a b; some = omega arith; narrow = omega arith; few = omega arith }
+    (ap₂ _*_ a b, omega arith)
+
+pub grid : (w h n : ℕ) → Sides w h → n ≡ roots (w / 4) (h / 4) → n ≤ 16 → Grid w h ((w + 63) / 64) n
+grid w h n s e l =
+    let a : (w + 63) / 64 ≡ across (w / 4) = omega arith in
+    record { sides = s; columns = a; all = e; some = omega arith; narrow = omega arith; few = l }
 
 pub root-block : (w h a n i : ℕ) → Grid w h a n → i < n → Block w h (64 * (i % a)) (64 * (i / a)) 64 0
 root-block w h a n i g l =

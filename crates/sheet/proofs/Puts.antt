@@ -2,7 +2,7 @@
 --     put-none, put-then, put-byte, put-as, put-length, put-start, put-more
 --     decimal-one, decimal-more, decimal-three, decimal-four    a number's digits, and how many
 --     place-put, place-short, count-put, count-short, line-put, line-none, line-length, refused-put, number-small    lines
---     places-none, places-more    the places of a list
+--     places-none, places-more, listing-put    the places of a list, and a whole listing
 -- Assumes nothing.
 use mathlib.Core.Path.{_≡_, refl, sym, ap, ap₂, _∙_, subst}
 use mathlib.Core.Bool.{Bool, true, false}
@@ -20,9 +20,9 @@ use Rattle.laws.specs.Index.{pick}
 use Rattle.def.specs.Refusals.{numberOf}
 use Rattle.def.specs.declared.Refusal.{Refusal}
 use Rattle.def.specs.declared.Refusal.the-variants.{Size, Length, Setting, Split, Leaf, Qp, Sample, Block, Mode, Points, Pivot, Sheet, Record}
-use Rattle.sheet.specs.Puts.{Put, placesText}
+use Rattle.sheet.specs.Puts.{Put, placesText, numbersText}
 use Rattle.sheet.specs.Text.{decimalBy, decimal, placeText, countText, lineText, refusedText}
-use Rattle.sheet.specs.Words.{refusedKey, lineKey}
+use Rattle.sheet.specs.Words.{refusedKey, lineKey, verticalCount, horizontalCount}
 
 sets-append : (vs ws l : List ℕ) (n : ℕ) → sets (sets l n vs) (n + length vs) ws ≡ sets l n (vs ++ ws)
 sets-append [] ws l n = rw add-zero
@@ -170,3 +170,10 @@ pub places-more : (letter : ℕ) (l : List ℕ) {out out₁ out₂ : List ℕ} {
     → Put (placesText letter l n) out at out₁ m → Put (placeText letter x y) out₁ m out₂ r → Put (placesText letter l (n + 1)) out at out₂ r
 unfolding placesText
 places-more letter l n x y e f p q = rw (add-one n) (put-then p (rw (e, f) at q))
+
+-- ---- a whole listing
+
+pub listing-put : (v : List ℕ) (m : ℕ) (h : List ℕ) (n : ℕ) {out out₁ out₂ out₃ out₄ : List ℕ} {at a b c r : ℕ} → Put (placesText 118 v m) out at out₁ a → Put (placesText 104 h n) out₁ a out₂ b
+    → Put (countText verticalCount m) out₂ b out₃ c → Put (countText horizontalCount n) out₃ c out₄ r → Put (numbersText v m h n) out at out₄ r
+unfolding numbersText
+listing-put v m h n p q s t = put-then p (put-then q (put-then s t))

@@ -1,7 +1,7 @@
 -- The text that `edgelist` prints for a sheet.
 -- Assumes nothing: these are definitions.
 use Prim.Native.Nat.{ℕ, zero, suc, _+_, _*_, _/_, _%_}
-use mathlib.Core.Bool.{Bool, _&&_}
+use mathlib.Core.Bool.{Bool}
 use mathlib.Core.List.{List, [], _∷_, _++_}
 use lib.Dec.{leb, ltb, eqb}
 use lib.ListN.{length}
@@ -13,6 +13,7 @@ use Rattle.def.specs.Refusals.{numberOf}
 use Rattle.def.specs.declared.Refusal.{Refusal}
 use Rattle.def.specs.declared.Refusal.the-variants.{Size, Setting, Sheet}
 use Rattle.split.specs.Edges.{Pass, vertical, horizontal, Edge, visitOf, nearEdge}
+use Rattle.split.specs.ListCall.{limitOk}
 use Rattle.split.specs.Walk.{Leaf}
 use Rattle.sheet.specs.Descent.{Descent, pictureDescent}
 use Rattle.sheet.specs.Lines.{firstBad, widthOf, heightOf, limitOf, digitsOf}
@@ -31,9 +32,6 @@ sideTests w h = leb 4 w ∷ leb w 256 ∷ eqb (w % 4) 0 ∷ leb 4 h ∷ leb h 25
 
 unfoldable pub sidesOk : ℕ → ℕ → Bool
 sidesOk w h = allOf (sideTests w h)
-
-abbrev pub limitOk : ℕ → Bool
-limitOk limit = leb 5 limit && leb limit 6
 
 -- a pass's edges, from the leaves in the order of the walk
 abbrev pub edgesOf : Pass → Bool → List Leaf → List Edge

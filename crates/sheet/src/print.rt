@@ -1,8 +1,8 @@
 // The text of a listing, written into a lent buffer from a place on. Each function answers the place after what it wrote.
 ghost use mathlib.Core.Path.{_≡_};
-ghost use Prim.Native.Nat.{ℕ, _+_, _*_, _≤_, _<_};
-ghost use lib.ListN.{length, getD};
-ghost use Rattle.sheet.specs.Puts.{Put, placesText};
+ghost use Prim.Native.Nat.{_+_, _*_, _≤_, _<_};
+ghost use lib.ListN.{length};
+ghost use Rattle.sheet.specs.Puts.{Put, Places, placesText, numbersText};
 ghost use Rattle.sheet.specs.Text.{decimal, placeText, countText, lineText, refusedText};
 use def::Refusal;
 use def::refusal_number;
@@ -74,7 +74,7 @@ fn put_place(out: &mut [u8], at: usize, letter: u8, x: usize, y: usize) -> usize
 
 // The first n places of a list of numbers, two a place.
 fn put_places(out: &mut [u8], at: usize, letter: u8, numbers: &[u16], n: usize) -> usize
-    requires { ⌜ (2 * n ≤ length (now numbers)) × ((i : ℕ) → i < 2 * n → getD (now numbers) i 0 < 1000) × (at + 10 * n ≤ length (now out)) ⌝ }
+    requires { ⌜ Places (now numbers) n × (at + 10 * n ≤ length (now out)) ⌝ }
     ensures { λ r. ⌜ Put (placesText letter (now (numbers .entry)) n) (now (out .entry)) at (now (out .exit)) r × (r ≤ at + 10 * n) ⌝ }
 {
     let mut i = 0;
@@ -103,4 +103,21 @@ fn put_count(out: &mut [u8], at: usize, key: &[u8], n: usize) -> usize
     let end = put_decimal(out, digits, n);
     out[end] = b'\n';
     end + 1
+}
+
+// Both passes' places, and then the counts.
+pub(crate) fn put_listing(
+    out: &mut [u8],
+    vertical: &[u16],
+    m: usize,
+    horizontal: &[u16],
+    n: usize,
+) -> usize
+    requires { ⌜ Places (now vertical) m × Places (now horizontal) n × (10 * m + (10 * n + 26) ≤ length (now out)) × (m < 10000) × (n < 10000) ⌝ }
+    ensures { λ r. ⌜ Put (numbersText (now (vertical .entry)) m (now (horizontal .entry)) n) (now (out .entry)) 0 (now (out .exit)) r ⌝ }
+{
+    let second = put_places(out, 0, b'v', vertical, m);
+    let counts = put_places(out, second, b'h', horizontal, n);
+    let last = put_count(out, counts, b"v_count=", m);
+    put_count(out, last, b"h_count=", n)
 }

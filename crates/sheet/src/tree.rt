@@ -96,13 +96,21 @@ fn take_block(
     Taken::Done(next)
 }
 
+// How many roots cover a picture.
+pub(crate) fn root_count(w: usize, h: usize) -> usize
+    requires { ⌜ Sides w h ⌝ }
+    ensures { λ r. ⌜ (r ≡ roots (w / 4) (h / 4)) × (r ≤ 16) ⌝ }
+{
+    (w + 63) / 64 * ((h + 63) / 64)
+}
+
 // The digits of a picture, root by root, put into its map of 1,024 bytes a root.
 pub(crate) fn take_picture(digits: &[u8], w: usize, h: usize, map: &mut [u8]) -> Taken
     requires { ⌜ Sides w h × (binary (now digits) ≡ true) × (length (now map) ≡ 1024 * roots (w / 4) (h / 4)) ⌝ }
     ensures { λ r. ⌜ Pictured (w / 4) (h / 4) (now (digits .entry)) (now (map .exit)) r ⌝ }
 {
     let across = (w + 63) / 64;
-    let count = across * ((h + 63) / 64);
+    let count = root_count(w, h);
     let mut next = 0;
     let mut i = 0;
     while i < count {

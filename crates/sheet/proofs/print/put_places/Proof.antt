@@ -23,9 +23,9 @@ put-place-requires : tie.Need-put-place-requires Inv-loop μ-loop
 put-place-requires c κs =
     let l = c .before .before .before .before .before .before .loop in
     let s = c .before .before .before .before .before .before .before .before .before in (
-      omega (arith, c .before .before .before .wide .ensures, s .pre .1 (2 * l .i) (omega arith)),
-      omega (arith, c .before .wide2 .ensures, s .pre .1 (2 * l .i + 1) (omega arith)),
-      omega (arith, l .inv .1, l .inv .2, s .pre .2),
+      omega (arith, c .before .before .before .wide .ensures, s .pre .0 .small (2 * l .i) (omega arith)),
+      omega (arith, c .before .wide2 .ensures, s .pre .0 .small (2 * l .i + 1) (omega arith)),
+      omega (arith, l .inv .1, l .inv .2, s .pre .1),
     )
 
 loop-again : tie.Need-loop-again Inv-loop μ-loop

@@ -21,20 +21,17 @@ Inv-loop digits w h map₀ across count next₀ i₀ map next i =
 abbrev μ-loop : tie.MeasureT-loop
 μ-loop digits w h map₀ across count next₀ i₀ map next i = count - i
 
-mul-count : tie.Need-mul-count Inv-loop μ-loop
-mul-count c = omega (arith, grid _ _ (c .before .before .pre .0) .few)
-
 loop-holds : tie.Need-loop-holds Inv-loop μ-loop
 loop-holds c =
-    let p = c .before .before .pre in
-    let g = grid _ _ (p .0) in
+    let p = c .before .before .before .pre in
+    let g = grid _ _ _ (p .0) (c .root-count .ensures .0) (c .root-count .ensures .1) in
     (omega arith, p .2 ∙ ap (λ (n : ℕ). 1024 * n) (sym (g .all)), p .1, g, roots-none _ _ _ _)
 
-mul-x : tie.Need-mul-t19 Inv-loop μ-loop
+mul-x : tie.Need-mul-t18 Inv-loop μ-loop
 mul-x c = let l = c .before .loop in omega (arith, l .inv .3 .narrow, mod-lt (l .i) (l .inv .3 .some))
 
-mul-y : tie.Need-mul-t19-2 Inv-loop μ-loop
-mul-y c = let l = c .before .loop in omega (arith, l .inv .3 .few, div-le-self (l .i) ((c .before .before .before .before .args .w + 63) / 64))
+mul-y : tie.Need-mul-t18-2 Inv-loop μ-loop
+mul-y c = let l = c .before .loop in omega (arith, l .inv .3 .few, div-le-self (l .i) ((c .before .before .before .before .before .args .w + 63) / 64))
 
 take-block-requires : tie.Need-take-block-requires Inv-loop μ-loop
 take-block-requires c κs =
@@ -44,7 +41,7 @@ take-block-requires c κs =
 same-length : tie.Need-same-length Inv-loop μ-loop
 same-length c =
     let l = c .before .before .before .before .before .before .before .before .loop in
-    let p = c .before .before .before .before .before .before .before .before .before .before .before .pre in
+    let p = c .before .before .before .before .before .before .before .before .before .before .before .before .pre in
     let k = c .before .before .before .before .before .take-block in
     same-len-mid (1024 * l .i) (1024 * l .i + 1024 - 1024 * l .i) (l .map) (k .last .1 .1 .1 .1 .1 .1 .1 .1 .0) (k .kept .1 .1 .1 .1 .1 .1 .1 .1 .0) ∙ l .inv .1 ∙ ap (λ (n : ℕ). 1024 * n) (l .inv .3 .all) ∙ sym (p .2)
 
@@ -68,13 +65,13 @@ loop-again c =
 same-length-2 : tie.Need-same-length-2 Inv-loop μ-loop
 same-length-2 c =
     let l = c .before .loop in
-    l .inv .1 ∙ ap (λ (n : ℕ). 1024 * n) (l .inv .3 .all) ∙ sym (c .before .before .before .before .pre .2)
+    l .inv .1 ∙ ap (λ (n : ℕ). 1024 * n) (l .inv .3 .all) ∙ sym (c .before .before .before .before .before .pre .2)
 
 returns-2 : tie.Need-returns-2 Inv-loop μ-loop
 returns-2 c =
     let l = c .before .loop in
     let e : l .i ≡ _ = le-antisymm (l .inv .0) (c .loop-test .left) in
-    let a = c .before .before .before .before .args in
+    let a = c .before .before .before .before .before .args in
     subst (λ (n : ℕ). RootsMet (a .w / 4) (a .h / 4) (a .digits .now) (l .map) n (l .next)) (e ∙ l .inv .3 .all) (l .inv .4)
 
 pub take-picture-spec : {M : Type 1} → statement M
@@ -84,8 +81,7 @@ take-picture-spec =
     Inv-loop
     μ-loop
     (λ c. search needs)
-    (λ c. search needs)
-    mul-count
+    (λ c κs. c .before .before .pre .0)
     loop-holds
     (λ c. search needs)
     mul-x
