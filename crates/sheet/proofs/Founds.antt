@@ -1,9 +1,9 @@
 -- What is found in a sheet, by the ways through the code that prints it.
---     sided                                                   what the test of the sides tells
+--     sided, limit-test                                       the tests of the sides and of the limit
 --     size-no, limit-no, walk-no, left-over, all-listed       the text for the digits of a sheet
 --     Whole, whole-sheet, bad-line, line-small, good-sheet    the text for a sheet, by what its lines say
 -- Assumes nothing.
-use mathlib.Core.Bool.{Bool, true, false}
+use mathlib.Core.Bool.{Bool, true, false, _||_}
 use mathlib.Core.List.{List, [], _∷_}
 use mathlib.Core.Path.{_≡_, refl, sym, ap, ap₂, _∙_, subst}
 use Prim.Native.Nat.{ℕ, zero, suc, _+_, _-_, _*_, _/_, _%_, _≤_, _<_}
@@ -45,6 +45,11 @@ sided w h e =
       high = leb-true h 256 (all-at (sideTests w h) 4 e);
       units-high = eqb-true (h % 4) 0 (all-at (sideTests w h) 5 e);
     }
+
+-- the code's test of the limit
+pub limit-test : (limit : ℕ) → limitOk limit ≡ (eqb limit 5 || eqb limit 6)
+unfolding limitOk
+limit-test limit = refl
 
 -- ---- the digits
 

@@ -3,6 +3,8 @@ pub mod Descents
 pub mod Forms
 pub mod Founds
 pub mod Ladder
+pub mod Lists
+pub mod Outcomes
 pub mod Pictures
 pub mod Puts
 pub mod Reading

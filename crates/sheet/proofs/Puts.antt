@@ -1,5 +1,5 @@
 -- Laws of writing: one text after another, byte by byte, and decimal numbers.
---     put-none, put-then, put-byte, put-as, put-length, put-start, put-more
+--     put-none, put-then, put-byte, put-as, starts-as, put-length, put-start, put-more
 --     decimal-one, decimal-more, decimal-three, decimal-four    a number's digits, and how many
 --     place-put, place-short, count-put, count-short, line-put, line-none, line-length, refused-put, number-small    lines
 --     places-none, places-more, listing-put    the places of a list, and a whole listing
@@ -20,7 +20,7 @@ use Rattle.laws.specs.Index.{pick}
 use Rattle.def.specs.Refusals.{numberOf}
 use Rattle.def.specs.declared.Refusal.{Refusal}
 use Rattle.def.specs.declared.Refusal.the-variants.{Size, Length, Setting, Split, Leaf, Qp, Sample, Block, Mode, Points, Pivot, Sheet, Record}
-use Rattle.sheet.specs.Puts.{Put, placesText, numbersText}
+use Rattle.sheet.specs.Puts.{Put, Starts, placesText, numbersText}
 use Rattle.sheet.specs.Text.{decimalBy, decimal, placeText, countText, lineText, refusedText}
 use Rattle.sheet.specs.Words.{refusedKey, lineKey, verticalCount, horizontalCount}
 
@@ -45,6 +45,9 @@ put-then {s} {t} {out} {out₁} {out₂} {at} {m} {r} p q =
       count = omega (arith, p .count, q .count, length-append s t);
       stored = q .stored ∙ ap₂ (λ (l : List ℕ) (k : ℕ). sets l k t) (p .stored) (p .count) ∙ sets-append s t out at;
     }
+
+pub starts-as : {s t out out′ : List ℕ} {r : ℕ} → s ≡ t → Starts s out out′ r → Starts t out out′ r
+starts-as {out = out} {out′ = out′} {r = r} e p = subst (λ (u : List ℕ). Starts u out out′ r) e p
 
 -- the buffer keeps its length
 pub put-length : {s out : List ℕ} {at : ℕ} {out′ : List ℕ} {r : ℕ} → Put s out at out′ r → length out′ ≡ length out

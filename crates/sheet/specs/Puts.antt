@@ -13,6 +13,11 @@ pub record Put (text out : List ℕ) (at : ℕ) (out′ : List ℕ) (r : ℕ) : 
   pub count : r ≡ at + length text
   pub stored : out′ ≡ sets out at text
 
+-- a text that starts the buffer, and fits it
+pub record Starts (text out out′ : List ℕ) (r : ℕ) : Type 0 where
+  pub put : Put text out 0 out′ r
+  pub fits : r ≤ length out
+
 -- a list has n pairs of numbers, of three digits at most
 pub record Places (l : List ℕ) (n : ℕ) : Type 0 where
   pub long : 2 * n ≤ length l

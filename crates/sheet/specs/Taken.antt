@@ -1,14 +1,19 @@
 -- What the functions that put the digits into a split map ask and leave behind. They work in luma samples, as the walk's do.
 -- Assumes nothing: these are definitions.
+use mathlib.Core.Bool.{true}
 use mathlib.Core.List.{List}
 use mathlib.Core.Path.{_≡_}
 use Prim.Native.Nat.{ℕ, suc, _+_, _-_, _*_, _/_, _%_, _^_, _≤_, _<_}
+use lib.Dec.{eqb}
 use lib.ListN.{length, drop, getD}
 use Rattle.def.specs.declared.Answer.{Answer}
 use Rattle.def.specs.declared.Answer.the-variants.{Done, Refused}
-use Rattle.split.specs.Picture.{roots, rootWalk}
+use Rattle.split.specs.Edges.{vertical, horizontal, edgeList}
+use Rattle.split.specs.ListCall.{limitOk}
+use Rattle.split.specs.Picture.{roots, rootWalk, pictureWalk}
 use Rattle.split.specs.Walk.{inTurn, walk}
 use Rattle.sheet.specs.Descent.{descents, descend, rootDescent, pictureDescent}
+use Rattle.sheet.specs.Text.{listedText}
 use Rattle.sheet.specs.declared.tree.Taken.{Taken}
 use Rattle.sheet.specs.declared.tree.Taken.the-variants.{Done as Took, Refused as NotTaken}
 
@@ -76,3 +81,17 @@ pub record RootsMet (w h : ℕ) (digits map : List ℕ) (n next : ℕ) : Type 0 
 abbrev pub Pictured : (w h : ℕ) (digits map : List ℕ) → Taken → Type 0
 Pictured w h digits map (Took next) = RootsMet w h digits map (roots w h) next
 Pictured w h digits map (NotTaken r) = pictureDescent w h digits .walk .answer ≡ Refused r
+
+-- ---- the map, once it is filled
+
+-- a picture and a map whose walk is not refused
+pub record Walked (w h limit : ℕ) (map : List ℕ) : Type 0 where
+  pub sides : Sides w h
+  pub limited : limitOk limit ≡ true
+  pub long : length map ≡ 1024 * roots (w / 4) (h / 4)
+  pub accepted : pictureWalk map (w / 4) (h / 4) .answer ≡ Done
+
+-- the text of its edges
+abbrev pub edgesText : (w h limit : ℕ) → List ℕ → List ℕ
+edgesText w h limit map =
+    listedText (edgeList vertical (eqb limit 5) map (w / 4) (h / 4)) (edgeList horizontal (eqb limit 5) map (w / 4) (h / 4))

@@ -2,18 +2,15 @@
 ghost use mathlib.Core.Path.{_≡_};
 ghost use mathlib.Core.Bool.{true};
 ghost use Prim.Native.Nat.{_*_, _/_, _≤_};
-ghost use lib.Dec.{eqb};
 ghost use lib.ListN.{length};
-ghost use Rattle.def.specs.declared.Answer.the-variants.{Done};
 ghost use Rattle.laws.specs.Call.{Gives};
-ghost use Rattle.split.specs.Edges.{vertical, horizontal, edgeList};
 ghost use Rattle.split.specs.ListCall.{limitOk};
-ghost use Rattle.split.specs.Picture.{roots, pictureWalk};
+ghost use Rattle.split.specs.Picture.{roots};
 ghost use Rattle.sheet.specs.Lines.{binary};
 ghost use Rattle.sheet.specs.Listing.{readingOf, outcome};
-ghost use Rattle.sheet.specs.Puts.{Put};
-ghost use Rattle.sheet.specs.Taken.{Sides};
-ghost use Rattle.sheet.specs.Text.{sidesOk, foundOf, listedText, printed, textOf};
+ghost use Rattle.sheet.specs.Puts.{Starts};
+ghost use Rattle.sheet.specs.Taken.{Walked, edgesText};
+ghost use Rattle.sheet.specs.Text.{sidesOk, foundOf, printed, textOf};
 
 mod lines;
 mod print;
@@ -27,6 +24,8 @@ use crate::tree::Taken;
 use crate::tree::root_count;
 use crate::tree::take_picture;
 use def::Refusal;
+use split::Listed;
+use split::list_edges;
 
 // How many bytes the text has.
 pub enum Printed {
@@ -48,12 +47,52 @@ fn map_room() -> [u8; 16384]
     [0u8; 16384]
 }
 
-// The edges of a picture whose walk is not refused.
-fn print_edges(w: usize, h: usize, limit: usize, map: &[u8], out: &mut [u8]) -> usize
-    requires { ⌜ Sides w h × (limitOk limit ≡ true) × (length (now map) ≡ 1024 * roots (w / 4) (h / 4)) × (pictureWalk (now map) (w / 4) (h / 4) .answer ≡ Done) × (length (now out) ≡ 81920) ⌝ }
-    ensures { λ r. ⌜ Put (listedText (edgeList vertical (eqb limit 5) (now (map .entry)) (w / 4) (h / 4)) (edgeList horizontal (eqb limit 5) (now (map .entry)) (w / 4) (h / 4))) (now (out .entry)) 0 (now (out .exit)) r ⌝ }
+// A pass's edges of the largest picture: two numbers a unit.
+fn numbers_room() -> [u16; 8192]
+    ensures { λ r. ⌜ 8192 ≡ length r ⌝ }
 {
-    0
+    [0u16; 8192]
+}
+
+// The edges of a picture whose walk is not refused, listed into two buffers and then printed.
+fn print_lists(
+    w: usize,
+    h: usize,
+    limit: usize,
+    map: &[u8],
+    vertical: &mut [u16],
+    horizontal: &mut [u16],
+    out: &mut [u8],
+) -> usize
+    requires { ⌜ Walked w h limit (now map) × (length (now vertical) ≡ 2 * (w / 4 * (h / 4))) × (length (now horizontal) ≡ 2 * (w / 4 * (h / 4))) × (length (now out) ≡ 81920) ⌝ }
+    ensures { λ r. ⌜ Starts (edgesText w h limit (now (map .entry))) (now (out .entry)) (now (out .exit)) r ⌝ }
+{
+    match list_edges(w, h, map, limit as u8, vertical, horizontal) {
+        // none of the call's tests fails here
+        Listed::Refused(r) => put_refusal(out, r, 0),
+        Listed::Done {
+            vertical: m,
+            horizontal: n,
+        } => put_listing(out, vertical, m, horizontal, n),
+    }
+}
+
+fn print_edges(w: usize, h: usize, limit: usize, map: &[u8], out: &mut [u8]) -> usize
+    requires { ⌜ Walked w h limit (now map) × (length (now out) ≡ 81920) ⌝ }
+    ensures { λ r. ⌜ Starts (edgesText w h limit (now (map .entry))) (now (out .entry)) (now (out .exit)) r ⌝ }
+{
+    let n = 2 * (w / 4 * (h / 4));
+    let mut vertical = numbers_room();
+    let mut horizontal = numbers_room();
+    print_lists(
+        w,
+        h,
+        limit,
+        map,
+        &mut vertical[..n],
+        &mut horizontal[..n],
+        out,
+    )
 }
 
 // The digits of a sheet whose size and limit pass: what the walk meets, digits left over, or the edges. `map` is room for the split bytes.
@@ -66,7 +105,7 @@ fn print_tree(
     out: &mut [u8],
 ) -> usize
     requires { ⌜ (sidesOk w h ≡ true) × (limitOk limit ≡ true) × (binary (now digits) ≡ true) × (length (now map) ≡ 1024 * roots (w / 4) (h / 4)) × (length (now out) ≡ 81920) ⌝ }
-    ensures { λ r. ⌜ Put (printed (foundOf w h limit (now (digits .entry)))) (now (out .entry)) 0 (now (out .exit)) r ⌝ }
+    ensures { λ r. ⌜ Starts (printed (foundOf w h limit (now (digits .entry)))) (now (out .entry)) (now (out .exit)) r ⌝ }
 {
     match take_picture(digits, w, h, map) {
         Taken::Refused(r) => put_refusal(out, r, 5),
@@ -82,7 +121,7 @@ fn print_tree(
 // The digits of a sheet, after its size and its limit.
 fn print_digits(digits: &[u8], w: usize, h: usize, limit: usize, out: &mut [u8]) -> usize
     requires { ⌜ (binary (now digits) ≡ true) × (length (now out) ≡ 81920) ⌝ }
-    ensures { λ r. ⌜ Put (printed (foundOf w h limit (now (digits .entry)))) (now (out .entry)) 0 (now (out .exit)) r ⌝ }
+    ensures { λ r. ⌜ Starts (printed (foundOf w h limit (now (digits .entry)))) (now (out .entry)) (now (out .exit)) r ⌝ }
 {
     if !sides_ok(w, h) {
         return put_refusal(out, Refusal::Size, 0);
@@ -98,7 +137,7 @@ fn print_digits(digits: &[u8], w: usize, h: usize, limit: usize, out: &mut [u8])
 // A sheet: the first line that is malformed, or its digits.
 fn print_sheet(input: &[u8], out: &mut [u8]) -> usize
     requires { ⌜ length (now out) ≡ 81920 ⌝ }
-    ensures { λ r. ⌜ Put (textOf (now (input .entry))) (now (out .entry)) 0 (now (out .exit)) r ⌝ }
+    ensures { λ r. ⌜ Starts (textOf (now (input .entry))) (now (out .entry)) (now (out .exit)) r ⌝ }
 {
     match read(input) {
         Sheet::Malformed(line) => put_refusal(out, Refusal::Sheet, line),

@@ -2,7 +2,7 @@
 ghost use mathlib.Core.Path.{_≡_};
 ghost use Prim.Native.Nat.{_+_, _*_, _≤_, _<_};
 ghost use lib.ListN.{length};
-ghost use Rattle.sheet.specs.Puts.{Put, Places, placesText, numbersText};
+ghost use Rattle.sheet.specs.Puts.{Put, Starts, Places, placesText, numbersText};
 ghost use Rattle.sheet.specs.Text.{decimal, placeText, countText, lineText, refusedText};
 use def::Refusal;
 use def::refusal_number;
@@ -48,7 +48,7 @@ fn put_line(out: &mut [u8], at: usize, number: usize, line: usize) -> usize
 // A refusal alone.
 pub(crate) fn put_refusal(out: &mut [u8], r: Refusal, line: usize) -> usize
     requires { ⌜ (line < 10000) × (32 ≤ length (now out)) ⌝ }
-    ensures { λ n. ⌜ Put (refusedText r line) (now (out .entry)) 0 (now (out .exit)) n ⌝ }
+    ensures { λ n. ⌜ Starts (refusedText r line) (now (out .entry)) (now (out .exit)) n ⌝ }
 {
     let number = refusal_number(r) as usize;
     let digits = put_bytes(out, 0, b"refused=");
@@ -114,7 +114,7 @@ pub(crate) fn put_listing(
     n: usize,
 ) -> usize
     requires { ⌜ Places (now vertical) m × Places (now horizontal) n × (10 * m + (10 * n + 26) ≤ length (now out)) × (m < 10000) × (n < 10000) ⌝ }
-    ensures { λ r. ⌜ Put (numbersText (now (vertical .entry)) m (now (horizontal .entry)) n) (now (out .entry)) 0 (now (out .exit)) r ⌝ }
+    ensures { λ r. ⌜ Starts (numbersText (now (vertical .entry)) m (now (horizontal .entry)) n) (now (out .entry)) (now (out .exit)) r ⌝ }
 {
     let second = put_places(out, 0, b'v', vertical, m);
     let counts = put_places(out, second, b'h', horizontal, n);

@@ -1,25 +1,14 @@
+-- `sheet::listing` meets its contract. Assumes nothing.
 use borrow.Author.Needs.{needs}
+use Rattle.sheet.proofs.Outcomes.{buffer-no, printed-whole}
 use Rattle.sheet.proofs.listing.Statement.{statement}
 use Rattle.sheet.proofs.listing.Tie as tie
-use Rattle.sheet.proofs.listing.Reads as reads
-use Rattle.sheet.proofs.listing.Lts as lts
-use Rattle.sheet.proofs.print_sheet.Reads as print-sheet-reads
 
--- src/lib.rt:106:9
 returns : tie.Need-returns
-returns c = ?
+returns c = buffer-no _ _ (c .if1 .taken)
 
--- src/lib.rt:108:19
-print-sheet-requires : tie.Need-print-sheet-requires
-print-sheet-requires c κs = search needs
-
--- src/lib.rt:100:1
-same-length : tie.Need-same-length
-same-length c = search needs
-
--- src/lib.rt:100:1
 returns-2 : tie.Need-returns-2
-returns-2 c = ?
+returns-2 c = printed-whole _ _ _ _ (c .before .before .before .before .if1 .left) (c .before .before .print-sheet .ensures)
 
 pub listing-spec : {M : Type 1} → statement M
-listing-spec = tie.close (tie.spec returns print-sheet-requires same-length returns-2)
+listing-spec = tie.close (tie.spec returns (λ c κs. search needs) (λ c. search needs) returns-2)

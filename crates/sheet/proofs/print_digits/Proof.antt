@@ -1,90 +1,56 @@
+-- `sheet::print_digits` meets its contract: the size, the limit, or what the digits say. Assumes nothing.
+use mathlib.Core.Bool.{true}
+use mathlib.Core.Path.{_≡_, refl, sym, ap, _∙_}
+use Prim.Native.Nat.{ℕ, _*_, _≤_}
+use native.Mathlib.Omega.{arith}
 use borrow.Author.Needs.{needs}
+use borrow.Author.Tests.{not-true, not-false}
+use lib.ListN.{length}
+use lib.Seq.{length-take-le}
+use Rattle.sheet.specs.Text.{sidesOk}
+use Rattle.sheet.proofs.Founds.{sided, limit-test, size-no, limit-no}
+use Rattle.sheet.proofs.Puts.{starts-as}
 use Rattle.sheet.proofs.print_digits.Statement.{statement}
 use Rattle.sheet.proofs.print_digits.Tie as tie
-use Rattle.sheet.proofs.print_digits.Reads as reads
-use Rattle.sheet.proofs.print_digits.Lts as lts
-use Rattle.sheet.proofs.map_room.Reads as map-room-reads
-use Rattle.sheet.proofs.print.put_refusal.Reads as put-refusal-reads
-use Rattle.sheet.proofs.print_tree.Reads as print-tree-reads
-use Rattle.sheet.proofs.sides_ok.Reads as sides-ok-reads
-use Rattle.sheet.proofs.tree.root_count.Reads as root-count-reads
 
--- src/lib.rt:80:9
-sides-ok-requires : tie.Need-sides-ok-requires
-sides-ok-requires c κs = search needs
+-- the sides passed
+sides : (c : tie.Else1) → let a = c .before .before .before .before .args in sidesOk (a .w) (a .h) ≡ true
+sides c = sym (c .before .sides-ok .ensures) ∙ not-false _ (c .if1 .left)
 
--- src/lib.rt:81:9
-put-refusal-requires : tie.Need-put-refusal-requires
-put-refusal-requires c κs = search needs
+-- the map has room for the roots
+room : (c : tie.After-map-room) → 1024 * c .before .root-count .result ≤ length (c .map-room .result)
+room c = omega (arith, c .before .root-count .ensures .1, c .map-room .ensures)
 
--- src/lib.rt:81:9
-same-length : tie.Need-same-length
-same-length c = search needs
-
--- src/lib.rt:81:9
 returns : tie.Need-returns
-returns c = ?
+returns c = starts-as (size-no _ _ _ _ (sym (c .before .before .before .before .before .sides-ok .ensures) ∙ not-true _ (c .before .before .before .before .if1 .taken))) (c .before .before .put-refusal .ensures)
 
--- src/lib.rt:84:9
-put-refusal-requires-2 : tie.Need-put-refusal-requires-2
-put-refusal-requires-2 c κs = search needs
-
--- src/lib.rt:84:9
-same-length-2 : tie.Need-same-length-2
-same-length-2 c = search needs
-
--- src/lib.rt:84:9
 returns-2 : tie.Need-returns-2
-returns-2 c = ?
+returns-2 c = starts-as (limit-no _ _ _ _ (sides (c .before .before .before .before .before)) (limit-test _ ∙ not-true _ (c .before .before .before .before .if2 .taken))) (c .before .before .put-refusal2 .ensures)
 
--- src/lib.rt:86:20
 root-count-requires : tie.Need-root-count-requires
-root-count-requires c κs = ?
+root-count-requires c κs = sided _ _ (sides (c .before))
 
--- src/lib.rt:86:13
-mul-n : tie.Need-mul-n
-mul-n c = search needs
-
--- src/lib.rt:87:19
-map-room-requires : tie.Need-map-room-requires
-map-room-requires c κs = search needs
-
--- src/lib.rt:88:37
-array-borrow-prefix-map : tie.Need-array-borrow-prefix-map
-array-borrow-prefix-map c = search needs
-
--- src/lib.rt:88:37
-slice-aggregate-print-tree : tie.Need-slice-aggregate-print-tree
-slice-aggregate-print-tree c = ?
-
--- src/lib.rt:88:5
 print-tree-requires : tie.Need-print-tree-requires
-print-tree-requires c κs = ?
-
--- src/lib.rt:76:1
-same-length-3 : tie.Need-same-length-3
-same-length-3 c = search needs
-
--- src/lib.rt:76:1
-returns-3 : tie.Need-returns-3
-returns-3 c = search needs
+print-tree-requires c κs =
+    let p = c .before .before .before .before .before .before .before .before .before .pre in
+    (sides (c .before .before .before .before .before), limit-test _ ∙ not-false _ (c .before .before .before .before .if2 .left), p .0, length-take-le _ _ (room (c .before .before)) ∙ ap (λ (n : ℕ). 1024 * n) (c .before .before .before .root-count .ensures .0), p .1)
 
 pub print-digits-spec : {M : Type 1} → statement M
 print-digits-spec =
     tie.close
     (tie.spec
-    sides-ok-requires
-    put-refusal-requires
-    same-length
+    (λ c κs. search needs)
+    (λ c κs. search needs)
+    (λ c. search needs)
     returns
-    put-refusal-requires-2
-    same-length-2
+    (λ c κs. search needs)
+    (λ c. search needs)
     returns-2
     root-count-requires
-    mul-n
-    map-room-requires
-    array-borrow-prefix-map
-    slice-aggregate-print-tree
+    (λ c. search needs)
+    (λ c κs. search needs)
+    room
+    (λ c. sym (length-take-le _ _ (room (c .before))))
     print-tree-requires
-    same-length-3
-    returns-3)
+    (λ c. search needs)
+    (λ c. search needs))

@@ -1,73 +1,52 @@
+-- `sheet::print_sheet` meets its contract: a malformed line, or digits that follow five good lines. Assumes nothing.
+use mathlib.Core.Path.{_≡_, sym, _∙_}
+use native.Mathlib.Omega.{arith}
 use borrow.Author.Needs.{needs}
+use Rattle.sheet.proofs.Founds.{Whole, whole-sheet, good-sheet, bad-line}
+use Rattle.sheet.proofs.Puts.{starts-as}
 use Rattle.sheet.proofs.print_sheet.Statement.{statement}
 use Rattle.sheet.proofs.print_sheet.Tie as tie
-use Rattle.sheet.proofs.print_sheet.Reads as reads
-use Rattle.sheet.proofs.print_sheet.Lts as lts
-use Rattle.sheet.proofs.lines.read.Reads as read-reads
-use Rattle.sheet.proofs.print.put_refusal.Reads as put-refusal-reads
-use Rattle.sheet.proofs.print_digits.Reads as print-digits-reads
 
--- src/lib.rt:87:11
-read-requires : tie.Need-read-requires
-read-requires c κs = search needs
+-- what the five lines say
+told : (c : tie.After-known-told2) → let g = c .before .w .given .0 in Whole (c .before .before .before .before .before .before .args .input .now) (g .0) (g .1 .0) (g .1 .1 .0) (g .1 .1 .1 .0) (g .1 .1 .1 .1 .0)
+told c = whole-sheet _ _ _ _ _ _ (sym (c .before .before .before .read .ensures) ∙ c .before .w .given .1)
 
--- src/lib.rt:88:26
-enum-known-line : tie.Need-enum-known-line
-enum-known-line c = search needs
-
--- src/lib.rt:88:35
 put-refusal-requires : tie.Need-put-refusal-requires
-put-refusal-requires c κs = ?
+put-refusal-requires c κs =
+    let m = bad-line _ _ (sym (c .before .before .before .before .read .ensures) ∙ c .before .before .line .given .1) in
+    (omega (arith, m .0), omega (arith, c .before .before .before .before .before .before .before .pre))
 
--- src/lib.rt:90:13
-enum-known-w : tie.Need-enum-known-w
-enum-known-w c = search needs
-
--- src/lib.rt:95:27
 sub-print-digits : tie.Need-sub-print-digits
-sub-print-digits c = ?
+sub-print-digits c = told c .ordered
 
--- src/lib.rt:95:27
 part-print-digits-start : tie.Need-part-print-digits-start
-part-print-digits-start c = ?
+part-print-digits-start c = told c .ordered
 
--- src/lib.rt:95:27
 part-print-digits-end : tie.Need-part-print-digits-end
-part-print-digits-end c = ?
+part-print-digits-end c = told c .inside
 
--- src/lib.rt:95:14
 print-digits-requires : tie.Need-print-digits-requires
-print-digits-requires c κs = ?
+print-digits-requires c κs = (told (c .before .before) .two, c .before .before .before .before .before .before .before .before .pre)
 
--- src/lib.rt:83:1
-same-length : tie.Need-same-length
-same-length c = search needs
-
--- src/lib.rt:83:1
 returns : tie.Need-returns
-returns c = ?
+returns c = starts-as (bad-line _ _ (sym (c .before .before .before .before .before .before .before .read .ensures) ∙ c .before .before .before .before .before .line .given .1) .1) (c .before .before .put-refusal .ensures)
 
--- src/lib.rt:83:1
-same-length-2 : tie.Need-same-length-2
-same-length-2 c = search needs
-
--- src/lib.rt:83:1
 returns-2 : tie.Need-returns-2
-returns-2 c = ?
+returns-2 c = starts-as (good-sheet _ _ _ _ _ _ (told (c .before .before .before .before .before))) (c .before .before .print-digits .ensures)
 
 pub print-sheet-spec : {M : Type 1} → statement M
 print-sheet-spec =
     tie.close
     (tie.spec
-    read-requires
-    enum-known-line
+    (λ c κs. search needs)
+    (λ c. search needs)
     put-refusal-requires
-    enum-known-w
+    (λ c. search needs)
     sub-print-digits
     part-print-digits-start
     part-print-digits-end
     print-digits-requires
-    same-length
+    (λ c. search needs)
     returns
-    same-length-2
+    (λ c. search needs)
     returns-2)

@@ -1,88 +1,65 @@
+-- `sheet::print_tree` meets its contract: a refusal of the walk, digits left over, or the edges. Assumes nothing.
+use mathlib.Core.Path.{_≡_, sym, subst, _∙_}
+use Prim.Native.Nat.{_/_}
 use borrow.Author.Needs.{needs}
+use Rattle.split.specs.Picture.{roots}
+use Rattle.sheet.specs.Taken.{Pictured, RootsMet}
+use Rattle.sheet.proofs.Founds.{sided, walk-no, left-over, walked, all-listed}
+use Rattle.sheet.proofs.Puts.{starts-as}
 use Rattle.sheet.proofs.print_tree.Statement.{statement}
 use Rattle.sheet.proofs.print_tree.Tie as tie
-use Rattle.sheet.proofs.print_tree.Reads as reads
-use Rattle.sheet.proofs.print_tree.Lts as lts
-use Rattle.sheet.proofs.print.put_refusal.Reads as put-refusal-reads
-use Rattle.sheet.proofs.print_edges.Reads as print-edges-reads
-use Rattle.sheet.proofs.tree.take_picture.Reads as take-picture-reads
 
--- src/lib.rt:64:11
+-- where the digits were taken: the map is walked as they say
+met : (c : tie.After-known-told2) → let a = c .before .before .before .before .before .before .before .before .before .before .args in RootsMet (a .w / 4) (a .h / 4) (a .digits .now) (c .before .before .before .before .before .take-picture .last .1 .1 .1 .0) (roots (a .w / 4) (a .h / 4)) (c .before .next .given .0 .0)
+met c =
+    let a = c .before .before .before .before .before .before .before .before .before .before .args in
+    subst (Pictured (a .w / 4) (a .h / 4) (a .digits .now) (c .before .before .before .before .before .take-picture .last .1 .1 .1 .0)) (c .before .next .given .1) (c .before .before .before .before .before .take-picture .ensures)
+
 take-picture-requires : tie.Need-take-picture-requires
-take-picture-requires c κs = ?
+take-picture-requires c κs = let p = c .before .before .before .before .pre in (sided _ _ (p .0), p .2, p .3)
 
--- src/lib.rt:65:24
-enum-known-r : tie.Need-enum-known-r
-enum-known-r c = search needs
-
--- src/lib.rt:65:30
-put-refusal-requires : tie.Need-put-refusal-requires
-put-refusal-requires c κs = search needs
-
--- src/lib.rt:66:21
-enum-known-next : tie.Need-enum-known-next
-enum-known-next c = search needs
-
--- src/lib.rt:68:17
-put-refusal-requires-2 : tie.Need-put-refusal-requires-2
-put-refusal-requires-2 c κs = search needs
-
--- src/lib.rt:68:17
-same-length : tie.Need-same-length
-same-length c = search needs
-
--- src/lib.rt:68:17
-same-length-2 : tie.Need-same-length-2
-same-length-2 c = search needs
-
--- src/lib.rt:68:17
 returns : tie.Need-returns
-returns c = ?
+returns c =
+    let k = c .before .before .before .before .before in
+    let p = k .before .before .before .before .before .before .before .before .before .before .pre in
+    starts-as (left-over _ _ _ _ (p .0) (p .1) _ _ (met k) (c .before .before .before .before .if1 .taken)) (c .before .before .put-refusal2 .ensures)
 
--- src/lib.rt:70:13
 print-edges-requires : tie.Need-print-edges-requires
-print-edges-requires c κs = ?
+print-edges-requires c κs =
+    let k = c .before .before .before in
+    let p = k .before .before .before .before .before .before .before .before .before .before .pre in
+    (record { sides = sided _ _ (p .0); limited = p .1; long = k .before .before .before .before .before .take-picture .kept .1 .1 .1 .0 ∙ p .3; accepted = walked _ _ _ _ (p .0) (p .1) _ _ (met k) }, p .4)
 
--- src/lib.rt:60:1
-same-length-3 : tie.Need-same-length-3
-same-length-3 c = search needs
-
--- src/lib.rt:60:1
-same-length-4 : tie.Need-same-length-4
-same-length-4 c = search needs
-
--- src/lib.rt:60:1
 returns-2 : tie.Need-returns-2
-returns-2 c = ?
+returns-2 c =
+    let s = c .before .before .before .before .before .before .before .before .before .before .before .before .before .before in
+    let t = c .before .before .before .before .before .before .before .before .before .take-picture in
+    starts-as
+    (walk-no _ _ _ _ (s .pre .0) (s .pre .1) _ (subst (Pictured (s .args .w / 4) (s .args .h / 4) (s .args .digits .now) (t .last .1 .1 .1 .0)) (c .before .before .before .before .before .r .given .1) (t .ensures)))
+    (c .before .before .put-refusal .ensures)
 
--- src/lib.rt:60:1
-same-length-5 : tie.Need-same-length-5
-same-length-5 c = search needs
-
--- src/lib.rt:60:1
-same-length-6 : tie.Need-same-length-6
-same-length-6 c = search needs
-
--- src/lib.rt:60:1
 returns-3 : tie.Need-returns-3
-returns-3 c = ?
+returns-3 c =
+    let k = c .before .before .before .before .before .before in
+    let p = k .before .before .before .before .before .before .before .before .before .before .pre in
+    starts-as (all-listed _ _ _ _ (p .0) (p .1) _ _ (met k) (c .before .before .before .before .before .if1 .left)) (c .before .before .print-edges .ensures)
 
 pub print-tree-spec : {M : Type 1} → statement M
 print-tree-spec =
     tie.close
     (tie.spec
     take-picture-requires
-    enum-known-r
-    put-refusal-requires
-    enum-known-next
-    put-refusal-requires-2
-    same-length
-    same-length-2
+    (λ c. search needs)
+    (λ c κs. search needs)
+    (λ c. search needs)
+    (λ c κs. search needs)
+    (λ c. search needs)
+    (λ c. search needs)
     returns
     print-edges-requires
-    same-length-3
-    same-length-4
+    (λ c. search needs)
+    (λ c. search needs)
     returns-2
-    same-length-5
-    same-length-6
+    (λ c. search needs)
+    (λ c. search needs)
     returns-3)

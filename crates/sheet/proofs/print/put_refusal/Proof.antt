@@ -34,7 +34,11 @@ returns : tie.Need-returns
 returns c =
     let b = c .before .before .before .before .before .before .before .before .before .before in
     let s = b .before .before .before .before .before in
-    refused-put (s .args .r) (s .args .line) (b .before .before .before .refusal-number .ensures) (b .put-bytes .ensures) (c .before .before .before .before .before .before .put-decimal .ensures) (c .before .before .put-line .ensures)
+    let f = second (c .before .before) in
+    record {
+      put = refused-put (s .args .r) (s .args .line) (b .before .before .before .refusal-number .ensures) (b .put-bytes .ensures) (c .before .before .before .before .before .before .put-decimal .ensures) (c .before .before .put-line .ensures);
+      fits = omega (arith, f .room, f .same);
+    }
 
 pub put-refusal-spec : {M : Type 1} → statement M
 put-refusal-spec =
