@@ -4,6 +4,7 @@ pub mod Forms
 pub mod Founds
 pub mod Ladder
 pub mod Lists
+pub mod Once
 pub mod Outcomes
 pub mod Pictures
 pub mod Puts
