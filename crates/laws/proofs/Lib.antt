@@ -1,5 +1,6 @@
 pub mod Bits
 pub mod Calls
+pub mod Counting
 pub mod Differences
 pub mod Fill
 pub mod Flat
