@@ -1,4 +1,6 @@
 pub mod Answers
 pub mod Blocks
+pub mod Ladders
+pub mod Sides
 pub mod Sizes
 pub mod Words

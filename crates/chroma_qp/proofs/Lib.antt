@@ -1,0 +1,14 @@
+pub mod Bytes
+pub mod Checks
+pub mod Clipped
+pub mod Examples
+pub mod Filled
+pub mod Fits
+pub mod Offsets
+pub mod Once
+pub mod Outcomes
+pub mod Parts
+pub mod Pivots
+pub mod Points
+pub mod Promises
+pub mod Tables

@@ -1,0 +1,41 @@
+-- QPs by their index in the table, 12 more than they are: sums, differences and orders of QPs are those of the indices.
+-- Assumes nothing.
+use mathlib.Core.Path.{_≡_, sym, ap, _∙_}
+use mathlib.Core.Bool.{true}
+use Prim.Native.Nat.{ℕ, _+_, _-_, _≤_}
+use native.Mathlib.Omega.{arith}
+use borrow.Author.Tests.{leb-true, le-leb}
+use lib.Dec.{leb}
+use lib.IntN.{ℤ, pos, _+ℤ_, _-ℤ_}
+use lib.Signed.{leZ}
+use Rattle.laws.proofs.Differences.{diff-same, diff-add, diff-sub, diff-le, diff-none, as-diff, leb-alike}
+use Rattle.chroma_qp.specs.Mapping.{qpAt}
+
+pub qp-add : (k n : ℕ) → qpAt k +ℤ pos n ≡ qpAt (k + n)
+unfolding qpAt
+qp-add k n = ap (λ (z : ℤ). (pos k -ℤ pos 12) +ℤ z) (diff-none n) ∙ diff-add k 12 n 0
+
+pub qp-sub : (k l : ℕ) → qpAt k -ℤ qpAt l ≡ pos k -ℤ pos l
+unfolding qpAt
+qp-sub k l = diff-sub k 12 l 12 ∙ diff-same (k + 12) (12 + l) k l (omega arith)
+
+pub qp-le : (k l : ℕ) → leZ (qpAt k) (qpAt l) ≡ leb k l
+unfolding qpAt
+qp-le k l = diff-le k 12 l 12 ∙ leb-alike (k + 12) (l + 12) k l (λ h. (omega arith)) (λ h. (omega arith))
+
+-- a number that n more takes past 140 is a QP's
+pub qp-of : (q : ℕ) → 128 ≤ q → pos q -ℤ pos 140 ≡ qpAt (q - 128)
+unfolding qpAt
+qp-of q h = diff-same q 140 (q - 128) 12 (omega arith)
+
+-- what is at most a number is at most one that is larger
+pub le-more : (z w : ℤ) (n : ℕ) → leZ z w ≡ true → leZ z (w +ℤ pos n) ≡ true
+le-more z w n =
+    as-diff (λ z. leZ z w ≡ true → leZ z (w +ℤ pos n) ≡ true)
+    (λ a b.
+    as-diff (λ w. leZ (pos a -ℤ pos b) w ≡ true → leZ (pos a -ℤ pos b) (w +ℤ pos n) ≡ true)
+    (λ c d e.
+    let h : a + d ≤ c + b = leb-true (a + d) (c + b) (sym (diff-le a b c d) ∙ e) in
+    rw (diff-none n, diff-add c d n 0, diff-le a b (c + n) (d + 0)) (le-leb (a + (d + 0)) (c + n + b) (omega arith)))
+    w)
+    z

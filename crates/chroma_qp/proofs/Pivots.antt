@@ -1,0 +1,176 @@
+-- Pivots as the code holds them, and the entries that stand at them and between them.
+--     Held, held-first, in-next, held-next     a pivot's in, held as 12 more, and its out, held as 140 more, which may be out of range
+--     pivot-test, tested     the code's test of them
+--     Reached, reached-first, reached-next     a pivot in range, with its entry
+--     at-below, at-between, settled, at-past   the table's entries
+-- Assumes nothing.
+use mathlib.Core.Path.{_≡_, sym, ap, _∙_}
+use mathlib.Core.Bool.{true, _&&_}
+use mathlib.Core.List.{[], _∷_}
+use Prim.Native.Nat.{ℕ, zero, suc, _+_, _-_, _*_, _≤_, _<_}
+use native.Mathlib.Nat.{add-suc, add-zero}
+use native.Mathlib.Omega.{arith}
+use borrow.Author.Tests.{leb-true, le-leb, lt-leb}
+use lib.Dec.{leb}
+use lib.IntN.{ℤ, pos, negsuc, _+ℤ_, _-ℤ_, +ℤ-assoc}
+use lib.Signed.{leZ}
+use Rattle.laws.proofs.Calls.{all-at}
+use Rattle.laws.proofs.Differences.{diff-add, diff-le, diff-abs, leb-alike}
+use Rattle.chroma_qp.specs.Derived.{pivotOk}
+use Rattle.chroma_qp.specs.Held.{heldBelow, heldBetween, heldPast}
+use Rattle.chroma_qp.specs.Mapping.{Points, aAt, bAt, qpAt, inOf, outOf, below, past, upTo, lastOf, mapped}
+use Rattle.chroma_qp.proofs.Clipped.{below-held, past-held}
+use Rattle.chroma_qp.proofs.Offsets.{qp-add, qp-sub, qp-le, qp-of, le-more}
+use Rattle.chroma_qp.proofs.Parts.{entry-most, end-least, end-most, between-held}
+
+module _ (s : ℤ) (p : Points) where
+  pub record Held (j i q : ℕ) : Type 0 where
+    pub in-is : inOf s p j ≡ qpAt i
+    pub out-is : outOf s p j ≡ pos q -ℤ pos 140
+
+  pub held-first : (k x y : ℕ) → s ≡ qpAt k → aAt p 0 ≡ pos x → bAt p 0 ≡ pos y -ℤ pos 128 → Held 0 (k + x) (k + x + y)
+  unfolding inOf outOf qpAt
+  held-first k x y e f g =
+      let h : s +ℤ aAt p 0 ≡ qpAt (k + x) = ap (λ (z : ℤ). z +ℤ aAt p 0) e ∙ ap (λ (z : ℤ). qpAt k +ℤ z) f ∙ qp-add k x in
+      record { in-is = h; out-is = ap (λ (z : ℤ). z +ℤ bAt p 0) h ∙ ap (λ (z : ℤ). qpAt (k + x) +ℤ z) g ∙ diff-add (k + x) 12 y 128 }
+
+  module _ (j i x : ℕ) (at-in : inOf s p j ≡ qpAt i) (at-a : aAt p (suc j) ≡ pos x) where
+    pub in-next : inOf s p (suc j) ≡ qpAt (i + (x + 1))
+    unfolding inOf
+    in-next = ap (λ (z : ℤ). z +ℤ (aAt p (suc j) +ℤ pos 1)) at-in ∙ ap (λ (z : ℤ). qpAt i +ℤ (z +ℤ pos 1)) at-a ∙ qp-add i (x + 1)
+
+    pub held-next : (o y : ℕ) → outOf s p j ≡ qpAt o → bAt p (suc j) ≡ pos y -ℤ pos 128 → Held (suc j) (i + (x + 1)) (o + (x + 1) + y)
+    unfolding outOf qpAt
+    held-next o y at-out g =
+        record {
+          in-is = in-next;
+          out-is =
+              ap (λ (z : ℤ). z +ℤ (aAt p (suc j) +ℤ pos 1 +ℤ bAt p (suc j))) at-out
+              ∙ ap (λ (z : ℤ). qpAt o +ℤ (z +ℤ pos 1 +ℤ bAt p (suc j))) at-a
+              ∙ ap (λ (z : ℤ). qpAt o +ℤ (pos (x + 1) +ℤ z)) g
+              ∙ sym (+ℤ-assoc (qpAt o) (pos (x + 1)) (pos y -ℤ pos 128))
+              ∙ ap (λ (z : ℤ). z +ℤ (pos y -ℤ pos 128)) (qp-add o (x + 1))
+              ∙ diff-add (o + (x + 1)) 12 y 128;
+        }
+
+  -- the code's test of a pivot
+  pub pivot-test : (j i q : ℕ) → Held j i q → (leb i 69 && leb 128 q && leb q 197) ≡ pivotOk s p j
+  unfolding pivotOk qpAt
+  pivot-test j i q h =
+      rw (
+        h .in-is,
+        h .out-is,
+        diff-le 0 12 i 12,
+        diff-le i 12 69 12,
+        diff-le 0 12 q 140,
+        diff-le q 140 69 12,
+        le-leb 12 (i + 12) (omega arith),
+        leb-alike (i + 12) 81 i 69 (λ r. (omega arith)) (λ r. (omega arith)),
+        leb-alike 140 (q + 12) 128 q (λ r. (omega arith)) (λ r. (omega arith)),
+        leb-alike (q + 12) 209 q 197 (λ r. (omega arith)) (λ r. (omega arith)),
+      )
+
+  -- what a pivot that passes is
+  pub record Tested (j i q : ℕ) : Type 0 where
+    pub in-most : i ≤ 69
+    pub out-least : 128 ≤ q
+    pub out-most : q ≤ 197
+    pub out-is : outOf s p j ≡ qpAt (q - 128)
+
+  pub tested : (j i q : ℕ) → Held j i q → pivotOk s p j ≡ true → Tested j i q
+  tested j i q h e =
+      let tests = leb i 69 ∷ leb 128 q ∷ leb q 197 ∷ [] in
+      let all : (leb i 69 && leb 128 q && leb q 197) ≡ true = pivot-test j i q h ∙ e in
+      let low : 128 ≤ q = leb-true 128 q (all-at tests 1 all) in
+      record {
+        in-most = leb-true i 69 (all-at tests 0 all);
+        out-least = low;
+        out-most = leb-true q 197 (all-at tests 2 all);
+        out-is = h .out-is ∙ qp-of q low;
+      }
+
+  -- ---- a pivot in range, and the entry at its in: never below its out, and above it by at most half of what lies below the in
+  pub record Reached (j i o v : ℕ) : Type 0 where
+    pub in-is : inOf s p j ≡ qpAt i
+    pub out-is : outOf s p j ≡ qpAt o
+    pub entry-is : upTo s p j (qpAt i) ≡ qpAt v
+    pub in-most : i ≤ 69
+    pub out-most : o ≤ 69
+    pub least : o ≤ v
+    pub most : 2 * v ≤ 2 * o + i
+
+  -- the entries up to pivot 0
+  pub at-below : (i o k : ℕ) → inOf s p 0 ≡ qpAt i → outOf s p 0 ≡ qpAt o → o ≤ 69 → k ≤ i → upTo s p 0 (qpAt k) ≡ qpAt (heldBelow i o k)
+  unfolding upTo
+  at-below i o k e f h q =
+      rw (e, f, qp-sub i k, diff-abs i k)
+      (ap (below (qpAt o)) (omega arith) ∙ below-held i o k h q)
+
+  pub reached-first : (i o : ℕ) → inOf s p 0 ≡ qpAt i → outOf s p 0 ≡ qpAt o → i ≤ 69 → o ≤ 69 → Reached 0 i o o
+  unfolding heldBelow
+  reached-first i o e f h k =
+      record {
+        in-is = e;
+        out-is = f;
+        entry-is = at-below i o i e f k (omega arith) ∙ ap qpAt (omega arith);
+        in-most = h;
+        out-most = k;
+        least = omega arith;
+        most = omega arith;
+      }
+
+  -- the entries of the part that starts at pivot j
+  module _ (j i o v : ℕ) (r : Reached j i o v) (x u : ℕ) (at-a : aAt p (suc j) ≡ pos x) (at-out : outOf s p (suc j) ≡ qpAt u) where
+    pub at-between : (m : ℕ) → 0 < m → m ≤ x + 1 → upTo s p (suc j) (qpAt (i + m)) ≡ qpAt (heldBetween v o u (x + 1) m)
+    unfolding upTo
+    at-between m h q =
+        rw (r .in-is, at-a, at-out, r .out-is, r .entry-is, qp-le (i + m) i, lt-leb (i + m) i (omega arith))
+        (between-held i v o u (x + 1) m (omega arith) q (r .least))
+
+    pub between-most : (m : ℕ) → m ≤ x + 1 → u ≤ 69 → i + (x + 1) ≤ 69 → heldBetween v o u (x + 1) m ≤ 103
+    between-most m q h k = entry-most i v o u (x + 1) (omega arith) (r .least) (r .most) m q k (r .out-most) h
+
+    pub reached-next : i + (x + 1) ≤ 69 → u ≤ 69 → Reached (suc j) (i + (x + 1)) u (heldBetween v o u (x + 1) (x + 1))
+    reached-next h k =
+        record {
+          in-is = in-next j i x (r .in-is) at-a;
+          out-is = at-out;
+          entry-is = at-between (x + 1) (omega arith) (omega arith);
+          in-most = h;
+          out-most = k;
+          least = end-least i v o u (x + 1) (omega arith) (r .least) (r .most);
+          most = end-most i v o u (x + 1) (omega arith) (r .least) (r .most);
+        }
+
+  -- ---- the table's entries are those up to each pivot
+
+  -- of every a that counts, it is known that it is not below 0
+  module _ (rises : (j : ℕ) → suc j < p .count → leZ (pos 0) (aAt p (suc j)) ≡ true) where
+    climbs : (z : ℤ) (j d : ℕ) → j + d < p .count → leZ z (inOf s p j) ≡ true → leZ z (inOf s p (j + d)) ≡ true
+    unfolding inOf
+    climbs z j zero h e = rw (add-zero j) e
+    climbs z j (suc d) h e =
+        rw (add-suc j d)
+        (step (aAt p (suc (j + d))) (rises (j + d) (omega arith)) (climbs z j d (omega arith) e)) where
+          step : (a : ℤ) → leZ (pos 0) a ≡ true → leZ z (inOf s p (j + d)) ≡ true → leZ z (inOf s p (j + d) +ℤ (a +ℤ pos 1)) ≡ true
+          step (pos x) f g = le-more z (inOf s p (j + d)) (x + 1) g
+          step (negsuc x) f g = cc
+
+    kept : (z : ℤ) (j d : ℕ) → j + d < p .count → leZ z (inOf s p j) ≡ true → upTo s p (j + d) z ≡ upTo s p j z
+    unfolding upTo
+    kept z j zero h e = rw (add-zero j)
+    kept z j (suc d) h e = rw (add-suc j d, climbs z j d (omega arith) e) (kept z j d (omega arith) e)
+
+    pub settled : (j i k : ℕ) → j < p .count → inOf s p j ≡ qpAt i → k ≤ i → mapped s p (qpAt k) ≡ upTo s p j (qpAt k)
+    unfolding mapped
+    settled j i k h e q =
+        let d = p .count - 1 - j in
+        let last : lastOf p ≡ j + d = omega arith in
+        let at : leZ (qpAt k) (inOf s p j) ≡ true = ap (leZ (qpAt k)) e ∙ qp-le k i ∙ le-leb k i q in
+        rw (last, climbs (qpAt k) j d (omega arith) at) (kept (qpAt k) j d (omega arith) at)
+
+  pub at-past : (i o v m : ℕ) → Reached (lastOf p) i o v → 0 < m → mapped s p (qpAt (i + m)) ≡ qpAt (heldPast v m)
+  unfolding mapped
+  at-past i o v m r h =
+      rw (r .in-is, r .entry-is, qp-le (i + m) i, lt-leb (i + m) i (omega arith), qp-sub (i + m) i, diff-abs (i + m) i)
+      (ap (past (qpAt v)) (omega arith) ∙ past-held v m h)

@@ -1,0 +1,106 @@
+-- A table made from its points as `fill` does: up to the first pivot, then part by part, then past the last.
+--     first-range, next-range     the pivots' numbers, as they are held, are in range
+--     Made, made-first, made-next, made-all     the table up to a pivot
+-- Assumes nothing.
+use mathlib.Core.Path.{_≡_, refl, sym, ap, _∙_, subst}
+use mathlib.Core.Bool.{true}
+use mathlib.Core.List.{List}
+use Prim.Native.Nat.{ℕ, suc, _+_, _-_, _<_}
+use native.Mathlib.Nat.{zero-add}
+use native.Mathlib.Omega.{arith}
+use lib.IntN.{ℤ, pos, _-ℤ_}
+use lib.ListN.{length}
+use lib.Signed.{leZ}
+use Rattle.laws.specs.Plane.{withRow}
+use Rattle.laws.proofs.Scans.{scan-at}
+use Rattle.chroma_qp.specs.Derived.{pivotOk, pivotsOk}
+use Rattle.chroma_qp.specs.Held.{heldBelow, heldBetween, heldPast, Checked}
+use Rattle.chroma_qp.specs.Mapping.{Points, aAt, bAt, qpAt, lastOf, mapped, tableOf}
+use Rattle.chroma_qp.proofs.Filled.{Filled, filled-none, filled-row, filled-all}
+use Rattle.chroma_qp.proofs.Pivots.{Held, held-first, held-next, Tested, tested, Reached, reached-first, reached-next, at-below, at-between, at-past, settled}
+use Rattle.chroma_qp.proofs.Points.{countable}
+
+pub passes : (s : ℤ) (p : Points) → pivotsOk s p ≡ true → (j : ℕ) → j < p .count → pivotOk s p j ≡ true
+unfolding pivotsOk
+passes s p e j h = scan-at (pivotOk s p) (p .count) j h e
+
+module _ (s : ℕ) (p : Points) where
+  -- the entries of the whole table
+  abbrev pub entry : ℕ → ℤ
+  entry k = mapped (qpAt s) p (qpAt k)
+
+  -- t is right up to pivot j, whose in, out and entry are held as i, o and v
+  pub record Made (t : List ℤ) (i o v j : ℕ) : Type 0 where
+    pub within : j < p .count
+    pub reached : Reached (qpAt s) p j i o v
+    pub filled : Filled entry t (i + 1)
+
+module _ (s : ℕ) (p : Points) (ok : Checked s p) where
+  rises : (j : ℕ) → suc j < p .count → leZ (pos 0) (aAt p (suc j)) ≡ true
+  rises j h = countable (p .count) (p .a) (ok .counted .points) .not-below (suc j) h
+
+  -- ---- the first pivot
+  module _ (x y : ℕ) (at-a : aAt p 0 ≡ pos x) (at-b : bAt p 0 ≡ pos y -ℤ pos 128) where
+    held-0 : Held (qpAt s) p 0 (s + x) (s + x + y)
+    held-0 = held-first (qpAt s) p s x y refl at-a at-b
+
+    pub first-range : Tested (qpAt s) p 0 (s + x) (s + x + y)
+    first-range = tested (qpAt s) p 0 (s + x) (s + x + y) held-0 (passes (qpAt s) p (ok .pivots) 0 (countable (p .count) (p .a) (ok .counted .points) .some))
+
+    pub made-first : (t : List ℤ) → length t ≡ 70 → Made s p (withRow (pos 0) 0 (s + x + 1) (λ (k : ℕ). qpAt (heldBelow (s + x) (s + x + y - 128) k)) t) (s + x) (s + x + y - 128) (s + x + y - 128) 0
+    made-first t e =
+        let some = countable (p .count) (p .a) (ok .counted .points) .some in
+        record {
+          within = some;
+          reached = reached-first (qpAt s) p (s + x) (s + x + y - 128) (held-0 .in-is) (first-range .out-is) (first-range .in-most) (omega (arith, first-range .out-most));
+          filled =
+              subst (Filled (entry s p) _) (zero-add (s + x + 1))
+              (filled-row (entry s p) t 0 (s + x + 1) _ (omega (arith, first-range .in-most)) (λ c h. right c h) (filled-none (entry s p) t e));
+        } where
+          right : (c : ℕ) → c < s + x + 1 → qpAt (heldBelow (s + x) (s + x + y - 128) c) ≡ entry s p (0 + c)
+          right c h =
+              sym
+              (ap (entry s p) (zero-add c) ∙ settled (qpAt s) p rises 0 (s + x) c (countable (p .count) (p .a) (ok .counted .points) .some) (held-0 .in-is) (omega arith)
+              ∙ at-below (qpAt s) p (s + x) (s + x + y - 128) c (held-0 .in-is) (first-range .out-is) (omega (arith, first-range .out-most)) (omega arith))
+
+  -- ---- a pivot, and the next
+  module _ (t : List ℤ) (i o v j : ℕ) (m : Made s p t i o v j) where
+    module _ (x y : ℕ) (h : suc j < p .count) (at-a : aAt p (suc j) ≡ pos x) (at-b : bAt p (suc j) ≡ pos y -ℤ pos 128) where
+      held-1 : Held (qpAt s) p (suc j) (i + (x + 1)) (o + (x + 1) + y)
+      held-1 = held-next (qpAt s) p j i x (m .reached .in-is) at-a o y (m .reached .out-is) at-b
+
+      pub next-range : Tested (qpAt s) p (suc j) (i + (x + 1)) (o + (x + 1) + y)
+      next-range = tested (qpAt s) p (suc j) (i + (x + 1)) (o + (x + 1) + y) held-1 (passes (qpAt s) p (ok .pivots) (suc j) h)
+
+      pub made-next :
+          Made s p (withRow (pos 0) (i + 1) (x + 1) (λ (k : ℕ). qpAt (heldBetween v o (o + (x + 1) + y - 128) (x + 1) (k + 1))) t)
+          (i + (x + 1)) (o + (x + 1) + y - 128) (heldBetween v o (o + (x + 1) + y - 128) (x + 1) (x + 1)) (suc j)
+      made-next =
+          let r = next-range in
+          record {
+            within = h;
+            reached = reached-next (qpAt s) p j i o v (m .reached) x (o + (x + 1) + y - 128) at-a (r .out-is) (r .in-most) (omega (arith, r .out-most));
+            filled =
+                subst (Filled (entry s p) _) (omega arith)
+                (filled-row (entry s p) t (i + 1) (x + 1) _ (omega (arith, r .in-most)) (λ c q. right c q) (m .filled));
+          } where
+            right : (c : ℕ) → c < x + 1 → qpAt (heldBetween v o (o + (x + 1) + y - 128) (x + 1) (c + 1)) ≡ entry s p (i + 1 + c)
+            right c q =
+                let e : i + 1 + c ≡ i + (c + 1) = omega arith in
+                sym
+                (ap (entry s p) e ∙ settled (qpAt s) p rises (suc j) (i + (x + 1)) (i + (c + 1)) h (held-1 .in-is) (omega arith)
+                ∙ at-between (qpAt s) p j i o v (m .reached) x (o + (x + 1) + y - 128) at-a (next-range .out-is) (c + 1) (omega arith) (omega arith))
+
+    -- ---- past the last
+    pub made-all : j ≡ lastOf p → withRow (pos 0) (i + 1) (69 - i) (λ (k : ℕ). qpAt (heldPast v (k + 1))) t ≡ tableOf (qpAt s) p
+    unfolding tableOf
+    made-all e =
+        filled-all (entry s p) _ (i + 1 + (69 - i)) (omega (arith, m .reached .in-most))
+        (filled-row (entry s p) t (i + 1) (69 - i) _ (omega (arith, m .reached .in-most)) (λ c h. right c) (m .filled)) where
+          last : Reached (qpAt s) p (lastOf p) i o v
+          last = rw e at (m .reached)
+
+          right : (c : ℕ) → qpAt (heldPast v (c + 1)) ≡ entry s p (i + 1 + c)
+          right c =
+              let f : i + 1 + c ≡ i + (c + 1) = omega arith in
+              sym (ap (entry s p) f ∙ at-past (qpAt s) p i o v (c + 1) last (omega arith))

@@ -1,0 +1,128 @@
+-- `chroma_qp::fill` meets its contract: the table is made up to one pivot after the other. Assumes nothing.
+use Prim.Native.Nat.{suc, _+_, _-_}
+use mathlib.Core.Path.{sym, _∙_}
+use native.Mathlib.Numerals.{add-one}
+use native.Mathlib.Omega.{arith}
+use denote.Ref.{now}
+use Rattle.chroma_qp.specs.Mapping.{Points, qpAt}
+use Rattle.chroma_qp.proofs.Pivots.{Tested}
+use Rattle.chroma_qp.proofs.Points.{countable}
+use Rattle.chroma_qp.proofs.Tables.{Made, first-range, made-first, next-range, made-next, made-all}
+use Rattle.chroma_qp.proofs.fill.Statement.{statement}
+use Rattle.chroma_qp.proofs.fill.Tie as tie
+
+abbrev Inv-loop : tie.InvT-loop
+Inv-loop t₀ s count a b qp-in₀ qp-out₀ v₀ j₀ t qp-in qp-out v j =
+    Made s (record { count = count; a = a; b = b }) t qp-in qp-out v j
+
+abbrev μ-loop : tie.MeasureT-loop
+μ-loop t₀ s count a b qp-in₀ qp-out₀ v₀ j₀ t qp-in qp-out v j = count - j
+
+-- the points of a call
+abbrev points : tie.Start Inv-loop μ-loop → Points
+points c = record { count = c .args .count; a = now (c .args .a); b = now (c .args .b) }
+
+delta-in-requires : tie.Need-delta-in-requires Inv-loop μ-loop
+delta-in-requires c κs = let k = countable _ _ (c .pre .1 .counted .points) in (omega (arith, c .pre .1 .counted .a-long), k .not-below 0 (k .some))
+
+add-qp-in : tie.Need-add-qp-in Inv-loop μ-loop
+add-qp-in c = omega (arith, c .before .pre .1 .counted .start)
+
+delta-out-requires : tie.Need-delta-out-requires Inv-loop μ-loop
+delta-out-requires c κs = omega (arith, c .before .pre .1 .counted .b-long)
+
+add-qp-out : tie.Need-add-qp-out Inv-loop μ-loop
+add-qp-out c = omega (arith, c .before .before .pre .1 .counted .start)
+
+-- pivot 0 is in range
+first : (c : tie.After-delta-out Inv-loop μ-loop) → let at = c .before .before in let i = at .args .s + c .before .delta-in .result in Tested (qpAt (at .args .s)) (points at) 0 i (i + c .delta-out .result)
+first c = first-range _ _ (c .before .before .pre .1) _ _ (c .before .delta-in .ensures .0) (c .delta-out .ensures .0)
+
+sub-qp-out : tie.Need-sub-qp-out Inv-loop μ-loop
+sub-qp-out c = first c .out-least
+
+fill-below-requires : tie.Need-fill-below-requires Inv-loop μ-loop
+fill-below-requires c κs = let r = first (c .before) in (c .before .before .before .pre .0, r .in-most, omega (arith, r .out-most))
+
+loop-holds : tie.Need-loop-holds Inv-loop μ-loop
+loop-holds c =
+    let at = c .before .before .before .before .before in
+    rw (c .before .fill-below .ensures) (made-first _ _ (at .pre .1) _ _ (c .before .before .before .before .delta-in .ensures .0) (c .before .before .before .delta-out .ensures .0) _ (at .pre .0))
+
+add-loop : tie.Need-add-loop Inv-loop μ-loop
+add-loop c = omega (arith, c .loop .inv .within)
+
+add-j : tie.Need-add-j Inv-loop μ-loop
+add-j c = omega arith
+
+delta-in-requires-2 : tie.Need-delta-in-requires-2 Inv-loop μ-loop
+delta-in-requires-2 c κs =
+    let at = c .before .before .before .before .before .before .before in
+    let k = countable _ _ (at .pre .1 .counted .points) in
+    (omega (arith, k .most, at .pre .1 .counted .a-long), k .not-below _ (c .loop-test .taken))
+
+add-n : tie.Need-add-n Inv-loop μ-loop
+add-n c = omega arith
+
+add-next : tie.Need-add-next Inv-loop μ-loop
+add-next c = omega (arith, c .before .before .loop .inv .reached .out-most)
+
+delta-out-requires-2 : tie.Need-delta-out-requires-2 Inv-loop μ-loop
+delta-out-requires-2 c κs =
+    let at = c .before .before .before .before .before .before .before .before in
+    omega (arith, countable _ _ (at .pre .1 .counted .points) .most, at .pre .1 .counted .b-long)
+
+add-next-2 : tie.Need-add-next-2 Inv-loop μ-loop
+add-next-2 c = omega (arith, c .before .before .before .loop .inv .reached .out-most)
+
+-- the next pivot is in range
+next : (c : tie.After-delta-out2 Inv-loop μ-loop) → let at = c .before .before .before .before .before .before .before .before .before in let l = c .before .before .before .loop in let n = c .before .delta-in2 .result + 1 in Tested (qpAt (at .args .s)) (points at) (suc (l .j)) (l .qp-in + n) (l .qp-out + n + c .delta-out2 .result)
+next c =
+    let l = c .before .before .before .loop in
+    next-range _ _ (c .before .before .before .before .before .before .before .before .before .pre .1) _ _ _ _ _ (l .inv) _ _ (omega arith) (rw (add-one (l .j)) at (c .before .delta-in2 .ensures .0)) (rw (add-one (l .j)) at (c .delta-out2 .ensures .0))
+
+sub-next : tie.Need-sub-next Inv-loop μ-loop
+sub-next c = next c .out-least
+
+fill-between-requires : tie.Need-fill-between-requires Inv-loop μ-loop
+fill-between-requires c κs =
+    let m = c .before .before .before .before .loop .inv in
+    let r = next (c .before) in
+    (m .filled .long, r .in-most, omega arith, omega (arith, m .reached .least), omega (arith, m .reached .most), m .reached .out-most, omega (arith, r .out-most))
+
+between-requires : tie.Need-between-requires Inv-loop μ-loop
+between-requires c κs =
+    let m = c .before .before .before .before .before .before .loop .inv in
+    let r = next (c .before .before .before) in
+    omega (arith, m .reached .in-most, m .reached .least, m .reached .most, m .reached .out-most, r .in-most, r .out-most)
+
+add-qp-in-2 : tie.Need-add-qp-in-2 Inv-loop μ-loop
+add-qp-in-2 c = omega (arith, next (c .before .before .before .before) .in-most)
+
+loop-less : tie.Need-loop-less Inv-loop μ-loop
+loop-less c = omega (arith, c .before .before .before .before .before .before .loop-test .taken)
+
+loop-again : tie.Need-loop-again Inv-loop μ-loop
+loop-again c =
+    let l = c .before .before .before .before .before .before .before .loop in
+    let two = c .before .before .before .before in
+    rw (c .before .before .fill-between .ensures, c .between .ensures, add-one (l .j))
+    (made-next _ _ (c .before .before .before .before .before .before .before .before .before .before .before .before .before .pre .1) _ _ _ _ _ (l .inv) _ _ (omega arith) (rw (add-one (l .j)) at (two .before .delta-in2 .ensures .0)) (rw (add-one (l .j)) at (two .delta-out2 .ensures .0)))
+
+fill-past-requires : tie.Need-fill-past-requires Inv-loop μ-loop
+fill-past-requires c κs = let m = c .before .before .loop .inv in (m .filled .long, m .reached .in-most, omega (arith, m .reached .in-most, m .reached .most, m .reached .out-most))
+
+same-length : tie.Need-same-length Inv-loop μ-loop
+same-length c = c .before .fill-past .kept .0 ∙ c .before .before .before .before .loop .inv .filled .long ∙ sym (c .before .before .before .before .before .before .before .before .before .before .pre .0)
+
+returns : tie.Need-returns Inv-loop μ-loop
+returns c =
+    let l = c .before .before .before .before .loop in
+    c .before .fill-past .ensures ∙ made-all _ _ (c .before .before .before .before .before .before .before .before .before .before .pre .1) _ _ _ _ _ (l .inv) (omega (arith, l .inv .within))
+
+pub fill-spec : {M : Type 1} → statement M
+fill-spec =
+    tie.close
+    (tie.spec Inv-loop μ-loop delta-in-requires add-qp-in delta-out-requires add-qp-out sub-qp-out fill-below-requires loop-holds add-loop add-j
+    delta-in-requires-2 add-n add-next delta-out-requires-2 add-next-2 sub-next fill-between-requires between-requires add-qp-in-2 loop-less loop-again
+    fill-past-requires same-length returns)

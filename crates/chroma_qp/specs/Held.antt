@@ -1,0 +1,31 @@
+-- How the code counts: the start, an in, an out and an entry are held as 12 more than they are, and so none is below 0. `qpAt` gives what is held.
+-- Each entry is shown to be what Mapping says (proofs/Parts, proofs/Clipped). Assumes nothing: these are definitions.
+use Prim.Native.Nat.{ℕ, _+_, _-_, _*_, _/_, _≤_, min}
+use mathlib.Core.Path.{_≡_}
+use mathlib.Core.Bool.{true}
+use lib.ListN.{length}
+use Rattle.chroma_qp.specs.Derived.{pointsOk, pivotsOk}
+use Rattle.chroma_qp.specs.Mapping.{Points, qpAt}
+
+-- the entry at k, up to the first pivot's in, where its out stands
+unfoldable pub heldBelow : (qpIn qpOut k : ℕ) → ℕ
+heldBelow qpIn qpOut k = qpOut + k - qpIn
+
+-- the entry m past one of v, on the way from a pivot's out to that of the next, n entries on
+unfoldable pub heldBetween : (v from to n m : ℕ) → ℕ
+heldBetween v from to n m = v + (to * m + n / 2 - from * m) / n - (from * m - (to * m + n / 2)) / n
+
+-- the entry m past the last pivot's, v
+unfoldable pub heldPast : (v m : ℕ) → ℕ
+heldPast v m = min (v + m) 69
+
+-- what has been checked of a table's points: their count and their a, and then their pivots
+pub record Counted (s : ℕ) (p : Points) : Type 0 where
+  pub start : s ≤ 28
+  pub a-long : length (p .a) ≡ 58
+  pub b-long : length (p .b) ≡ 58
+  pub points : pointsOk (p .count) (p .a) ≡ true
+
+pub record Checked (s : ℕ) (p : Points) : Type 0 where
+  pub counted : Counted s p
+  pub pivots : pivotsOk (qpAt s) p ≡ true

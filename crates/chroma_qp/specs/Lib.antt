@@ -1,0 +1,3 @@
+pub mod Derived
+pub mod Held
+pub mod Mapping

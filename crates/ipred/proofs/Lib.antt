@@ -1,0 +1,7 @@
+pub mod Dc
+pub mod Numbers
+pub mod Once
+pub mod Outcomes
+pub mod Promises
+pub mod Rows
+pub mod Sums

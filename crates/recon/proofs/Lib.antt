@@ -1,0 +1,7 @@
+pub mod Checks
+pub mod Lengths
+pub mod Once
+pub mod Outcomes
+pub mod Promises
+pub mod Residuals
+pub mod Rows

@@ -1,0 +1,25 @@
+-- `replay_chroma_qp::one` is safe: as many elements as were read are lent. Assumes nothing.
+use borrow.Author.Needs.{needs}
+use Rattle.cases.proofs.Fills.{part-long}
+use Rattle.replay_chroma_qp.proofs.one.Statement.{statement}
+use Rattle.replay_chroma_qp.proofs.one.Tie as tie
+
+slice-aggregate-tables : tie.Need-slice-aggregate-tables
+slice-aggregate-tables c = let p = c .before .before .before .before .before .before .before .before .before .before .before .before .before .before in part-long _ _ _ _ (p .slice-i8 .ensures .len) (p .slice-i8 .kept .1 .1 .0)
+
+slice-aggregate-tables-2 : tie.Need-slice-aggregate-tables-2
+slice-aggregate-tables-2 c = let p = c .before .before .before .before .before .before .before .before .before .before .before .before in part-long _ _ _ _ (p .slice-i82 .ensures .len) (p .slice-i82 .kept .1 .1 .0)
+
+slice-aggregate-tables-3 : tie.Need-slice-aggregate-tables-3
+slice-aggregate-tables-3 c = let p = c .before .before .before .before .before .before .before .before .before in part-long _ _ _ _ (p .slice-i83 .ensures .len) (p .slice-i83 .kept .1 .1 .0)
+
+slice-aggregate-tables-4 : tie.Need-slice-aggregate-tables-4
+slice-aggregate-tables-4 c = let p = c .before .before .before .before .before .before .before in part-long _ _ _ _ (p .slice-i84 .ensures .len) (p .slice-i84 .kept .1 .1 .0)
+
+pub one-spec : {M : Type 1} → statement M
+one-spec =
+    tie.close
+    (tie.spec (λ c κs. search needs) (λ c κs. search needs) (λ c κs. search needs) (λ c. search needs) (λ c κs. search needs)
+    (λ c. search needs) (λ c κs. search needs) (λ c κs. search needs) (λ c. search needs) (λ c κs. search needs) (λ c. search needs)
+    (λ c κs. search needs) (λ c. search needs) slice-aggregate-tables (λ c. search needs) slice-aggregate-tables-2 (λ c. search needs)
+    slice-aggregate-tables-3 (λ c. search needs) slice-aggregate-tables-4 (λ c κs. search needs) (λ c. search needs))

@@ -1,0 +1,36 @@
+-- What the test of samples tells, and when it passes.
+--     sample-at    of a list that passes, each sample is at most 1023
+--     sample-any    the same at every place, since past the end there is 0
+--     one-of-two    either of two samples is one
+--     samples-pass    a list each of whose samples is at most 1023 passes
+-- Assumes nothing.
+use Prim.Native.Nat.{ℕ, _≤_, _<_}
+use mathlib.Core.Path.{_≡_}
+use mathlib.Core.Bool.{Bool, true, false}
+use mathlib.Core.List.{List}
+use native.Mathlib.Decide.{decLt}
+use native.Mathlib.Omega.{arith}
+use borrow.Author.Tests.{leb-true, le-leb}
+use lib.ListN.{length, getD, List·getD-eq-default}
+use Rattle.laws.specs.Index.{pick}
+use Rattle.laws.proofs.Scans.{scan-at}
+use Rattle.laws.proofs.ScanAll.{scan-pass}
+use Rattle.samples.specs.Samples.{samplesOk, sampleOk}
+
+pub sample-at : (p : List ℕ) (k : ℕ) → samplesOk p ≡ true → k < length p → getD p k 0 ≤ 1023
+unfolding samplesOk
+sample-at p k e h = leb-true (getD p k 0) 1023 (scan-at (λ (i : ℕ). sampleOk (getD p i 0)) (length p) k h e)
+
+pub sample-any : (p : List ℕ) (k : ℕ) → samplesOk p ≡ true → getD p k 0 ≤ 1023
+sample-any p k e = go (decLt k (length p)) where
+  go : Dec (k < length p) → getD p k 0 ≤ 1023
+  go (yes h) = sample-at p k e h
+  go (no h) = let out : length p ≤ k = omega arith in omega (arith, List·getD-eq-default p 0 out)
+
+pub one-of-two : (b : Bool) (x y : ℕ) → x ≤ 1023 → y ≤ 1023 → pick b x y ≤ 1023
+one-of-two true x y p q = p
+one-of-two false x y p q = q
+
+pub samples-pass : (p : List ℕ) → ((k : ℕ) → k < length p → getD p k 0 ≤ 1023) → samplesOk p ≡ true
+unfolding samplesOk
+samples-pass p f = scan-pass _ (length p) (λ k h. le-leb (getD p k 0) 1023 (f k h))

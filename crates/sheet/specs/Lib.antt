@@ -1,0 +1,8 @@
+pub mod Descent
+pub mod Fields
+pub mod Lines
+pub mod Listing
+pub mod Puts
+pub mod Taken
+pub mod Text
+pub mod Words

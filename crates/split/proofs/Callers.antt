@@ -1,0 +1,95 @@
+-- What a caller learns from the contracts of `leaves` and `check`.
+--     check-told    a picture that `check` does not refuse is accepted
+--     leaves-told    a list that `leaves` filled reads back as the root's leaves
+--     leaves-given    of an accepted picture `leaves` refuses no root
+--     index-back    the number of the root at the place of root i is i
+-- Assumes nothing.
+use mathlib.Core.Bool.{true}
+use mathlib.Core.List.{List}
+use mathlib.Core.Path.{_≡_, refl, sym, ap, _∙_}
+use Prim.Native.Nat.{ℕ, _*_, _/_, _%_, _<_}
+use native.Mathlib.Nat.{zero-add, div-add-mod'}
+use native.Mathlib.Omega.{arith}
+use borrow.Author.Tests.{eq-eqb, lt-ltb}
+use lib.ListN.{length}
+use lib.Seq.{sets}
+use Rattle.def.specs.Answers.{afterChecks}
+use Rattle.def.specs.Picture.{sizeOk, rootsAlong, rootCount}
+use Rattle.def.specs.Refusals.{numberOf}
+use Rattle.def.specs.declared.Answer.{Answer}
+use Rattle.def.specs.declared.Answer.the-variants.{Done, Refused}
+use Rattle.def.proofs.Answers.{number-some}
+use Rattle.def.proofs.Sizes.{sized}
+use Rattle.laws.specs.Call.{Gives}
+use Rattle.laws.specs.Orders.{each}
+use Rattle.split.specs.CheckCall as check-call
+use Rattle.split.specs.LeavesCall as leaves-call
+use Rattle.split.specs.Picture.{roots, rootWalk, pictureWalk}
+use Rattle.split.specs.Stored.{leafNumbers, counted, leavesFrom, Ready, Stored}
+use Rattle.split.specs.declared.Walked.the-variants.{Done as Counted}
+use Rattle.split.proofs.Listing.{read-back, ready}
+use Rattle.split.proofs.Outcomes.{LeavesPassed, leaves-passed}
+use Rattle.split.proofs.Roots.{index-in, roots-units}
+use Rattle.split.proofs.Walks.{each-done}
+
+-- ---- check
+
+accepted : (k : Answer) → check-call.numbered 0 ≡ afterChecks (λ r. check-call.numbered (numberOf r)) (check-call.numbered 0) k → k ≡ Done
+accepted Done e = refl
+accepted (Refused r) e = absurd (omega (arith, number-some r, ap (λ (o : check-call.Outcome). o .number) e))
+
+pub check-told : (i : check-call.Input) → Gives check-call.outcome i (check-call.numbered 0) → check-call.check i ≡ Done
+unfolding check-call.outcome
+check-told i e = accepted (check-call.check i) e
+
+-- ---- leaves
+
+-- the list o, of which n leaves were answered
+pub record Told (i : leaves-call.Input) (o : List ℕ) (n : ℕ) : Type 0 where
+  pub passed : LeavesPassed (i .w) (i .h) (i .splits) (i .x) (i .y) (length (i .out))
+  pub count : n ≡ length (leaves-call.leavesAt (i .w) (i .h) (i .splits) (i .x) (i .y))
+  pub back : leavesFrom o n ≡ leaves-call.leavesAt (i .w) (i .h) (i .splits) (i .x) (i .y)
+  pub leaves : Ready o n
+
+record Given (i : leaves-call.Input) (o : List ℕ) (n : ℕ) (k : Answer) : Type 0 where
+  done : k ≡ Done
+  count : n ≡ length (leaves-call.leavesAt (i .w) (i .h) (i .splits) (i .x) (i .y))
+  out : o ≡ sets (i .out) 0 (each leafNumbers (leaves-call.leavesAt (i .w) (i .h) (i .splits) (i .x) (i .y)))
+
+given : (i : leaves-call.Input) (o : List ℕ) (n : ℕ) (k : Answer) → leaves-call.after (Counted n) o ≡ afterChecks (leaves-call.refused i) (leaves-call.done i) k → Given i o n k
+given i o n Done e =
+    record { done = refl; count = ap (λ (q : leaves-call.Outcome). q .reading .count) e; out = ap (λ (q : leaves-call.Outcome). q .out) e }
+given i o n (Refused r) e = absurd (omega (arith, number-some r, ap (λ (q : leaves-call.Outcome). q .reading .number) e))
+
+pub leaves-told : (i : leaves-call.Input) (o : List ℕ) (n : ℕ) → Gives leaves-call.outcome i (leaves-call.after (Counted n) o) → Told i o n
+unfolding leaves-call.outcome
+leaves-told i o n e =
+    let g = given i o n (leaves-call.check i) e in
+    let p = leaves-passed (i .w) (i .h) (i .splits) (i .x) (i .y) (length (i .out)) (g .done) in
+    let z = p .size in
+    let at = leaves-call.rootIndex (i .w) (i .x) (i .y) in
+    let d : Stored (rootWalk (i .splits) (i .w / 4) (i .h / 4) at) (i .out) 0 o (Counted n) =
+    record { answer = ap Counted (g .count ∙ sym (zero-add _)) ∙ sym (ap (counted _) (p .walked)); stored = g .out } in
+    record {
+      passed = p;
+      count = g .count;
+      back = read-back (i .splits) (i .w / 4) (i .h / 4) at (p .walked) d (p .room) n refl;
+      leaves = ready (i .splits) (i .w / 4) (i .h / 4) at (p .walked) d (p .room) n refl (omega (arith, z .wide)) (omega (arith, z .high));
+    }
+
+-- the number of the root at the place of root i
+pub index-back : (w i : ℕ) → leaves-call.rootIndex w (64 * (i % rootsAlong w)) (64 * (i / rootsAlong w)) ≡ i
+index-back w i =
+    let a : 64 * (i % rootsAlong w) / 64 ≡ i % rootsAlong w = omega arith in
+    let b : 64 * (i / rootsAlong w) / 64 ≡ i / rootsAlong w = omega arith in
+    rw (a, b) (div-add-mod' i (rootsAlong w))
+
+-- every check of `leaves` passes at each root of an accepted picture
+pub leaves-given : (w h : ℕ) (s : List ℕ) (x y : ℕ) → sizeOk w h ≡ true → length s ≡ 1024 * rootCount w h → pictureWalk s (w / 4) (h / 4) .answer ≡ Done
+    → x % 64 ≡ 0 → y % 64 ≡ 0 → x < w → y < h → leaves-call.checkOf w h s x y 768 ≡ Done
+unfolding leaves-call.checkOf leaves-call.lengthsOk leaves-call.rootOk
+leaves-given w h s x y z e d cx cy px py =
+    let at = leaves-call.rootIndex w x y in
+    let g : at < roots (w / 4) (h / 4) = rw (roots-units (sized w h z)) (index-in (sized w h z) x y px py) in
+    let f = each-done (rootWalk s (w / 4) (h / 4)) (roots (w / 4) (h / 4)) d at g in
+    rw (z, eq-eqb _ _ e, eq-eqb _ _ cx, eq-eqb _ _ cy, lt-ltb _ _ px, lt-ltb _ _ py) f

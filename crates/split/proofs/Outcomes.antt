@@ -1,0 +1,185 @@
+-- The outcomes of the public calls, by what their checks find; and that each reading tells all answers apart.
+-- Assumes nothing.
+use mathlib.Core.Bool.{Bool, true, false}
+use mathlib.Core.List.{List, [], _∷_}
+use mathlib.Core.Path.{_≡_, refl, sym, ap, ap₂, _∙_}
+use Prim.Native.Nat.{ℕ, _*_, _/_, _%_, _≤_, _<_}
+use native.Mathlib.Nat.{zero-add}
+use native.Mathlib.Omega.{arith}
+use borrow.Author.Tests.{eqb-true, ltb-true, lt-ltb}
+use lib.Dec.{eqb, ltb}
+use lib.ListN.{length, getD, take}
+use lib.Seq.{sets}
+use Rattle.def.specs.Answers.{answerNumber, afterChecks}
+use Rattle.def.specs.Picture.{sizeOk, rootCount, unitCount}
+use Rattle.def.specs.Refusals.{numberOf}
+use Rattle.def.specs.declared.Answer.{Answer}
+use Rattle.def.specs.declared.Answer.the-variants.{Done, Refused}
+use Rattle.def.specs.declared.Refusal.{Refusal}
+use Rattle.def.specs.declared.Refusal.the-variants.{Size, Length, Setting, Block}
+use Rattle.def.proofs.Answers.{on-refusal, on-done}
+use Rattle.def.proofs.Sizes.{Sized, sized}
+use Rattle.laws.specs.Call.{unless}
+use Rattle.laws.specs.Orders.{each}
+use Rattle.laws.proofs.Calls.{all-at, all-fails}
+use Rattle.split.specs.CheckCall as check-call
+use Rattle.split.specs.Edges.{Edge, vertical, horizontal, edgeNumbers}
+use Rattle.split.specs.LeavesCall as leaves-call
+use Rattle.split.specs.ListCall as list-call
+use Rattle.split.specs.Picture.{rootBytes, rootWalk, pictureWalk}
+use Rattle.split.specs.RankCall as rank-call
+use Rattle.split.specs.Ranks.{rank}
+use Rattle.split.specs.Stored.{leafNumbers, counted, Stored, Put}
+use Rattle.split.specs.declared.Listed.the-variants.{Done as Listed′, Refused as NotListed}
+use Rattle.split.specs.declared.Rank.the-variants.{Done as Ranked, Refused as NotRanked}
+use Rattle.split.specs.declared.Walked.{Walked}
+use Rattle.split.specs.declared.Walked.the-variants.{Done as Counted, Refused as NotCounted}
+use Rattle.split.proofs.Demand3.{edges-twice}
+use Rattle.split.proofs.Stores.{take-sets, thrice, counted-done, counted-refused}
+use Rattle.split.proofs.Walks.{not-done, few-leaves}
+
+-- ---- check
+
+by-number : (k : Answer) → check-call.numbered (answerNumber k) ≡ afterChecks (λ r. check-call.numbered (numberOf r)) (check-call.numbered 0) k
+by-number Done = refl
+by-number (Refused r) = refl
+
+pub check-gives : (i : check-call.Input) (a : Answer) → a ≡ check-call.check i → check-call.numbered (answerNumber a) ≡ check-call.outcome i
+unfolding check-call.outcome
+check-gives i a e = rw e (by-number (check-call.check i))
+
+-- ---- leaves
+
+-- a ladder that ends in done has passed its first rung
+pub past : (t : Bool) (r : Refusal) (k : Answer) → unless t (Refused r) k ≡ Done → (t ≡ true) × (k ≡ Done)
+past true r k e = (refl, e)
+past false r k e = absurd (not-done r e)
+
+module _ (w h : ℕ) (s : List ℕ) (x y out : ℕ) where
+  abbrev at : ℕ
+  at = leaves-call.rootIndex w x y
+
+  few-met : length (leaves-call.leavesAt w h s x y) ≤ 256
+  few-met = few-leaves (rootBytes s at) (w / 4) (h / 4) 4 _ _ .few
+
+  pub met-refused : (list : List ℕ) (r : Refusal) → Refused r ≡ leaves-call.checkOf w h s x y out → leaves-call.Met w h s x y out list (NotCounted r)
+  met-refused list r e = record { answer = ap (counted _) e; listed = λ d. absurd (not-done r (e ∙ d)); few = few-met }
+
+  pub met-walked : (list₀ list : List ℕ) (r : Walked) → length list₀ ≡ 768 → rootWalk s (w / 4) (h / 4) at .answer ≡ leaves-call.checkOf w h s x y out
+      → Stored (rootWalk s (w / 4) (h / 4) at) list₀ 0 list r → leaves-call.Met w h s x y out list r
+  met-walked list₀ list r n e d =
+      let l = leaves-call.leavesAt w h s x y in
+      record {
+        answer = d .answer ∙ ap₂ counted (zero-add (length l)) e;
+        listed = λ q. ap (take (3 * length l)) (d .stored) ∙ take-sets (each leafNumbers l) list₀ (3 * length l) (thrice l) (omega (arith, few-met));
+        few = few-met;
+      }
+
+-- what the tests tell
+pub lengths-told : (w h splits out : ℕ) → leaves-call.lengthsOk w h splits out ≡ true → (splits ≡ 1024 * rootCount w h) × (out ≡ 768)
+unfolding leaves-call.lengthsOk
+lengths-told w h splits out e =
+    let l = eqb splits (1024 * rootCount w h) ∷ eqb out 768 ∷ [] in
+    (eqb-true _ _ (all-at l 0 e), eqb-true _ _ (all-at l 1 e))
+
+pub root-told : (w h x y : ℕ) → leaves-call.rootOk w h x y ≡ true → (x % 64 ≡ 0) × (y % 64 ≡ 0) × (x < w) × (y < h)
+unfolding leaves-call.rootOk
+root-told w h x y e =
+    let l = leaves-call.rootTests w h x y in
+    (eqb-true _ _ (all-at l 0 e), eqb-true _ _ (all-at l 1 e), ltb-true _ _ (all-at l 2 e), ltb-true _ _ (all-at l 3 e))
+
+-- where the checks pass
+pub record LeavesPassed (w h : ℕ) (s : List ℕ) (x y out : ℕ) : Type 0 where
+  pub size : Sized w h
+  pub bytes : length s ≡ 1024 * rootCount w h
+  pub room : out ≡ 768
+  pub column : x < w
+  pub row : y < h
+  pub walked : rootWalk s (w / 4) (h / 4) (leaves-call.rootIndex w x y) .answer ≡ Done
+
+pub leaves-passed : (w h : ℕ) (s : List ℕ) (x y out : ℕ) → leaves-call.checkOf w h s x y out ≡ Done → LeavesPassed w h s x y out
+unfolding leaves-call.checkOf
+leaves-passed w h s x y out e =
+    let t = leaves-call.lengthsOk w h (length s) out in
+    let k = rootWalk s (w / 4) (h / 4) (leaves-call.rootIndex w x y) .answer in
+    let rest = unless (leaves-call.rootOk w h x y) (Refused Block) k in
+    let a = past (sizeOk w h) Size (unless t (Refused Length) rest) e in
+    let b = past t Length rest (a .1) in
+    let c = past (leaves-call.rootOk w h x y) Block k (b .1) in
+    let l = lengths-told w h (length s) out (b .0) in
+    let r = root-told w h x y (c .0) in
+    record { size = sized w h (a .0); bytes = l .0; room = l .1; column = r .2; row = r .3; walked = c .1 }
+
+pub met-room : {w h : ℕ} {s : List ℕ} {x y out : ℕ} {list : List ℕ} {r : Walked} (n : ℕ) → leaves-call.Met w h s x y out list r → r ≡ Counted n → (n ≤ 256) × (out ≡ 768)
+met-room {w} {h} {s} {x} {y} {out} n m e =
+    let k = counted-done n _ (leaves-call.checkOf w h s x y out) (sym e ∙ m .answer) in
+    (omega (arith, k .1, m .few), leaves-passed w h s x y out (k .0) .room)
+
+-- n is what the walk counted
+pub leaves-done : (i : leaves-call.Input) (list : List ℕ) (n : ℕ) (r : Walked) (o : List ℕ)
+    → leaves-call.Met (i .w) (i .h) (i .splits) (i .x) (i .y) (length (i .out)) list r → r ≡ Counted n → o ≡ sets (i .out) 0 (take (3 * n) list)
+    → leaves-call.after (Counted n) o ≡ leaves-call.outcome i
+unfolding leaves-call.outcome
+leaves-done i list n r o m e q =
+    let k = counted-done n _ (leaves-call.check i) (sym e ∙ m .answer) in
+    rw (k .0, q, k .1, m .listed (k .0))
+
+pub leaves-refused : (i : leaves-call.Input) (list : List ℕ) (q : Refusal) (r : Walked)
+    → leaves-call.Met (i .w) (i .h) (i .splits) (i .x) (i .y) (length (i .out)) list r → r ≡ NotCounted q → leaves-call.after (NotCounted q) (i .out) ≡ leaves-call.outcome i
+unfolding leaves-call.outcome
+leaves-refused i list q r m e = rw (counted-refused q _ (leaves-call.check i) (sym e ∙ m .answer))
+
+-- ---- visiting_rank
+
+module _ (i : rank-call.Input) where
+  pub rank-refused : (k : ℕ) → getD (ltb (i .x) 16 ∷ ltb (i .y) 16 ∷ []) k true ≡ false → rank-call.after (NotRanked Block) ≡ rank-call.outcome i
+  unfolding rank-call.outcome rank-call.check
+  rank-refused k e = rw (all-fails (ltb (i .x) 16 ∷ ltb (i .y) 16 ∷ []) k e)
+
+  pub rank-done : (n : ℕ) → i .x < 16 → i .y < 16 → n ≡ rank (i .x) (i .y) → rank-call.after (Ranked n) ≡ rank-call.outcome i
+  unfolding rank-call.outcome rank-call.check
+  rank-done n p q e = rw (e, lt-ltb _ _ p, lt-ltb _ _ q)
+
+-- ---- list_edges
+
+pub list-lengths-told : (w h splits m n : ℕ) → list-call.lengthsOk w h splits m n ≡ true
+    → (splits ≡ 1024 * rootCount w h) × (m ≡ 2 * unitCount w h) × (n ≡ 2 * unitCount w h)
+unfolding list-call.lengthsOk
+list-lengths-told w h splits m n e =
+    let l = eqb splits (1024 * rootCount w h) ∷ eqb m (2 * unitCount w h) ∷ eqb n (2 * unitCount w h) ∷ [] in
+    (eqb-true _ _ (all-at l 0 e), eqb-true _ _ (all-at l 1 e), eqb-true _ _ (all-at l 2 e))
+
+-- where the checks pass
+pub record Passed (w h : ℕ) (s : List ℕ) (limit m n : ℕ) : Type 0 where
+  pub size : Sized w h
+  pub bytes : length s ≡ 1024 * rootCount w h
+  pub vertical : m ≡ 2 * unitCount w h
+  pub horizontal : n ≡ 2 * unitCount w h
+  pub walked : pictureWalk s (w / 4) (h / 4) .answer ≡ Done
+
+pub list-passed : (w h : ℕ) (s : List ℕ) (limit m n : ℕ) → list-call.checkOf w h s limit m n ≡ Done → Passed w h s limit m n
+unfolding list-call.checkOf
+list-passed w h s limit m n e =
+    let t = list-call.lengthsOk w h (length s) m n in
+    let k = pictureWalk s (w / 4) (h / 4) .answer in
+    let rest = unless (list-call.limitOk limit) (Refused Setting) k in
+    let a = past (sizeOk w h) Size (unless t (Refused Length) rest) e in
+    let b = past t Length rest (a .1) in
+    let c = past (list-call.limitOk limit) Setting k (b .1) in
+    let l = list-lengths-told w h (length s) m n (b .0) in
+    record { size = sized w h (a .0); bytes = l .0; vertical = l .1; horizontal = l .2; walked = c .1 }
+
+-- a list's end in its buffer is twice its count
+counted-half : (l : List Edge) {out out₁ : List ℕ} {k : ℕ} → Put (each edgeNumbers l) out 0 out₁ k → k / 2 ≡ length l
+counted-half l p = omega (arith, p .count, edges-twice l)
+
+pub list-refused : (i : list-call.Input) (a : Answer) (r : Refusal) → a ≡ list-call.check i → a ≡ Refused r → list-call.after (NotListed r) (i .vertical) (i .horizontal) ≡ list-call.outcome i
+unfolding list-call.outcome
+list-refused i a r e q = on-refusal (list-call.refused i) (list-call.done i) a (list-call.check i) r e q
+
+pub list-done : (i : list-call.Input) (a : Answer) (m n : List ℕ) (u v : ℕ) → a ≡ list-call.check i → a ≡ Done
+    → Put (each edgeNumbers (list-call.passEdges vertical i)) (i .vertical) 0 m u → Put (each edgeNumbers (list-call.passEdges horizontal i)) (i .horizontal) 0 n v
+    → list-call.after (Listed′ (u / 2) (v / 2)) m n ≡ list-call.outcome i
+unfolding list-call.outcome
+list-done i a m n u v e q p o =
+    on-done (list-call.refused i) (list-call.done i) a (list-call.check i) _ e q (rw (counted-half (list-call.passEdges vertical i) p, counted-half (list-call.passEdges horizontal i) o, p .put, o .put))
