@@ -2,16 +2,14 @@
 -- Assumes nothing.
 use Prim.Native.Nat.{ℕ, _+_, _*_, _/_, _≤_}
 use mathlib.Core.List.{List}
-use mathlib.Core.Path.{_≡_, refl}
+use mathlib.Core.Path.{_≡_}
 use native.Mathlib.Omega.{arith}
 use borrow.Author.Tests.{eqb-true}
 use lib.ListN.{length}
-use Rattle.laws.proofs.Ladders.{passed-by}
-use Rattle.def.specs.Answers.{answerNumber}
 use Rattle.def.specs.Picture.{unitCount}
 use Rattle.def.specs.declared.Refusal.the-variants.{Size, Length, Block}
 use Rattle.def.specs.declared.Answer.the-variants.{Done}
-use Rattle.def.proofs.Answers.{number-some}
+use Rattle.def.proofs.Ladders.{passes}
 use Rattle.def.proofs.Sizes.{Sized, sized}
 use Rattle.def.proofs.Blocks.{Blocked, blocked}
 use Rattle.avail.specs.Around.{Input}
@@ -26,13 +24,13 @@ pub record Accepted (i : Input) : Type 0 where
 pub accepted : (i : Input) → check i ≡ Done → Accepted i
 unfolding checkOf
 accepted i e =
-    let p = passed-by answerNumber _ _ _ _ refl (number-some Size) e in
-    let q = passed-by answerNumber _ _ _ _ refl (number-some Length) (p .rest) in
-    let r = passed-by answerNumber _ _ _ _ refl (number-some Block) (q .rest) in
+    let p = passes _ Size _ e in
+    let q = passes _ Length _ (p .rest) in
+    let r = passes _ Block _ (q .rest) in
     record {
-      size = sized _ _ (p .first);
-      long = eqb-true _ _ (q .first);
-      block = blocked _ _ _ _ _ (r .first);
+      size = sized _ _ (p .holds);
+      long = eqb-true _ _ (q .holds);
+      block = blocked _ _ _ _ _ (r .holds);
     }
 
 -- the units around an accepted block are within reach

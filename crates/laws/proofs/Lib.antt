@@ -4,7 +4,6 @@ pub mod Counting
 pub mod Differences
 pub mod Fill
 pub mod Flat
-pub mod Ladders
 pub mod Orders
 pub mod Parts
 pub mod Places

@@ -1,22 +1,17 @@
 -- A row that is written, and a scan that is made, in parts one after the other.
 --     rowed-part    a part more of a row
---     row-alike    a row whose values agree
---     scan-next    a scan of one number more
 --     scan-parts    a scan of n + m numbers is one of n and one of the m after them
---     scan-alike, scan-holds    scans whose tests agree, and one whose tests hold
+--     scan-alike    scans whose tests agree
 -- Assumes nothing.
-use mathlib.Core.Path.{_≡_, refl, sym, ap, _∙_, subst}
-use mathlib.Core.Bool.{Bool, true, _&&_, and-true, and-assoc}
+use mathlib.Core.Path.{_≡_, refl, sym, ap, _∙_}
+use mathlib.Core.Bool.{Bool, _&&_, and-true, and-assoc}
 use mathlib.Core.List.{List}
 use Prim.Native.Nat.{ℕ, zero, suc, _+_, _-_, _≤_, _<_}
 use native.Mathlib.Nat.{add-zero, add-suc}
-use native.Mathlib.Numerals.{add-one}
 use native.Mathlib.Decide.{decLt}
 use native.Mathlib.Omega.{arith}
 use lib.ListN.{length, getD, List·getD-eq-default}
-use lib.Seq.{ext-getD}
-use Rattle.laws.specs.Index.{pick}
-use Rattle.laws.specs.Plane.{within, withRow}
+use Rattle.laws.specs.Plane.{withRow}
 use Rattle.laws.specs.Scan.{allBelow}
 use Rattle.laws.proofs.Planes.{Rowed, getD-row, length-row, within-yes, within-low, within-high}
 
@@ -54,23 +49,7 @@ module _ {A : Type 0} (d : A) (a : ℕ) (g : ℕ → A) (l₀ l : List A) (c m :
         high = λ k p. kept-high k p (decLt k (length l)) ∙ u .high k (omega arith);
       }
 
-module _ {A : Type 0} (d : A) (a n : ℕ) (f g : ℕ → A) (same : (j : ℕ) → j < n → f j ≡ g j) (l : List A) where
-  cell : (k : ℕ) → Dec (k < a) → Dec (k < a + n) → pick (within a n k) (f (k - a)) (getD l k d) ≡ pick (within a n k) (g (k - a)) (getD l k d)
-  cell k (yes p) q = rw (within-low a n k p)
-  cell k (no p) (yes q) = rw (within-yes a n k (omega arith) q) (same (k - a) (omega arith))
-  cell k (no p) (no q) = rw (within-high a n k (omega arith))
-
-  pub row-alike : withRow d a n f l ≡ withRow d a n g l
-  row-alike =
-      ext-getD d _ _ (length-row d a n f l ∙ sym (length-row d a n g l))
-      (λ k p. let q : k < length l = subst (λ (m : ℕ). k < m) (length-row d a n f l) p in
-      getD-row d a n f l k q ∙ cell k (decLt k a) (decLt k (a + n)) ∙ sym (getD-row d a n g l k q))
-
 module _ (f : ℕ → Bool) where
-  pub scan-next : (n : ℕ) → (allBelow f n && f n) ≡ allBelow f (n + 1)
-  unfolding allBelow
-  scan-next n = rw (add-one n)
-
   pub scan-parts : (n m : ℕ) → allBelow f (n + m) ≡ (allBelow f n && allBelow (λ (k : ℕ). f (n + k)) m)
   unfolding allBelow
   scan-parts n zero = rw (add-zero n) (sym (and-true (allBelow f n)))
@@ -81,8 +60,3 @@ module _ (f : ℕ → Bool) where
   unfolding allBelow
   scan-alike g zero h = refl
   scan-alike g (suc n) h = rw (scan-alike g n (λ k p. h k (omega arith)), h n (omega arith))
-
-  pub scan-holds : (n : ℕ) → ((k : ℕ) → k < n → f k ≡ true) → allBelow f n ≡ true
-  unfolding allBelow
-  scan-holds zero h = refl
-  scan-holds (suc n) h = rw (scan-holds n (λ k p. h k (omega arith)), h n (omega arith))

@@ -17,7 +17,7 @@ use Rattle.laws.specs.Scan.{allBelow}
 use Rattle.laws.proofs.Calls.{all-at}
 use Rattle.laws.proofs.Flat.{next-row}
 use Rattle.laws.proofs.Scans.{scan-at}
-use Rattle.laws.proofs.Parts.{scan-holds}
+use Rattle.laws.proofs.ScanAll.{scan-pass}
 use Rattle.nbr.specs.declared.gather.Arm.{Arm}
 use Rattle.nbr.specs.Gather.{counts}
 use Rattle.nbr.specs.Arms.{presentIn, armAt, Within}
@@ -77,7 +77,7 @@ module _ (a : Arm) (n : ℕ) (constrained : Bool) (plane words : List ℕ) (unit
 
   pub quick-small : allBelow (λ (j : ℕ). leb (getD plane (a .from + j * a .step) 0) 1023) (m * n) ≡ true → allBelow (λ (k : ℕ). leb (armAt a n constrained plane words k) 1023) (units * n) ≡ true
   unfolding armAt
-  quick-small q = scan-holds _ (units * n) (λ k p. go k p (presentIn a constrained words (k / n)) refl) where
+  quick-small q = scan-pass _ (units * n) (λ k p. go k p (presentIn a constrained words (k / n)) refl) where
     go : (k : ℕ) → k < units * n → (t : Bool) → presentIn a constrained words (k / n) ≡ t → leb (armAt a n constrained plane words k) 1023 ≡ true
     go k p true f =
         let r : k / n < a .there = in-picture a constrained words (k / n) f in

@@ -10,12 +10,12 @@ use mathlib.Core.List.{List}
 use native.Mathlib.Omega.{arith}
 use borrow.Author.Tests.{eqb-true}
 use lib.ListN.{length, getD}
-use Rattle.laws.proofs.Ladders.{passed-by}
 use Rattle.def.specs.Answers.{answerNumber, afterChecks}
 use Rattle.def.specs.declared.Refusal.the-variants.{Size, Length, Sample, Block}
 use Rattle.def.specs.declared.Answer.{Answer}
 use Rattle.def.specs.declared.Answer.the-variants.{Done, Refused}
 use Rattle.def.proofs.Answers.{number-some}
+use Rattle.def.proofs.Ladders.{passes}
 use Rattle.nbr.specs.Gather.{Around, Input, runLength, samplesOk, checkOf, check, refused, done, outcome}
 use Rattle.nbr.specs.Arms.{BlockOf, Lent}
 use Rattle.nbr.proofs.Runs.{lent-of, run-long, run-samples}
@@ -29,16 +29,16 @@ pub record Accepted (i : Around) (run : ℕ) : Type 0 where
 pub accepted : (i : Around) (run : ℕ) → checkOf i run ≡ Done → Accepted i run
 unfolding checkOf
 accepted i run e =
-    let p = passed-by answerNumber _ _ _ _ refl (number-some Size) e in
-    let q = passed-by answerNumber _ _ _ _ refl (number-some Length) (p .rest) in
-    let r = passed-by answerNumber _ _ _ _ refl (number-some Block) (q .rest) in
-    let s = passed-by answerNumber _ _ _ _ refl (number-some Length) (r .rest) in
-    let t = passed-by answerNumber _ _ _ _ refl (number-some Sample) (s .rest) in
+    let p = passes _ Size _ e in
+    let q = passes _ Length _ (p .rest) in
+    let r = passes _ Block _ (q .rest) in
+    let s = passes _ Length _ (r .rest) in
+    let t = passes _ Sample _ (s .rest) in
     record {
-      block = record { size = p .first; block = r .first };
-      lent = lent-of _ _ _ _ _ (q .first);
-      run-whole = eqb-true _ _ (s .first);
-      samples = t .first;
+      block = record { size = p .holds; block = r .holds };
+      lent = lent-of _ _ _ _ _ (q .holds);
+      run-whole = eqb-true _ _ (s .holds);
+      samples = t .holds;
     }
 
 -- ---- the promises

@@ -11,12 +11,10 @@ use borrow.Author.Tests.{eqb-true, leb-true}
 use lib.Dec.{leb, eqb}
 use lib.ListN.{length}
 use Rattle.laws.proofs.Calls.{all-at}
-use Rattle.laws.proofs.Ladders.{passed-by}
-use Rattle.def.specs.Answers.{answerNumber}
 use Rattle.def.specs.Picture.{sizeOk}
 use Rattle.def.specs.declared.Refusal.the-variants.{Size, Length, Block, Mode}
 use Rattle.def.specs.declared.Answer.the-variants.{Done}
-use Rattle.def.proofs.Answers.{number-some}
+use Rattle.def.proofs.Ladders.{passes}
 use Rattle.def.proofs.Blocks.{placed}
 use Rattle.nbr.specs.Ranks.{Input, UnitOf, leftMode, upMode, modeOk, modesOk, indexOf, lengthTests, lengthsOk, check}
 
@@ -39,15 +37,15 @@ pub record Accepted (i : Input) : Type 0 where
 pub accepted : (i : Input) → check i ≡ Done → Accepted i
 unfolding check
 accepted i e =
-    let p = passed-by answerNumber (sizeOk (i .w) (i .h)) _ _ _ refl (number-some Size) e in
-    let q = passed-by answerNumber _ _ _ _ refl (number-some Length) (p .rest) in
-    let r = passed-by answerNumber _ _ _ _ refl (number-some Block) (q .rest) in
-    let s = passed-by answerNumber _ _ _ _ refl (number-some Mode) (r .rest) in
-    let k = placed _ _ _ _ (r .first) in
+    let p = passes (sizeOk (i .w) (i .h)) Size _ e in
+    let q = passes _ Length _ (p .rest) in
+    let r = passes _ Block _ (q .rest) in
+    let s = passes _ Mode _ (r .rest) in
+    let k = placed _ _ _ _ (r .holds) in
     record {
-      unit = unit-of _ _ _ _ _ _ _ (q .first) (k .column) (k .row);
-      modes-ok = s .first;
-      table-long = table-whole _ _ _ _ _ (q .first);
+      unit = unit-of _ _ _ _ _ _ _ (q .holds) (k .column) (k .row);
+      modes-ok = s .holds;
+      table-long = table-whole _ _ _ _ _ (q .holds);
     }
 
 -- ---- modes that pass

@@ -8,7 +8,7 @@ use borrow.Author.Tests.{not-true, not-false}
 use denote.Ref.{now}
 use lib.ListN.{length, getD}
 use Rattle.laws.specs.Plane.{withRow}
-use Rattle.laws.proofs.Parts.{row-alike}
+use Rattle.laws.proofs.Whole.{row-same}
 use Rattle.nbr.specs.Arms.{presentIn, armAt}
 use Rattle.nbr.proofs.Arms.{unit-missing, unit-sample, unit-in, unit-few}
 use Rattle.nbr.proofs.gather.put_unit.Statement.{statement}
@@ -34,10 +34,10 @@ present-requires : tie.Need-present-requires
 present-requires c κs = c .before .before .before .pre .0 .words-in (c .before .before .before .args .i)
 
 missing : (c : tie.Then1) → let a = c .before .before .before .before .before .args in withRow 0 (a .to) (a .n) (λ (j : ℕ). 512) (now (a .run)) ≡ withRow 0 (a .to) (a .n) (λ (j : ℕ). armAt (a .arm) (a .n) (a .constrained) (now (a .plane)) (now (a .map-scu)) (a .i * a .n + j)) (now (a .run))
-missing c = row-alike _ _ _ _ _ (λ j p. sym (unit-missing _ _ _ _ _ _ j p (absent c))) _
+missing c = row-same _ _ _ _ _ _ (λ j p. sym (unit-missing _ _ _ _ _ _ j p (absent c)))
 
 copied : (c : tie.Else1) → let a = c .before .before .before .before .before .args in withRow 0 (a .to) (a .n) (λ (j : ℕ). getD (now (a .plane)) (a .arm .from + a .i * a .n * a .arm .step + j * a .arm .step) 0) (now (a .run)) ≡ withRow 0 (a .to) (a .n) (λ (j : ℕ). armAt (a .arm) (a .n) (a .constrained) (now (a .plane)) (now (a .map-scu)) (a .i * a .n + j)) (now (a .run))
-copied c = row-alike _ _ _ _ _ (λ j p. sym (unit-sample _ _ _ _ _ _ j p (there c))) _
+copied c = row-same _ _ _ _ _ _ (λ j p. sym (unit-sample _ _ _ _ _ _ j p (there c)))
 
 returns : tie.Need-returns
 returns c = c .before .before .put-missing .ensures ∙ rw (sym (c .before .before .before .before .if2 .taken)) (missing (c .before .before .before .before .before))

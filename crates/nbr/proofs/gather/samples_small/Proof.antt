@@ -8,7 +8,7 @@ use lib.Dec.{leb}
 use lib.ListN.{length, getD}
 use Rattle.laws.specs.Scan.{allBelow}
 use Rattle.laws.proofs.Scans.{scan-none}
-use Rattle.laws.proofs.Parts.{scan-next}
+use Rattle.laws.proofs.ScanAll.{scan-step}
 use Rattle.nbr.proofs.gather.samples_small.Statement.{statement}
 use Rattle.nbr.proofs.gather.samples_small.Tie as tie
 
@@ -37,7 +37,7 @@ shared-slice-read-small c = here (c .before)
 loop-again : tie.Need-loop-again Inv-loop μ-loop
 loop-again c =
     let h = c .before .before in
-    (search needs, rw (h .loop .inv .1) (scan-next _ (h .loop .j)))
+    (search needs, rw (h .loop .inv .1) (sym (scan-step _ (h .loop .j))))
 
 returns : tie.Need-returns Inv-loop μ-loop
 returns c =

@@ -7,7 +7,8 @@ use borrow.Author.Tests.{not-true, not-false}
 use denote.Ref.{now}
 use lib.Dec.{leb}
 use lib.ListN.{length}
-use Rattle.laws.proofs.Parts.{scan-alike, scan-holds}
+use Rattle.laws.proofs.Parts.{scan-alike}
+use Rattle.laws.proofs.ScanAll.{scan-pass}
 use Rattle.nbr.specs.Arms.{presentIn}
 use Rattle.nbr.proofs.Arms.{unit-missing, unit-sample, unit-in, unit-few}
 use Rattle.nbr.proofs.gather.unit_small.Statement.{statement}
@@ -33,7 +34,7 @@ present-requires : tie.Need-present-requires
 present-requires c κs = c .before .before .pre .words-in (c .before .before .args .i)
 
 returns : tie.Need-returns
-returns c = sym (scan-holds _ _ (λ j p. ap (λ (z : ℕ). leb z 1023) (unit-missing _ _ _ _ _ _ j p (absent c))))
+returns c = sym (scan-pass _ _ (λ j p. ap (λ (z : ℕ). leb z 1023) (unit-missing _ _ _ _ _ _ j p (absent c))))
 
 mul-samples-small : tie.Need-mul-samples-small
 mul-samples-small c = omega (arith, few c)
