@@ -2,6 +2,7 @@ pub mod Bits
 pub mod Calls
 pub mod Fill
 pub mod Flat
+pub mod Orders
 pub mod Planes
 pub mod Scans
 pub mod Signs

@@ -1,0 +1,13 @@
+pub mod Area
+pub mod Demand3
+pub mod Example
+pub mod Induct
+pub mod Order
+pub mod Passes
+pub mod Places
+pub mod Ranks
+pub mod Roots
+pub mod Rows
+pub mod Sides
+pub mod Tiling
+pub mod Walks

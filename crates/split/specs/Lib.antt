@@ -1,0 +1,9 @@
+pub mod Demand3
+pub mod Edges
+pub mod Order
+pub mod Passes
+pub mod Picture
+pub mod Ranks
+pub mod Rows
+pub mod Tiling
+pub mod Walk
