@@ -10,11 +10,12 @@ use lib.IntN.{ℤ, pos, negsuc, _-ℤ_}
 use lib.Signed.{leZ, mag}
 use mir.Syntax.{Width, w8, w16, w32}
 use mir.Val.{SFits, toZ, ofZ}
+use Rattle.def.specs.Word.{intraOf, codedOf}
 use Rattle.laws.specs.Clip.{absZ}
 use Rattle.laws.proofs.Widths.{sfits, back, mag-sub}
 use Rattle.laws.specs.Index.{pick}
 use Rattle.line.specs.declared.Motion.{Motion}
-use Rattle.line.specs.Row.{eqZ, far, sameRefs, anyFar, crosswise, motionRow}
+use Rattle.line.specs.Row.{eqZ, far, sameRefs, anyFar, crosswise, motionRow, rowOf}
 
 eqZ-refl : (a : ℤ) → eqZ a a ≡ true
 unfolding eqZ
@@ -96,3 +97,18 @@ read m r₀ r₁ x₀ y₀ x₁ y₁ =
       x1 = back w16 _ (record { sfits = x₁ });
       y1 = back w16 _ (record { sfits = y₁ });
     }
+
+-- ---- the row, likewise: of the words a and b
+
+module _ (a b : ℕ) (m n : Motion) where
+  pub either-intra : (s t : Bool) → s ≡ intraOf a → t ≡ intraOf b → (s || t) ≡ true → 0 ≡ rowOf a b m n
+  unfolding rowOf
+  either-intra s t p q e = rw ((λ i. sym p i || sym q i) ∙ e)
+
+  pub either-coded : (s t k l : Bool) → s ≡ intraOf a → t ≡ intraOf b → (s || t) ≡ false → k ≡ codedOf a → l ≡ codedOf b → (k || l) ≡ true → 1 ≡ rowOf a b m n
+  unfolding rowOf
+  either-coded s t k l p q e u v f = rw ((λ i. sym p i || sym q i) ∙ e, (λ i. sym u i || sym v i) ∙ f)
+
+  pub by-motion : (s t k l : Bool) (r : ℕ) → s ≡ intraOf a → t ≡ intraOf b → (s || t) ≡ false → k ≡ codedOf a → l ≡ codedOf b → (k || l) ≡ false → r ≡ motionRow m n → r ≡ rowOf a b m n
+  unfolding rowOf
+  by-motion s t k l r p q e u v f h = rw ((λ i. sym p i || sym q i) ∙ e, (λ i. sym u i || sym v i) ∙ f) h

@@ -1,0 +1,140 @@
+-- A unit's edge in the picture: its units lie in the maps and its windows in the planes, and what its windows become is its filter.
+-- Assumes nothing.
+use Prim.Native.Nat.{ℕ, suc, _+_, _-_, _*_, _/_, _%_, _≤_, _<_}
+use mathlib.Core.Path.{_≡_, refl, sym, ap, _∙_, transport}
+use mathlib.Core.List.{List, [], _∷_}
+use native.Mathlib.Nat.{mul-le-mul-left, mul-le-mul-right, mul-one, one-mul, add-mul, mul-suc}
+use native.Mathlib.Omega.{arith}
+use lib.IntN.{ℤ}
+use lib.ListN.{length}
+use Rattle.def.specs.declared.Component.{Component}
+use Rattle.def.specs.declared.Component.the-variants.{Luma, Chroma}
+use Rattle.laws.specs.Orders.{run}
+use Rattle.laws.proofs.Flat.{flat-within}
+use Rattle.line.specs.Line.{maskOf}
+use Rattle.split.specs.Edges.{Pass, vertical, horizontal, Edge, edgeAt}
+use Rattle.split.specs.Rows.{crossOf, alongOf}
+use Rattle.df.specs.declared.window.Place.{Place}
+use Rattle.df.specs.declared.window.Strengths.{Strengths}
+use Rattle.df.specs.Edges.{Unit, Strong, placeOf, Frame, unitsAcross, unitsAlong, AtUnit}
+use Rattle.df.specs.Filter.{Planes, filterOne, filterAll}
+use Rattle.df.specs.Places.{stepAcross, stepAlong, lineStart, unitQ, unitP}
+use Rattle.df.specs.Strength.{Maps}
+use Rattle.df.specs.Window.{windowAt, Windowed, Inside}
+
+-- ---- units
+
+module _ (w h : ℕ) where
+  q-within : (d : Pass) (c a : ℕ) → c < unitsAcross d w h → a < unitsAlong d w h → unitQ w (edgeAt d c a) < h * w
+  q-within vertical c a p q = flat-within a c w h p q
+  q-within horizontal c a p q = flat-within c a w h q p
+
+  -- there is a unit before Q
+  pub p-before : (d : Pass) (c a : ℕ) → 1 ≤ c → stepAcross d w ≤ unitQ w (edgeAt d c a)
+  p-before vertical c a p = omega arith
+  p-before horizontal c a p = omega (arith, mul-le-mul-right {m = 1} {n = c} w p)
+
+  module _ {y u v words : List ℕ} {motion refs : List ℤ} {ey eu ev : List ℕ} (f : Frame w h y u v words motion refs ey eu ev) where
+    unit-of : (k : ℕ) → k < h * w → Unit words motion refs k
+    unit-of k p = record { word = omega (arith, f .long-words); mv = omega (arith, f .long-motion); refi = omega (arith, f .long-refs); qp = f .qps k }
+
+    pub unit-q : (d : Pass) (c a : ℕ) → c < unitsAcross d w h → a < unitsAlong d w h → Unit words motion refs (unitQ w (edgeAt d c a))
+    unit-q d c a p q = unit-of _ (q-within d c a p q)
+
+    pub unit-p : (d : Pass) (c a : ℕ) → c < unitsAcross d w h → a < unitsAlong d w h → Unit words motion refs (unitP d w (edgeAt d c a))
+    unit-p d c a p q = let l = q-within d c a p q in unit-of _ (omega arith)
+
+-- ---- windows, in a plane of m samples a unit's side
+
+module _ (m w h : ℕ) (two : 2 ≤ m) where
+  -- a unit's last sample, and the one past its first
+  last-in : (x n : ℕ) → x < n → m * x + (m - 1) < m * n
+  last-in x n p = omega (arith, mul-le-mul-left {m = suc x} {n = n} m p, mul-suc m x)
+
+  next-in : (x n : ℕ) → x < n → m * x + 1 < m * n
+  next-in x n p = omega (arith, last-in x n p)
+
+  starts : (c : ℕ) → 1 ≤ c → 2 ≤ m * c
+  starts c p = omega (arith, mul-le-mul-left {m = 1} {n = c} m p, mul-one m)
+
+  pub inside : (d : Pass) (c a : ℕ) → 1 ≤ c → c < unitsAcross d w h → a < unitsAlong d w h → lineStart d (m * w) (m * c) (m * a) + (m - 1) * stepAlong d (m * w) + 3 * stepAcross d (m * w) < m * h * (m * w)
+  inside vertical c a i p q =
+      let s = starts c i in
+      let t = mul-one (m * c - 2) in
+      let k = add-mul (m * a) (m - 1) (m * w) in
+      omega (arith, flat-within (m * a + (m - 1)) (m * c + 1) (m * w) (m * h) (next-in c w p) (last-in a h q))
+  inside horizontal c a i p q =
+      let s = starts c i in
+      let t = mul-one (m * a) in
+      let r = mul-one (m - 1) in
+      let k = add-mul (m * c - 2) 3 (m * w) in
+      let e : m * c - 2 + 3 ≡ m * c + 1 = omega arith in
+      let g = ap (λ (n : ℕ). n * (m * w)) e in
+      omega (arith, flat-within (m * c + 1) (m * a + (m - 1)) (m * w) (m * h) (last-in a w q) (next-in c h p))
+
+-- ---- the filter
+
+cross-at : (d : Pass) (c a : ℕ) → crossOf d (edgeAt d c a) ≡ c
+cross-at vertical c a = refl
+cross-at horizontal c a = refl
+
+along-at : (d : Pass) (c a : ℕ) → alongOf d (edgeAt d c a) ≡ a
+along-at vertical c a = refl
+along-at horizontal c a = refl
+
+pub strong-at : {m : Maps} {ey eu ev : List ℕ} {q p q₁ p₁ : ℕ} {st : Strengths} → q ≡ q₁ → p ≡ p₁ → Strong m ey eu ev q p st → Strong m ey eu ev q₁ p₁ st
+strong-at {m} {ey} {eu} {ev} {st = st} a b s = transport (λ i. Strong m ey eu ev (a i) (b i) st) s
+
+-- the windows of an edge, at its strengths, are its filter
+pub edge-is : (m : Maps) (t : Planes) (d : Pass) (w c a : ℕ) (luma chroma : Place) (st : Strengths) (p p₁ : Planes)
+    → luma ≡ placeOf d (4 * w) (4 * c) (4 * a) → chroma ≡ placeOf d (2 * w) (2 * c) (2 * a)
+    → Strong m (t .y) (t .u) (t .v) (unitQ w (edgeAt d c a)) (unitP d w (edgeAt d c a)) st
+    → Windowed luma chroma st (p .y) (p .u) (p .v) (p₁ .y) (p₁ .u) (p₁ .v)
+    → p₁ ≡ filterAll m t d w (edgeAt d c a ∷ []) p
+unfolding run
+edge-is m t d w c a luma chroma st p p₁ el ec s g = λ i. record {
+  y = (g .y ∙ (λ j. windowAt (maskOf Luma) (s .y j) (el j .step) (el j .next) (el j .at) 4 (p .y)) ∙ back 4 Luma _ (p .y)) i;
+  u = (g .u ∙ (λ j. windowAt (maskOf Chroma) (s .u j) (ec j .step) (ec j .next) (ec j .at) 2 (p .u)) ∙ back 2 Chroma _ (p .u)) i;
+  v = (g .v ∙ (λ j. windowAt (maskOf Chroma) (s .v j) (ec j .step) (ec j .next) (ec j .at) 2 (p .v)) ∙ back 2 Chroma _ (p .v)) i;
+}
+  where
+    back : (n : ℕ) (k : Component) (z : ℕ) (xs : List ℕ) → windowAt (maskOf k) z (stepAcross d (n * w)) (stepAlong d (n * w)) (lineStart d (n * w) (n * c) (n * a)) n xs
+        ≡ windowAt (maskOf k) z (stepAcross d (n * w)) (stepAlong d (n * w)) (lineStart d (n * w) (n * crossOf d (edgeAt d c a)) (n * alongOf d (edgeAt d c a))) n xs
+    back n k z xs = λ i. windowAt (maskOf k) z (stepAcross d (n * w)) (stepAlong d (n * w)) (lineStart d (n * w) (n * sym (cross-at d c a) i) (n * sym (along-at d c a) i)) n xs
+
+-- ---- a sample's place by its unit
+
+pub record Spot (d : Pass) (w h x z : ℕ) : Type 0 where
+  pub inner : 1 ≤ x / 4
+  pub across : x / 4 < unitsAcross d w h
+  pub along : z / 4 < unitsAlong d w h
+  pub few-x : x ≤ 4096
+  pub few-z : z ≤ 4096
+  pub luma-x : x ≡ 4 * (x / 4)
+  pub luma-z : z ≡ 4 * (z / 4)
+  pub chroma-x : x / 2 ≡ 2 * (x / 4)
+  pub chroma-z : z / 2 ≡ 2 * (z / 4)
+
+few-across : (d : Pass) (w h : ℕ) → w ≤ 1024 → h ≤ 1024 → unitsAcross d w h ≤ 1024
+few-across vertical w h p q = p
+few-across horizontal w h p q = q
+
+few-along : (d : Pass) (w h : ℕ) → w ≤ 1024 → h ≤ 1024 → unitsAlong d w h ≤ 1024
+few-along vertical w h p q = q
+few-along horizontal w h p q = p
+
+pub spot : (d : Pass) (w h x z : ℕ) → w ≤ 1024 → h ≤ 1024 → AtUnit d w h x z → Spot d w h x z
+spot d w h x z p q a =
+    let f = few-across d w h p q in
+    let g = few-along d w h p q in
+    record {
+      inner = omega arith;
+      across = omega arith;
+      along = omega arith;
+      few-x = omega arith;
+      few-z = omega arith;
+      luma-x = omega arith;
+      luma-z = omega arith;
+      chroma-x = omega arith;
+      chroma-z = omega arith;
+    }

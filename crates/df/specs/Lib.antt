@@ -1,0 +1,5 @@
+pub mod Edges
+pub mod Filter
+pub mod Places
+pub mod Strength
+pub mod Window
