@@ -1,22 +1,25 @@
 -- A unit's edge in the picture: its units lie in the maps and its windows in the planes, and what its windows become is its filter.
 -- Assumes nothing.
-use Prim.Native.Nat.{ℕ, suc, _+_, _-_, _*_, _/_, _%_, _≤_, _<_}
+use Prim.Native.Nat.{ℕ, zero, suc, _+_, _-_, _*_, _/_, _%_, _≤_, _<_}
 use mathlib.Core.Path.{_≡_, refl, sym, ap, _∙_, transport}
-use mathlib.Core.List.{List, [], _∷_}
-use native.Mathlib.Nat.{mul-le-mul-left, mul-le-mul-right, mul-one, one-mul, add-mul, mul-suc}
+use mathlib.Core.Bool.{Bool, true, false}
+use mathlib.Core.List.{List, [], _∷_, _++_}
+use native.Mathlib.Nat.{mul-le-mul-left, mul-le-mul-right, mul-one, add-mul, mul-suc, add-zero, suc-add}
 use native.Mathlib.Omega.{arith}
 use lib.IntN.{ℤ}
 use lib.ListN.{length}
 use Rattle.def.specs.declared.Component.{Component}
 use Rattle.def.specs.declared.Component.the-variants.{Luma, Chroma}
+use Rattle.laws.specs.Index.{pick}
 use Rattle.laws.specs.Orders.{run}
+use Rattle.laws.proofs.Orders.{run-append}
 use Rattle.laws.proofs.Flat.{flat-within}
 use Rattle.line.specs.Line.{maskOf}
-use Rattle.split.specs.Edges.{Pass, vertical, horizontal, Edge, edgeAt}
+use Rattle.split.specs.Edges.{Pass, vertical, horizontal, Edge, edgeAt, stretch}
 use Rattle.split.specs.Rows.{crossOf, alongOf}
 use Rattle.df.specs.declared.window.Place.{Place}
 use Rattle.df.specs.declared.window.Strengths.{Strengths}
-use Rattle.df.specs.Edges.{Unit, Strong, placeOf, Frame, unitsAcross, unitsAlong, AtUnit}
+use Rattle.df.specs.Edges.{Unit, Strong, placeOf, Frame, unitsAcross, unitsAlong, AtUnit, Gone}
 use Rattle.df.specs.Filter.{Planes, filterOne, filterAll}
 use Rattle.df.specs.Places.{stepAcross, stepAlong, lineStart, unitQ, unitP}
 use Rattle.df.specs.Strength.{Maps}
@@ -34,7 +37,7 @@ module _ (w h : ℕ) where
   p-before vertical c a p = omega arith
   p-before horizontal c a p = omega (arith, mul-le-mul-right {m = 1} {n = c} w p)
 
-  module _ {y u v words : List ℕ} {motion refs : List ℤ} {ey eu ev : List ℕ} (f : Frame w h y u v words motion refs ey eu ev) where
+  module _ {y u v words : List ℕ} {motion refs : List ℤ} {entries : List ℕ} (f : Frame w h y u v words motion refs entries) where
     unit-of : (k : ℕ) → k < h * w → Unit words motion refs k
     unit-of k p = record { word = omega (arith, f .long-words); mv = omega (arith, f .long-motion); refi = omega (arith, f .long-refs); qp = f .qps k }
 
@@ -82,13 +85,13 @@ along-at : (d : Pass) (c a : ℕ) → alongOf d (edgeAt d c a) ≡ a
 along-at vertical c a = refl
 along-at horizontal c a = refl
 
-pub strong-at : {m : Maps} {ey eu ev : List ℕ} {q p q₁ p₁ : ℕ} {st : Strengths} → q ≡ q₁ → p ≡ p₁ → Strong m ey eu ev q p st → Strong m ey eu ev q₁ p₁ st
-strong-at {m} {ey} {eu} {ev} {st = st} a b s = transport (λ i. Strong m ey eu ev (a i) (b i) st) s
+pub strong-at : {m : Maps} {t : List ℕ} {q p q₁ p₁ : ℕ} {st : Strengths} → q ≡ q₁ → p ≡ p₁ → Strong m t q p st → Strong m t q₁ p₁ st
+strong-at {m} {t} {st = st} a b s = transport (λ i. Strong m t (a i) (b i) st) s
 
 -- the windows of an edge, at its strengths, are its filter
-pub edge-is : (m : Maps) (t : Planes) (d : Pass) (w c a : ℕ) (luma chroma : Place) (st : Strengths) (p p₁ : Planes)
+pub edge-is : (m : Maps) (t : List ℕ) (d : Pass) (w c a : ℕ) (luma chroma : Place) (st : Strengths) (p p₁ : Planes)
     → luma ≡ placeOf d (4 * w) (4 * c) (4 * a) → chroma ≡ placeOf d (2 * w) (2 * c) (2 * a)
-    → Strong m (t .y) (t .u) (t .v) (unitQ w (edgeAt d c a)) (unitP d w (edgeAt d c a)) st
+    → Strong m t (unitQ w (edgeAt d c a)) (unitP d w (edgeAt d c a)) st
     → Windowed luma chroma st (p .y) (p .u) (p .v) (p₁ .y) (p₁ .u) (p₁ .v)
     → p₁ ≡ filterAll m t d w (edgeAt d c a ∷ []) p
 unfolding run
@@ -119,7 +122,7 @@ few-across : (d : Pass) (w h : ℕ) → w ≤ 1024 → h ≤ 1024 → unitsAcros
 few-across vertical w h p q = p
 few-across horizontal w h p q = q
 
-few-along : (d : Pass) (w h : ℕ) → w ≤ 1024 → h ≤ 1024 → unitsAlong d w h ≤ 1024
+pub few-along : (d : Pass) (w h : ℕ) → w ≤ 1024 → h ≤ 1024 → unitsAlong d w h ≤ 1024
 few-along vertical w h p q = q
 few-along horizontal w h p q = p
 
@@ -138,3 +141,57 @@ spot d w h x z p q a =
       chroma-x = omega arith;
       chroma-z = omega arith;
     }
+
+-- ---- a picture whose planes have changed, but not their lengths
+
+pub frame-kept : {w h : ℕ} {y u v y₁ u₁ v₁ words : List ℕ} {motion refs : List ℤ} {entries : List ℕ} → length y₁ ≡ length y → length u₁ ≡ length u → length v₁ ≡ length v
+    → Frame w h y u v words motion refs entries → Frame w h y₁ u₁ v₁ words motion refs entries
+frame-kept a b c f =
+    record {
+      wide = f .wide;
+      high = f .high;
+      long-y = a ∙ f .long-y;
+      long-u = b ∙ f .long-u;
+      long-v = c ∙ f .long-v;
+      long-words = f .long-words;
+      long-motion = f .long-motion;
+      long-refs = f .long-refs;
+      long-entries = f .long-entries;
+      qps = f .qps;
+    }
+
+-- ---- a stretch, one edge more at a time
+
+stretch-more : (d : Pass) (c a n : ℕ) → stretch d c a (n + 1) ≡ stretch d c a n ++ (edgeAt d c (a + n) ∷ [])
+unfolding stretch
+stretch-more d c a zero = ap (λ (k : ℕ). edgeAt d c k ∷ []) (sym (add-zero a))
+stretch-more d c a (suc n) =
+    let e : suc a + n ≡ a + suc n = omega arith in
+    rw suc-add (ap (λ (l : List Edge). edgeAt d c a ∷ l) (stretch-more d c (suc a) n ∙ ap (λ (k : ℕ). stretch d c (suc a) n ++ (edgeAt d c k ∷ [])) e))
+
+module _ (m : Maps) (t : List ℕ) (d : Pass) (w : ℕ) where
+  pub filter-none : (c a : ℕ) (p : Planes) → p ≡ filterAll m t d w (stretch d c a 0) p
+  unfolding run stretch
+  filter-none c a p = refl
+
+  pub filter-more : (c a k b : ℕ) (p p₁ p₂ : Planes) → p₁ ≡ filterAll m t d w (stretch d c a k) p → p₂ ≡ filterAll m t d w (edgeAt d c b ∷ []) p₁ → b ≡ a + k
+      → p₂ ≡ filterAll m t d w (stretch d c a (k + 1)) p
+  filter-more c a k b p p₁ p₂ g h e =
+      h ∙ ap (filterAll m t d w (edgeAt d c b ∷ [])) g ∙ sym (run-append (filterOne m t d w) (stretch d c a k) (edgeAt d c b ∷ []) p)
+      ∙ ap (λ (l : List Edge). filterAll m t d w l p) (ap (λ (n : ℕ). stretch d c a k ++ (edgeAt d c n ∷ [])) e ∙ sym (stretch-more d c a k))
+
+-- how many they are
+pub stretch-long : (d : Pass) (c a n : ℕ) → length (stretch d c a n) ≡ n
+unfolding stretch
+stretch-long d c a zero = refl
+stretch-long d c a (suc n) = ap suc (stretch-long d c (suc a) n)
+
+-- ---- the edges of a side, where there is one to filter
+
+module _ (m : Maps) (t : List ℕ) (d : Pass) (w c a n count : ℕ) (p q : Planes) (few : n ≤ 16) where
+  pub went : (go : Bool) → go ≡ true → q ≡ filterAll m t d w (stretch d c a n) p → Gone m t d w (pick go (stretch d c a n) []) count p q (count + n)
+  went go e g = rw e (record { planes = g; counted = ap (λ (k : ℕ). count + k) (sym (stretch-long d c a n)); few = omega arith })
+
+pub stayed : (m : Maps) (t : List ℕ) (d : Pass) (w c a n count : ℕ) (p : Planes) (go : Bool) → go ≡ false → Gone m t d w (pick go (stretch d c a n) []) count p p count
+unfolding run
+stayed m t d w c a n count p go e = rw e (record { planes = refl; counted = sym (add-zero count); few = omega arith })

@@ -4,11 +4,13 @@ ghost use mathlib.Core.Path.{_≡_};
 ghost use Prim.Native.Nat.{ℕ, _+_, _-_, _*_, _/_, _%_, _≤_, _<_};
 ghost use lib.ListN.{length, getD};
 ghost use mathlib.Core.List.{[], _∷_};
-ghost use Rattle.split.specs.Edges.{edgeAt};
+ghost use mathlib.Core.Bool.{true};
+ghost use Rattle.laws.specs.Index.{pick};
+ghost use Rattle.split.specs.Edges.{edgeAt, stretch};
 ghost use Rattle.df.specs.Strength.{motionAt, rowAt};
 ghost use Rattle.df.specs.Filter.{filterAll};
 ghost use Rattle.df.specs.Places.{stepAcross, stepAlong, unitQ};
-ghost use Rattle.df.specs.Edges.{Unit, Strong, passOf, placeOf, Frame, AtUnit};
+ghost use Rattle.df.specs.Edges.{Unit, Strong, passOf, placeOf, Frame, AtUnit, AtUnits, Gone};
 use crate::window::Place;
 use crate::window::Strengths;
 use crate::window::unit;
@@ -59,28 +61,24 @@ fn strength_at(entries: &[u8], i: usize) -> u16
     4 * entries[i] as u16
 }
 
-// The strengths of that edge. A plane's entries stand at 52 * row + QP.
+// The strengths of that edge: a plane has 208 entries, at 52 * row + QP; luma's come first, then U's and V's.
 fn strengths_at(
     words: &[u32],
     motion: &[i16],
     refs: &[i8],
-    ey: &[u8],
-    eu: &[u8],
-    ev: &[u8],
+    entries: &[u8],
     q: usize,
     p: usize,
 ) -> Strengths
-    requires { ⌜ Unit (now words) (now motion) (now refs) q × Unit (now words) (now motion) (now refs) p ⌝ }
-    requires { ⌜ (length (now ey) ≡ 208) × (length (now eu) ≡ 208) × (length (now ev) ≡ 208) ⌝ }
-    ensures { λ r. ⌜ Strong (record { words = now (words .entry); motion = now (motion .entry); refs = now (refs .entry) })
-        (now (ey .entry)) (now (eu .entry)) (now (ev .entry)) q p r ⌝ }
+    requires { ⌜ Unit (now words) (now motion) (now refs) q × Unit (now words) (now motion) (now refs) p × (length (now entries) ≡ 624) ⌝ }
+    ensures { λ r. ⌜ Strong (record { words = now (words .entry); motion = now (motion .entry); refs = now (refs .entry) }) (now (entries .entry)) q p r ⌝ }
 {
     let row = row_at(words, motion, refs, q, p);
-    let i = 52 * row + get_qp(words[q]);
+    let qp = get_qp(words[q]);
     Strengths {
-        y: strength_at(ey, i),
-        u: strength_at(eu, i),
-        v: strength_at(ev, i),
+        y: strength_at(entries, 52 * row + qp),
+        u: strength_at(entries, 52 * row + (208 + qp)),
+        v: strength_at(entries, 52 * row + (416 + qp)),
     }
 }
 
@@ -155,18 +153,15 @@ fn edge(
     words: &[u32],
     motion: &[i16],
     refs: &[i8],
-    ey: &[u8],
-    eu: &[u8],
-    ev: &[u8],
+    entries: &[u8],
     across: Pel,
     along: Pel,
 )
-    requires { ⌜ Frame (size .columns) (size .rows) (now y) (now u) (now v) (now words) (now motion) (now refs) (now ey) (now eu) (now ev) ⌝ }
+    requires { ⌜ Frame (size .columns) (size .rows) (now y) (now u) (now v) (now words) (now motion) (now refs) (now entries) ⌝ }
     requires { ⌜ AtUnit (passOf pass) (size .columns) (size .rows) (across .0) (along .0) ⌝ }
     ensures { λ _. ⌜ (record { y = now (y .exit); u = now (u .exit); v = now (v .exit) }) ≡ filterAll
         (record { words = now (words .entry); motion = now (motion .entry); refs = now (refs .entry) })
-        (record { y = now (ey .entry); u = now (eu .entry); v = now (ev .entry) })
-        (passOf pass) (size .columns) (edgeAt (passOf pass) (across .0 / 4) (along .0 / 4) ∷ [])
+        (now (entries .entry)) (passOf pass) (size .columns) (edgeAt (passOf pass) (across .0 / 4) (along .0 / 4) ∷ [])
         (record { y = now (y .entry); u = now (u .entry); v = now (v .entry) }) ⌝ }
 {
     let columns = size.columns;
@@ -174,8 +169,91 @@ fn edge(
     let z = along.0;
     let q = unit_at(pass, columns, across, along);
     let p = q - step_across(pass, columns);
-    let st = strengths_at(words, motion, refs, ey, eu, ev, q, p);
+    let st = strengths_at(words, motion, refs, entries, q, p);
     let luma = place(pass, 4 * columns, x, z);
     let chroma = place(pass, 2 * columns, x / 2, z / 2);
     unit(y, u, v, luma, chroma, st);
+}
+
+// The edges of n units, from `along` on.
+fn edges(
+    pass: Pass,
+    size: Size,
+    y: &mut [u16],
+    u: &mut [u16],
+    v: &mut [u16],
+    words: &[u32],
+    motion: &[i16],
+    refs: &[i8],
+    entries: &[u8],
+    across: Pel,
+    along: Pel,
+    n: usize,
+)
+    requires { ⌜ Frame (size .columns) (size .rows) (now y) (now u) (now v) (now words) (now motion) (now refs) (now entries) ⌝ }
+    requires { ⌜ AtUnits (passOf pass) (size .columns) (size .rows) (across .0) (along .0) n ⌝ }
+    ensures { λ _. ⌜ (record { y = now (y .exit); u = now (u .exit); v = now (v .exit) }) ≡ filterAll
+        (record { words = now (words .entry); motion = now (motion .entry); refs = now (refs .entry) })
+        (now (entries .entry)) (passOf pass) (size .columns) (stretch (passOf pass) (across .0 / 4) (along .0 / 4) n)
+        (record { y = now (y .entry); u = now (u .entry); v = now (v .entry) }) ⌝ }
+{
+    let from = along.0;
+    for k in 0..n {
+        edge(
+            pass,
+            size,
+            &mut *y,
+            &mut *u,
+            &mut *v,
+            words,
+            motion,
+            refs,
+            entries,
+            across,
+            Pel(from + 4 * k),
+        );
+    }
+}
+
+// Those edges where `go` holds. The answer is the count, with these counted.
+pub(crate) fn edges_if(
+    go: bool,
+    pass: Pass,
+    size: Size,
+    y: &mut [u16],
+    u: &mut [u16],
+    v: &mut [u16],
+    words: &[u32],
+    motion: &[i16],
+    refs: &[i8],
+    entries: &[u8],
+    across: Pel,
+    along: Pel,
+    n: usize,
+    count: usize,
+) -> usize
+    requires { ⌜ Frame (size .columns) (size .rows) (now y) (now u) (now v) (now words) (now motion) (now refs) (now entries) ⌝ }
+    requires { ⌜ (go ≡ true → AtUnits (passOf pass) (size .columns) (size .rows) (across .0) (along .0) n) × (n ≤ 16) × (count ≤ 1099511627776) ⌝ }
+    ensures { λ r. ⌜ Gone (record { words = now (words .entry); motion = now (motion .entry); refs = now (refs .entry) }) (now (entries .entry))
+        (passOf pass) (size .columns) (pick go (stretch (passOf pass) (across .0 / 4) (along .0 / 4) n) []) count
+        (record { y = now (y .entry); u = now (u .entry); v = now (v .entry) }) (record { y = now (y .exit); u = now (u .exit); v = now (v .exit) }) r ⌝ }
+{
+    if go {
+        edges(
+            pass,
+            size,
+            y,
+            u,
+            v,
+            words,
+            motion,
+            refs,
+            entries,
+            across,
+            along,
+            n,
+        );
+        return count + n;
+    }
+    count
 }
