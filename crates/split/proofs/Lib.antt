@@ -1,13 +1,17 @@
 pub mod Area
+pub mod Blocks
 pub mod Demand3
 pub mod Example
 pub mod Induct
 pub mod Order
+pub mod Outcomes
+pub mod Parts
 pub mod Passes
 pub mod Places
 pub mod Ranks
 pub mod Roots
 pub mod Rows
 pub mod Sides
+pub mod Stores
 pub mod Tiling
 pub mod Walks

@@ -1,14 +1,20 @@
--- Where a root stands in the picture, and the order of the roots.
+-- Where a root stands in the picture, in units and in luma samples, and the order of the roots.
 -- Assumes nothing.
+use mathlib.Core.List.{List}
 use mathlib.Core.Logic.{_⊎_, inl, inr}
 use mathlib.Core.Path.{_≡_, refl, sym, ap, _∙_}
-use Prim.Native.Nat.{ℕ, suc, _+_, _*_, _/_, _%_, _^_, _≤_, _<_}
+use Prim.Native.Nat.{ℕ, suc, _+_, _-_, _*_, _/_, _%_, _^_, _≤_, _<_}
 use native.Mathlib.Nat.{mod-lt, div-lt-iff-lt-mul, mul-comm, mul-le-mul, div-add-mod', mul-le-mul-right, suc-mul}
 use native.Mathlib.Omega.{arith}
 use borrow.Author.Tests.{ltb-true, ltb-false, eqb-true, eqb-false}
 use lib.Arith.{digits-div, digits-mod, digits-lt}
 use lib.Dec.{ltb, eqb}
-use Rattle.split.specs.Picture.{across, roots, rootX, rootY}
+use lib.ListN.{length, take, drop, length-take, length-drop}
+use Rattle.def.specs.Picture.{rootsAlong, rootCount}
+use Rattle.def.proofs.Sizes.{Sized}
+use Rattle.split.specs.Picture.{across, roots, rootX, rootY, rootWalk}
+use Rattle.split.specs.Stored.{Block}
+use Rattle.split.specs.Walk.{walk}
 use Rattle.split.proofs.Induct.{test}
 
 pub column-in : (w i : ℕ) → 1 ≤ w → rootX w i < w
@@ -49,5 +55,65 @@ root-at w h c r p q = record {
   row = digits-div r p;
 }
 
-pub few-roots : (w h : ℕ) → w ≤ 1024 → h ≤ 1024 → roots w h ≤ 4096
-few-roots w h a b = mul-le-mul {n₁ = across w} {m₁ = across h} {n₂ = 64} {m₂ = 64} (omega arith) (omega arith)
+-- ---- roots in luma samples
+
+pub few-roots : (w h : ℕ) → w ≤ 4096 → h ≤ 4096 → rootCount w h ≤ 4096
+few-roots w h a b = mul-le-mul {n₁ = rootsAlong w} {m₁ = rootsAlong h} {n₂ = 64} {m₂ = 64} (omega arith) (omega arith)
+
+module _ {w h : ℕ} (z : Sized w h) where
+  pub across-units : across (w / 4) ≡ rootsAlong w
+  across-units = omega arith
+
+  pub roots-units : roots (w / 4) (h / 4) ≡ rootCount w h
+  roots-units = let a = across-units in let b : across (h / 4) ≡ rootsAlong h = omega arith in rw (a, b)
+
+  pub some-wide : 1 ≤ w / 4
+  some-wide = omega arith
+
+  -- root i stands on a multiple of 64, inside
+  module _ (i : ℕ) (l : i < rootCount w h) where
+    pub root-column : 64 * (i % rootsAlong w) < w
+    root-column = let e = across-units in let c = column-in (w / 4) i some-wide in let c′ : 16 * (i % rootsAlong w) < w / 4 = rw e at c in omega arith
+
+    pub root-row : 64 * (i / rootsAlong w) < h
+    root-row =
+        let e = across-units in
+        let r = row-in (w / 4) (h / 4) i some-wide (rw roots-units l) in
+        let r′ : 16 * (i / rootsAlong w) < h / 4 = rw e at r in
+        omega arith
+
+    pub root-block : Block w h (64 * (i % rootsAlong w)) (64 * (i / rootsAlong w)) 64 0
+    root-block =
+        let c = root-column in
+        let r = root-row in
+        record {
+          wide = z .wide;
+          high = z .high;
+          units-wide = z .by-four;
+          units-high = z .by-four-down;
+          column = omega arith;
+          row = omega arith;
+          right = omega (arith, z .wide);
+          bottom = omega (arith, z .high);
+          deep = omega arith;
+          power = refl;
+        }
+
+  -- the root at a luma place
+  pub index-in : (x y : ℕ) → x < w → y < h → y / 64 * rootsAlong w + x / 64 < rootCount w h
+  index-in x y p q =
+      let a : y / 64 < rootsAlong h = omega arith in
+      let b : x / 64 < rootsAlong w = omega arith in
+      rw (mul-comm (rootsAlong w) (rootsAlong h)) (digits-lt a b)
+
+  -- its bytes, as the code takes them
+  pub bytes-long : (s : List ℕ) (i : ℕ) → i < rootCount w h → length s ≡ 1024 * rootCount w h → length (take (1024 * i + 1024 - 1024 * i) (drop (1024 * i) s)) ≡ 1024
+  bytes-long s i l e = simp (length-take, length-drop) (omega arith)
+
+  pub root-same : (s : List ℕ) (i : ℕ) → walk (take (1024 * i + 1024 - 1024 * i) (drop (1024 * i) s)) (w / 4) (h / 4) 4 (64 * (i % rootsAlong w) / 4) (64 * (i / rootsAlong w) / 4) ≡ rootWalk s (w / 4) (h / 4) i
+  root-same s i =
+      let e = across-units in
+      let a : 64 * (i % rootsAlong w) / 4 ≡ 16 * (i % rootsAlong w) = omega arith in
+      let b : 64 * (i / rootsAlong w) / 4 ≡ 16 * (i / rootsAlong w) = omega arith in
+      let n : 1024 * i + 1024 - 1024 * i ≡ 1024 = omega arith in
+      rw (a, b, e, n)

@@ -1,21 +1,28 @@
 -- The walk's equations, one for each way through it, and walks one after the other.
 --     not-done    a refusal is not done
---     onward-done, onward-stop, turn-more, turn-stop    a walk, and then another
+--     onward-done, onward-stop, turn-more, turn-stop, turn-done, turn-refused    a walk, and then another
 --     each-done, four    walks in turn of which none is refused
 --     walk-x, walk-y, walk-unit, walk-leaf, walk-cut, walk-bad, leaf-in, leaf-x, leaf-y
+--     few-in-turn, few-leaves    how many leaves there are at most
 -- Assumes nothing.
+use mathlib.Core.Bool.{Bool, true, false}
 use mathlib.Core.Path.{_≡_, refl, sym, ap, ap₂, _∙_, subst}
 use mathlib.Core.List.{List, [], _∷_, _++_, append-assoc}
 use mathlib.Core.Logic.{⊎-elim}
-use Prim.Native.Nat.{ℕ, zero, suc, _+_, _*_, _/_, _%_, _^_, _≤_, _<_}
-use native.Mathlib.Nat.{add-zero, add-suc, not-suc-le-zero, eq-or-lt-of-le, le-of-suc-le-suc}
+use Prim.Native.Nat.{ℕ, zero, suc, _+_, _-_, _*_, _/_, _%_, _^_, _≤_, _<_, zero-le}
+use native.Mathlib.Nat.{add-zero, add-suc, not-suc-le-zero, eq-or-lt-of-le, le-of-suc-le-suc, two-pow-succ, mul-pos, suc-mul}
+use native.Mathlib.Numerals.{add-one}
 use native.Mathlib.Omega.{arith}
 use borrow.Author.Tests.{le-ltb, lt-ltb, le-leb, lt-leb}
-use lib.ListN.{getD}
+use lib.Dec.{ltb, leb}
+use lib.ListN.{length, getD, length-append}
+use lib.Pow.{pow-pos}
 use Rattle.def.specs.declared.Answer.{Answer}
 use Rattle.def.specs.declared.Answer.the-variants.{Done, Refused}
 use Rattle.def.specs.declared.Refusal.{Refusal}
 use Rattle.def.specs.declared.Refusal.the-variants.{Split, Leaf as PastPicture}
+use Rattle.laws.specs.Call.{unless}
+use Rattle.laws.specs.Index.{pick}
 use Rattle.split.specs.Walk.{Leaf, leaf, Walk, met, nothing, onward, andThen, inTurn, leafWalk, byByte, place, part, walk}
 
 pub not-done : (r : Refusal) → Refused r ≡ Done → ⊥
@@ -60,6 +67,19 @@ turn-stop f n (suc m) r e =
   where
     stays : (v : Walk) → v .answer ≡ Refused r → met (v .list) (Refused r) ≡ v
     stays v q i = record { list = v .list; answer = sym q i }
+
+-- one more
+turn-answer : (f : ℕ → Walk) (i : ℕ) (a : Answer) → inTurn f i .answer ≡ Done → f i .answer ≡ a → inTurn f (suc i) .answer ≡ a
+turn-answer f i a p q = ap (λ (v : Walk). v .answer) (turn-more f i ∙ onward-done _ (inTurn f i .list) (f i) p) ∙ q
+
+pub turn-done : (f : ℕ → Walk) (i : ℕ) → inTurn f i .answer ≡ Done → f i .answer ≡ Done → inTurn f (i + 1) .answer ≡ Done
+turn-done f i p q = rw (add-one i) (turn-answer f i Done p q)
+
+pub turn-refused : (f : ℕ → Walk) (i n : ℕ) (r : Refusal) → i < n → inTurn f i .answer ≡ Done → f i .answer ≡ Refused r → inTurn f n .answer ≡ Refused r
+turn-refused f i n r l p q =
+    let e = turn-answer f i (Refused r) p q in
+    let j : suc i + (n - suc i) ≡ n = omega arith in
+    ap (λ (k : ℕ). inTurn f k .answer) (sym j) ∙ ap (λ (v : Walk). v .answer) (turn-stop f (suc i) (n - suc i) r e) ∙ e
 
 last : (f : ℕ → Walk) (n : ℕ) → inTurn f (suc n) .answer ≡ Done → Both (inTurn f n .answer) (inTurn f n .list) (f n)
 unfolding inTurn
@@ -161,3 +181,58 @@ module _ (f : ℕ → ℕ → Walk) (half x y : ℕ) where
 
   pub part₃ : part f half x y 3 ≡ f (x + half) (y + half)
   part₃ = ap₂ f (omega arith) (omega arith)
+
+-- ---- a block of side 2 ^ k has at most 2 ^ k * 2 ^ k leaves
+
+pub record Few (v : Walk) (n : ℕ) : Type 0 where
+  pub few : length (v .list) ≤ n
+
+few-none : (a : Answer) (n : ℕ) → Few (met [] a) n
+few-none a n = record { few = zero-le }
+
+few-pick : (t : Bool) {v u : Walk} {n : ℕ} → Few v n → Few u n → Few (pick t v u) n
+few-pick true f g = f
+few-pick false f g = g
+
+few-unless : (t : Bool) {v u : Walk} {n : ℕ} → Few v n → Few u n → Few (unless t v u) n
+few-unless true f g = g
+few-unless false f g = f
+
+few-byte : (b : ℕ) {u v e : Walk} {n : ℕ} → Few u n → Few v n → Few e n → Few (byByte b u v e) n
+unfolding byByte
+few-byte zero f g h = f
+few-byte (suc zero) f g h = g
+few-byte (suc (suc b)) f g h = h
+
+few-onward : (a : Answer) (l : List Leaf) (v : Walk) (m n : ℕ) → length l ≤ m → Few v n → Few (onward a l v) (m + n)
+unfolding onward
+few-onward Done l v m n g h = record { few = omega (arith, length-append l (v .list)) }
+few-onward (Refused r) l v m n g h = record { few = omega arith }
+
+pub few-in-turn : (f : ℕ → Walk) (m : ℕ) → ((i : ℕ) → Few (f i) m) → (n : ℕ) → Few (inTurn f n) (n * m)
+unfolding inTurn
+few-in-turn f m h zero = few-none Done _
+few-in-turn f m h (suc n) =
+    let i = few-onward (inTurn f n .answer) (inTurn f n .list) (f n) (n * m) m (few-in-turn f m h n .few) (h n) in
+    subst (Few (inTurn f (suc n))) (sym (suc-mul n m)) i
+
+few-leaf : (w h n x y m : ℕ) → 1 ≤ m → Few (leafWalk w h n x y) m
+unfolding leafWalk
+few-leaf w h n x y m g = few-unless (leb (x + n) w) (few-none _ m) (few-unless (leb (y + n) h) (few-none _ m) (record { few = g }))
+
+pub few-leaves : (s : List ℕ) (w h k x y : ℕ) → Few (walk s w h k x y) (2 ^ k * 2 ^ k)
+unfolding walk
+few-leaves s w h zero x y = few-pick (ltb x w) (few-pick (ltb y h) (few-leaf w h 1 x y 1 (omega arith)) (few-none Done 1)) (few-none Done 1)
+few-leaves s w h (suc k) x y =
+    let n = 2 ^ suc k * 2 ^ suc k in
+    let q = 2 ^ k * 2 ^ k in
+    let e : n ≡ 4 * q = rw (two-pow-succ k) (omega arith) in
+    let one : 1 ≤ n = omega (arith, mul-pos (pow-pos k) (pow-pos k)) in
+    few-pick (ltb x w)
+    (few-pick (ltb y h)
+    (few-byte (getD s (place k x y) 0)
+    (few-leaf w h (2 ^ suc k) x y n one)
+    (subst (Few (inTurn (part (walk s w h k) (2 ^ k) x y) 4)) (sym e) (few-in-turn (part (walk s w h k) (2 ^ k) x y) q (λ i. few-leaves s w h k _ _) 4))
+    (few-none (Refused Split) n))
+    (few-none Done n))
+    (few-none Done n)

@@ -1,9 +1,14 @@
+pub mod CheckCall
 pub mod Demand3
 pub mod Edges
+pub mod LeavesCall
+pub mod ListCall
 pub mod Order
 pub mod Passes
 pub mod Picture
+pub mod RankCall
 pub mod Ranks
 pub mod Rows
+pub mod Stored
 pub mod Tiling
 pub mod Walk

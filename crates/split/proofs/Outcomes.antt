@@ -1,0 +1,107 @@
+-- The outcomes of the public calls, by what their checks find; and that each reading tells all answers apart.
+-- Assumes nothing.
+use mathlib.Core.Bool.{Bool, true, false}
+use mathlib.Core.List.{List, [], _∷_}
+use mathlib.Core.Path.{_≡_, refl, sym, ap, ap₂, _∙_}
+use Prim.Native.Nat.{ℕ, _*_, _/_, _%_, _≤_, _<_}
+use native.Mathlib.Nat.{zero-add}
+use native.Mathlib.Omega.{arith}
+use borrow.Author.Tests.{eqb-true, ltb-true}
+use lib.Dec.{eqb}
+use lib.ListN.{length, take}
+use lib.Seq.{sets}
+use Rattle.def.specs.Answers.{answerNumber, afterChecks}
+use Rattle.def.specs.Picture.{sizeOk, rootCount}
+use Rattle.def.specs.Refusals.{numberOf}
+use Rattle.def.specs.declared.Answer.{Answer}
+use Rattle.def.specs.declared.Answer.the-variants.{Done, Refused}
+use Rattle.def.specs.declared.Refusal.{Refusal}
+use Rattle.def.specs.declared.Refusal.the-variants.{Size, Length, Block}
+use Rattle.laws.specs.Call.{unless}
+use Rattle.laws.specs.Orders.{each}
+use Rattle.laws.proofs.Calls.{all-at}
+use Rattle.split.specs.CheckCall as check-call
+use Rattle.split.specs.LeavesCall as leaves-call
+use Rattle.split.specs.Picture.{rootBytes, rootWalk}
+use Rattle.split.specs.Stored.{leafNumbers, counted, Stored}
+use Rattle.split.specs.declared.Walked.{Walked}
+use Rattle.split.specs.declared.Walked.the-variants.{Done as Counted, Refused as NotCounted}
+use Rattle.split.proofs.Stores.{take-sets, thrice, counted-done, counted-refused}
+use Rattle.split.proofs.Walks.{not-done, few-leaves}
+
+-- ---- check
+
+by-number : (k : Answer) → check-call.numbered (answerNumber k) ≡ afterChecks (λ r. check-call.numbered (numberOf r)) (check-call.numbered 0) k
+by-number Done = refl
+by-number (Refused r) = refl
+
+pub check-gives : (i : check-call.Input) (a : Answer) → a ≡ check-call.check i → check-call.numbered (answerNumber a) ≡ check-call.outcome i
+unfolding check-call.outcome
+check-gives i a e = rw e (by-number (check-call.check i))
+
+-- ---- leaves
+
+-- a ladder that ends in done has passed its first rung
+past : (t : Bool) (r : Refusal) (k : Answer) → unless t (Refused r) k ≡ Done → (t ≡ true) × (k ≡ Done)
+past true r k e = (refl, e)
+past false r k e = absurd (not-done r e)
+
+module _ (w h : ℕ) (s : List ℕ) (x y out : ℕ) where
+  abbrev at : ℕ
+  at = leaves-call.rootIndex w x y
+
+  few-met : length (leaves-call.leavesAt w h s x y) ≤ 256
+  few-met = few-leaves (rootBytes s at) (w / 4) (h / 4) 4 _ _ .few
+
+  pub met-refused : (list : List ℕ) (r : Refusal) → Refused r ≡ leaves-call.checkOf w h s x y out → leaves-call.Met w h s x y out list (NotCounted r)
+  met-refused list r e = record { answer = ap (counted _) e; listed = λ d. absurd (not-done r (e ∙ d)); few = few-met }
+
+  pub met-walked : (list₀ list : List ℕ) (r : Walked) → length list₀ ≡ 768 → rootWalk s (w / 4) (h / 4) at .answer ≡ leaves-call.checkOf w h s x y out
+      → Stored (rootWalk s (w / 4) (h / 4) at) list₀ 0 list r → leaves-call.Met w h s x y out list r
+  met-walked list₀ list r n e d =
+      let l = leaves-call.leavesAt w h s x y in
+      record {
+        answer = d .answer ∙ ap₂ counted (zero-add (length l)) e;
+        listed = λ q. ap (take (3 * length l)) (d .stored) ∙ take-sets (each leafNumbers l) list₀ (3 * length l) (thrice l) (omega (arith, few-met));
+        few = few-met;
+      }
+
+-- what the tests tell
+pub lengths-told : (w h splits out : ℕ) → leaves-call.lengthsOk w h splits out ≡ true → (splits ≡ 1024 * rootCount w h) × (out ≡ 768)
+unfolding leaves-call.lengthsOk
+lengths-told w h splits out e =
+    let l = eqb splits (1024 * rootCount w h) ∷ eqb out 768 ∷ [] in
+    (eqb-true _ _ (all-at l 0 e), eqb-true _ _ (all-at l 1 e))
+
+pub root-told : (w h x y : ℕ) → leaves-call.rootOk w h x y ≡ true → (x % 64 ≡ 0) × (y % 64 ≡ 0) × (x < w) × (y < h)
+unfolding leaves-call.rootOk
+root-told w h x y e =
+    let l = leaves-call.rootTests w h x y in
+    (eqb-true _ _ (all-at l 0 e), eqb-true _ _ (all-at l 1 e), ltb-true _ _ (all-at l 2 e), ltb-true _ _ (all-at l 3 e))
+
+-- where the checks pass, the lent list holds what is listed
+passed : (w h : ℕ) (s : List ℕ) (x y out : ℕ) → leaves-call.checkOf w h s x y out ≡ Done → out ≡ 768
+unfolding leaves-call.checkOf
+passed w h s x y out e =
+    let t = leaves-call.lengthsOk w h (length s) out in
+    let rest = unless (leaves-call.rootOk w h x y) (Refused Block) (rootWalk s (w / 4) (h / 4) (leaves-call.rootIndex w x y) .answer) in
+    lengths-told w h (length s) out (past t Length rest (past (sizeOk w h) Size (unless t (Refused Length) rest) e .1) .0) .1
+
+pub met-room : {w h : ℕ} {s : List ℕ} {x y out : ℕ} {list : List ℕ} {r : Walked} (n : ℕ) → leaves-call.Met w h s x y out list r → r ≡ Counted n → (n ≤ 256) × (out ≡ 768)
+met-room {w} {h} {s} {x} {y} {out} n m e =
+    let k = counted-done n _ (leaves-call.checkOf w h s x y out) (sym e ∙ m .answer) in
+    (omega (arith, k .1, m .few), passed w h s x y out (k .0))
+
+-- n is what the walk counted
+pub leaves-done : (i : leaves-call.Input) (list : List ℕ) (n : ℕ) (r : Walked) (o : List ℕ)
+    → leaves-call.Met (i .w) (i .h) (i .splits) (i .x) (i .y) (length (i .out)) list r → r ≡ Counted n → o ≡ sets (i .out) 0 (take (3 * n) list)
+    → leaves-call.after (Counted n) o ≡ leaves-call.outcome i
+unfolding leaves-call.outcome
+leaves-done i list n r o m e q =
+    let k = counted-done n _ (leaves-call.check i) (sym e ∙ m .answer) in
+    rw (k .0, q, k .1, m .listed (k .0))
+
+pub leaves-refused : (i : leaves-call.Input) (list : List ℕ) (q : Refusal) (r : Walked)
+    → leaves-call.Met (i .w) (i .h) (i .splits) (i .x) (i .y) (length (i .out)) list r → r ≡ NotCounted q → leaves-call.after (NotCounted q) (i .out) ≡ leaves-call.outcome i
+unfolding leaves-call.outcome
+leaves-refused i list q r m e = rw (counted-refused q _ (leaves-call.check i) (sym e ∙ m .answer))

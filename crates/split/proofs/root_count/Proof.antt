@@ -1,0 +1,16 @@
+-- `split::root_count` meets its contract: at most 64 roots stand along a side, so their number fits. Assumes nothing.
+use mathlib.Core.Path.{refl}
+use native.Mathlib.Omega.{arith}
+use borrow.Author.Needs.{needs}
+use Rattle.split.proofs.Roots.{few-roots}
+use Rattle.split.proofs.root_count.Statement.{statement}
+use Rattle.split.proofs.root_count.Tie as tie
+
+mul-result : tie.Need-mul-result
+mul-result c = omega (arith, few-roots (c .args .w) (c .args .h) (c .pre .0) (c .pre .1))
+
+returns : tie.Need-returns
+returns c = (refl, few-roots _ _ (c .pre .0) (c .pre .1))
+
+pub root-count-spec : {M : Type 1} → statement M
+root-count-spec = tie.close (tie.spec (λ c. search needs) (λ c. search needs) mul-result returns)
