@@ -7,7 +7,7 @@ use mathlib.Core.List.{List, [], _∷_, _++_}
 use native.Mathlib.Nat.{mul-le-mul-left, mul-le-mul-right, mul-one, add-mul, mul-suc, add-zero, suc-add}
 use native.Mathlib.Omega.{arith}
 use lib.IntN.{ℤ}
-use lib.ListN.{length}
+use lib.ListN.{length, length-append}
 use Rattle.def.specs.declared.Component.{Component}
 use Rattle.def.specs.declared.Component.the-variants.{Luma, Chroma}
 use Rattle.laws.specs.Index.{pick}
@@ -189,9 +189,18 @@ stretch-long d c a (suc n) = ap suc (stretch-long d c (suc a) n)
 -- ---- the edges of a side, where there is one to filter
 
 module _ (m : Maps) (t : List ℕ) (d : Pass) (w c a n count : ℕ) (p q : Planes) (few : n ≤ 16) where
-  pub went : (go : Bool) → go ≡ true → q ≡ filterAll m t d w (stretch d c a n) p → Gone m t d w (pick go (stretch d c a n) []) count p q (count + n)
+  pub went : (go : Bool) → go ≡ true → q ≡ filterAll m t d w (stretch d c a n) p → Gone m t d w (pick go (stretch d c a n) []) 16 count p q (count + n)
   went go e g = rw e (record { planes = g; counted = ap (λ (k : ℕ). count + k) (sym (stretch-long d c a n)); few = omega arith })
 
-pub stayed : (m : Maps) (t : List ℕ) (d : Pass) (w c a n count : ℕ) (p : Planes) (go : Bool) → go ≡ false → Gone m t d w (pick go (stretch d c a n) []) count p p count
+pub stayed : (m : Maps) (t : List ℕ) (d : Pass) (w c a n count : ℕ) (p : Planes) (go : Bool) → go ≡ false → Gone m t d w (pick go (stretch d c a n) []) 16 count p p count
 unfolding run
 stayed m t d w c a n count p go e = rw e (record { planes = refl; counted = sym (add-zero count); few = omega arith })
+
+-- one list after another
+pub gone-then : (m : Maps) (t : List ℕ) (d : Pass) (w : ℕ) (k l : List Edge) (count : ℕ) (p q s : Planes) (r r₁ : ℕ)
+    → Gone m t d w k 16 count p q r → Gone m t d w l 16 r q s r₁ → Gone m t d w (k ++ l) 32 count p s r₁
+gone-then m t d w k l count p q s r r₁ g h = record {
+  planes = h .planes ∙ ap (filterAll m t d w l) (g .planes) ∙ sym (run-append (filterOne m t d w) k l p);
+  counted = omega (arith, g .counted, h .counted, length-append k l);
+  few = omega (arith, g .few, h .few);
+}

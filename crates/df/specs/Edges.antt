@@ -71,8 +71,8 @@ pub record AtUnits (d : Pass) (w h c a n : ℕ) : Type 0 where
   pub first : AtUnit d w h c a
   pub last : a + 4 * n ≤ 4 * unitsAlong d w h
 
--- the edges of a list were filtered and counted, at most 16 of them
-pub record Gone (m : Maps) (entries : List ℕ) (d : Pass) (w : ℕ) (l : List Edge) (count : ℕ) (p q : Planes) (r : ℕ) : Type 0 where
+-- the edges of a list were filtered and counted
+pub record Gone (m : Maps) (entries : List ℕ) (d : Pass) (w : ℕ) (l : List Edge) (most count : ℕ) (p q : Planes) (r : ℕ) : Type 0 where
   pub planes : q ≡ filterAll m entries d w l p
   pub counted : r ≡ count + length l
-  pub few : r ≤ count + 16
+  pub few : r ≤ count + most

@@ -2,4 +2,5 @@ pub mod Edges
 pub mod Filter
 pub mod Places
 pub mod Strength
+pub mod Visit
 pub mod Window

@@ -235,7 +235,7 @@ pub(crate) fn edges_if(
     requires { ⌜ Frame (size .columns) (size .rows) (now y) (now u) (now v) (now words) (now motion) (now refs) (now entries) ⌝ }
     requires { ⌜ (go ≡ true → AtUnits (passOf pass) (size .columns) (size .rows) (across .0) (along .0) n) × (n ≤ 16) × (count ≤ 1099511627776) ⌝ }
     ensures { λ r. ⌜ Gone (record { words = now (words .entry); motion = now (motion .entry); refs = now (refs .entry) }) (now (entries .entry))
-        (passOf pass) (size .columns) (pick go (stretch (passOf pass) (across .0 / 4) (along .0 / 4) n) []) count
+        (passOf pass) (size .columns) (pick go (stretch (passOf pass) (across .0 / 4) (along .0 / 4) n) []) 16 count
         (record { y = now (y .entry); u = now (u .entry); v = now (v .entry) }) (record { y = now (y .exit); u = now (u .exit); v = now (v .exit) }) r ⌝ }
 {
     if go {

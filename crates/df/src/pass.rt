@@ -1,0 +1,184 @@
+// The passes: done bits, the edges of a leaf or half, of a root, of the picture.
+// The Rust beside it: df.rs, evc_deblock_cu_ver, evc_deblock_cu_hor, evc_deblock_tree, evc_deblock.
+ghost use mathlib.Core.Path.{_≡_};
+ghost use Prim.Native.Nat.{ℕ, _+_, _-_, _*_, _/_, _%_, _≤_, _<_};
+ghost use lib.ListN.{length, getD};
+ghost use mathlib.Core.List.{[]};
+ghost use Rattle.laws.specs.Index.{pick};
+ghost use Rattle.split.specs.Edges.{vertical, horizontal, visit, stretch};
+ghost use Rattle.df.specs.Edges.{passOf, Frame, Gone};
+ghost use Rattle.df.specs.Visit.{cleared, doneRow, marked, Fits, leftDone, thereDone, visitEdges, Side, Block, Visited};
+use crate::edge::Pass;
+use crate::edge::Size;
+use crate::edge::edges_if;
+use def::Pel;
+use def::Scu;
+use def::clr_cod;
+use def::get_cod;
+use def::pel2scu;
+use def::set_cod;
+
+// ---- done bits
+
+// Clears done in every unit.
+pub(crate) fn clear(words: &mut [u32])
+    ensures { λ _. ⌜ now (words .exit) ≡ cleared (now (words .entry)) ⌝ }
+{
+    let n = words.len();
+    for k in 0..n {
+        words[k] = clr_cod(words[k]);
+    }
+}
+
+// Sets done in n units of a row.
+fn mark_row(words: &mut [u32], at: usize, n: usize)
+    requires { ⌜ at + n ≤ length (now words) ⌝ }
+    ensures { λ _. ⌜ now (words .exit) ≡ doneRow at n (now (words .entry)) ⌝ }
+{
+    for j in 0..n {
+        words[at + j] = set_cod(words[at + j]);
+    }
+}
+
+// Sets done in the units of a block of n columns and `rows` rows of units at (x, y).
+fn mark(words: &mut [u32], columns: usize, x: Scu, y: Scu, n: usize, rows: usize)
+    requires { ⌜ Fits columns (length (now words)) (visit (x .0) (y .0) n rows) ⌝ }
+    ensures { λ _. ⌜ now (words .exit) ≡ marked columns (visit (x .0) (y .0) n rows) (now (words .entry)) ⌝ }
+{
+    let u = x.0;
+    let v = y.0;
+    for j in 0..rows {
+        mark_row(&mut *words, (v + j) * columns + u, n);
+    }
+}
+
+// Whether there is a unit at (x, y), and it is done.
+fn there_done(words: &[u32], columns: usize, x: Scu, y: Scu) -> bool
+    requires { ⌜ (y .0 + 1) * columns ≤ length (now words) ⌝ }
+    ensures { λ r. ⌜ r ≡ thereDone columns (now (words .entry)) (x .0) (y .0) ⌝ }
+{
+    let u = x.0;
+    let v = y.0;
+    if columns <= u {
+        return false;
+    }
+    get_cod(words[v * columns + u])
+}
+
+// Whether there is a unit left of (x, y), and it is done.
+fn left_done(words: &[u32], columns: usize, x: Scu, y: Scu) -> bool
+    requires { ⌜ (y .0 + 1) * columns ≤ length (now words) ⌝ }
+    ensures { λ r. ⌜ r ≡ leftDone columns (now (words .entry)) (x .0) (y .0) ⌝ }
+{
+    let u = x.0;
+    if u == 0 {
+        return false;
+    }
+    there_done(words, columns, Scu(u - 1), y)
+}
+
+// ---- the edges of a leaf, or half of one
+
+// The edge of n units left of the one at (x, y), if that unit is there and done.
+fn left_edge(
+    size: Size,
+    y: &mut [u16],
+    u: &mut [u16],
+    v: &mut [u16],
+    words: &[u32],
+    motion: &[i16],
+    refs: &[i8],
+    entries: &[u8],
+    x: Pel,
+    z: Pel,
+    n: usize,
+    count: usize,
+) -> usize
+    requires { ⌜ Frame (size .columns) (size .rows) (now y) (now u) (now v) (now words) (now motion) (now refs) (now entries) ⌝ }
+    requires { ⌜ Side (size .columns) (size .rows) (x .0) (z .0) n × (count ≤ 1099511627776) ⌝ }
+    ensures { λ r. ⌜ Gone (record { words = now (words .entry); motion = now (motion .entry); refs = now (refs .entry) }) (now (entries .entry))
+        vertical (size .columns) (pick (leftDone (size .columns) (now (words .entry)) (x .0 / 4) (z .0 / 4)) (stretch vertical (x .0 / 4) (z .0 / 4) n) []) 16 count
+        (record { y = now (y .entry); u = now (u .entry); v = now (v .entry) }) (record { y = now (y .exit); u = now (u .exit); v = now (v .exit) }) r ⌝ }
+{
+    let columns = size.columns;
+    let go = left_done(words, columns, pel2scu(x), pel2scu(z));
+    edges_if(go, Pass::Vertical, size, y, u, v, words, motion, refs, entries, x, z, n, count)
+}
+
+// The edge of n units left of the one at (x, y), if that one is there and done: the right edge of the block before it.
+fn right_edge(
+    size: Size,
+    y: &mut [u16],
+    u: &mut [u16],
+    v: &mut [u16],
+    words: &[u32],
+    motion: &[i16],
+    refs: &[i8],
+    entries: &[u8],
+    x: Pel,
+    z: Pel,
+    n: usize,
+    count: usize,
+) -> usize
+    requires { ⌜ Frame (size .columns) (size .rows) (now y) (now u) (now v) (now words) (now motion) (now refs) (now entries) ⌝ }
+    requires { ⌜ Side (size .columns) (size .rows) (x .0) (z .0) n × (4 ≤ x .0) × (count ≤ 1099511627776) ⌝ }
+    ensures { λ r. ⌜ Gone (record { words = now (words .entry); motion = now (motion .entry); refs = now (refs .entry) }) (now (entries .entry))
+        vertical (size .columns) (pick (thereDone (size .columns) (now (words .entry)) (x .0 / 4) (z .0 / 4)) (stretch vertical (x .0 / 4) (z .0 / 4) n) []) 16 count
+        (record { y = now (y .entry); u = now (u .entry); v = now (v .entry) }) (record { y = now (y .exit); u = now (u .exit); v = now (v .exit) }) r ⌝ }
+{
+    let columns = size.columns;
+    let go = there_done(words, columns, pel2scu(x), pel2scu(z));
+    edges_if(go, Pass::Vertical, size, y, u, v, words, motion, refs, entries, x, z, n, count)
+}
+
+// evc_deblock_cu_ver, its edges: left, then right, each if the unit beyond it is done.
+fn edges_ver(
+    size: Size,
+    y: &mut [u16],
+    u: &mut [u16],
+    v: &mut [u16],
+    words: &[u32],
+    motion: &[i16],
+    refs: &[i8],
+    entries: &[u8],
+    x: Pel,
+    z: Pel,
+    wide: usize,
+    tall: usize,
+    count: usize,
+) -> usize
+    requires { ⌜ Frame (size .columns) (size .rows) (now y) (now u) (now v) (now words) (now motion) (now refs) (now entries) ⌝ }
+    requires { ⌜ Block (size .columns) (size .rows) (x .0) (z .0) wide tall × (count ≤ 549755813888) ⌝ }
+    ensures { λ r. ⌜ Gone (record { words = now (words .entry); motion = now (motion .entry); refs = now (refs .entry) }) (now (entries .entry))
+        vertical (size .columns) (visitEdges vertical (size .columns) (now (words .entry)) (visit (x .0 / 4) (z .0 / 4) (wide / 4) (tall / 4))) 32 count
+        (record { y = now (y .entry); u = now (u .entry); v = now (v .entry) }) (record { y = now (y .exit); u = now (u .exit); v = now (v .exit) }) r ⌝ }
+{
+    let n = left_edge(size, &mut *y, &mut *u, &mut *v, words, motion, refs, entries, x, z, tall / 4, count);
+    right_edge(size, &mut *y, &mut *u, &mut *v, words, motion, refs, entries, Pel(x.0 + wide), z, tall / 4, n)
+}
+
+// evc_deblock_cu_hor, its edge: the top, if it is not the picture's.
+fn edges_hor(
+    size: Size,
+    y: &mut [u16],
+    u: &mut [u16],
+    v: &mut [u16],
+    words: &[u32],
+    motion: &[i16],
+    refs: &[i8],
+    entries: &[u8],
+    x: Pel,
+    z: Pel,
+    wide: usize,
+    tall: usize,
+    count: usize,
+) -> usize
+    requires { ⌜ Frame (size .columns) (size .rows) (now y) (now u) (now v) (now words) (now motion) (now refs) (now entries) ⌝ }
+    requires { ⌜ Block (size .columns) (size .rows) (x .0) (z .0) wide tall × (count ≤ 549755813888) ⌝ }
+    ensures { λ r. ⌜ Gone (record { words = now (words .entry); motion = now (motion .entry); refs = now (refs .entry) }) (now (entries .entry))
+        horizontal (size .columns) (visitEdges horizontal (size .columns) (now (words .entry)) (visit (x .0 / 4) (z .0 / 4) (wide / 4) (tall / 4))) 32 count
+        (record { y = now (y .entry); u = now (u .entry); v = now (v .entry) }) (record { y = now (y .exit); u = now (u .exit); v = now (v .exit) }) r ⌝ }
+{
+    let go = 0 < pel2scu(z).0;
+    edges_if(go, Pass::Horizontal, size, y, u, v, words, motion, refs, entries, z, x, wide / 4, count)
+}
