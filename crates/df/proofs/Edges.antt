@@ -1,7 +1,7 @@
 -- A unit's edge in the picture: its units lie in the maps and its windows in the planes, and what its windows become is its filter.
 -- Assumes nothing.
 use Prim.Native.Nat.{ℕ, zero, suc, _+_, _-_, _*_, _/_, _%_, _≤_, _<_}
-use mathlib.Core.Path.{_≡_, refl, sym, ap, _∙_, transport}
+use mathlib.Core.Path.{_≡_, refl, sym, ap, _∙_, subst, transport}
 use mathlib.Core.Bool.{Bool, true, false}
 use mathlib.Core.List.{List, [], _∷_, _++_}
 use native.Mathlib.Nat.{mul-le-mul-left, mul-le-mul-right, mul-one, add-mul, mul-suc, add-zero, suc-add}
@@ -204,3 +204,10 @@ gone-then m t d w k l count p q s r r₁ g h = record {
   counted = omega (arith, g .counted, h .counted, length-append k l);
   few = omega (arith, g .few, h .few);
 }
+
+-- the same of an equal list
+pub gone-as : {m : Maps} {t : List ℕ} {d : Pass} {w : ℕ} {k l : List Edge} {most count : ℕ} {p q : Planes} {r : ℕ} → Gone m t d w k most count p q r → k ≡ l → Gone m t d w l most count p q r
+gone-as {m} {t} {d} {w} {most = most} {count} {p} {q} {r} g e = subst (λ (j : List Edge). Gone m t d w j most count p q r) e g
+
+pub gone-few : {m : Maps} {t : List ℕ} {d : Pass} {w : ℕ} {l : List Edge} {count : ℕ} {p q : Planes} {r : ℕ} → Gone m t d w l 16 count p q r → Gone m t d w l 32 count p q r
+gone-few g = record { planes = g .planes; counted = g .counted; few = omega (arith, g .few) }

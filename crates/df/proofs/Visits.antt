@@ -5,6 +5,7 @@ use mathlib.Core.Path.{_≡_, refl, sym, ap, _∙_, subst}
 use mathlib.Core.Bool.{Bool, true, false, _&&_}
 use mathlib.Core.List.{List}
 use native.Mathlib.Decide.{decLt}
+use native.Mathlib.Nat.{mul-le-mul-right}
 use native.Mathlib.Omega.{arith}
 use borrow.Author.Tests.{le-ltb, lt-ltb, ltb-true}
 use lib.Arith.{digits-div, digits-mod}
@@ -16,9 +17,10 @@ use Rattle.laws.specs.Index.{pick}
 use Rattle.laws.specs.Plane.{within, withRow, withBlock}
 use Rattle.laws.proofs.Flat.{flat-below}
 use Rattle.laws.proofs.Planes.{within-yes, within-low, within-high, length-row, length-block, getD-row, getD-block, block-none, block-more}
-use Rattle.split.specs.Edges.{Visit, visit}
+use Rattle.split.specs.Edges.{Visit, visit, vertical, horizontal}
 use Rattle.split.proofs.Sides.{and-true}
-use Rattle.df.specs.Visit.{doneRow, marked, thereDone, leftDone}
+use Rattle.df.specs.Edges.{AtUnits}
+use Rattle.df.specs.Visit.{doneRow, marked, thereDone, leftDone, Side, Block}
 
 -- ---- a block marked row by row
 
@@ -76,3 +78,42 @@ there-in w x y l e = ltb-true x w (and-true (ltb x w) _ e .0)
 pub left-in : (w x y : ℕ) (l : List ℕ) → leftDone w l x y ≡ true → (0 < x) × (x - 1 < w)
 unfolding leftDone
 left-in w x y l e = let t = and-true (ltb 0 x) _ e in (ltb-true 0 x (t .0), there-in w (x - 1) y l (t .1))
+
+-- ---- where a visit's edges lie
+
+-- the side's first row of units lies in the map
+pub side-row : (w h x y n len v : ℕ) → Side w h x y n → len ≡ h * w → v ≡ y / 4 → (v + 1) * w ≤ len
+side-row w h x y n len v s e q = rw e (mul-le-mul-right w (omega (arith, s .some, s .bottom)))
+
+pub left-units : (w h x y n : ℕ) (l : List ℕ) → Side w h x y n → x < 4 * w → leftDone w l (x / 4) (y / 4) ≡ true → AtUnits vertical w h x y n
+left-units w h x y n l s r t =
+    let i = left-in w (x / 4) (y / 4) l t in
+    let i₀ = i .0 in
+    record {
+      first = record { whole-c = s .whole-x; whole-a = s .whole-y; inner = omega (arith, s .whole-x); across = r; along = omega (arith, s .some, s .bottom) };
+      last = s .bottom;
+    }
+
+pub right-units : (w h x y n : ℕ) (l : List ℕ) → Side w h x y n → 4 ≤ x → thereDone w l (x / 4) (y / 4) ≡ true → AtUnits vertical w h x y n
+right-units w h x y n l s r t =
+    let i = there-in w (x / 4) (y / 4) l t in
+    record {
+      first = record { whole-c = s .whole-x; whole-a = s .whole-y; inner = r; across = omega (arith, s .whole-x); along = omega (arith, s .some, s .bottom) };
+      last = s .bottom;
+    }
+
+pub top-units : (w h x y wide tall : ℕ) → Block w h x y wide tall → ltb 0 (y / 4) ≡ true → AtUnits horizontal w h y x (wide / 4)
+top-units w h x y wide tall b t =
+    let i = ltb-true 0 (y / 4) t in
+    record {
+      first = record { whole-c = b .whole-y; whole-a = b .whole-x; inner = omega (arith, b .whole-y); across = omega (arith, b .some-tall, b .bottom); along = omega (arith, b .some-wide, b .right) };
+      last = omega (arith, b .right, b .whole-wide);
+    }
+
+pub left-side : (w h x y wide tall : ℕ) → Block w h x y wide tall → Side w h x y (tall / 4)
+left-side w h x y wide tall b =
+    record { whole-x = b .whole-x; whole-y = b .whole-y; few = omega (arith, b .few-tall); some = omega (arith, b .some-tall); bottom = omega (arith, b .bottom, b .whole-tall) }
+
+pub right-side : (w h x y wide tall : ℕ) → Block w h x y wide tall → Side w h (x + wide) y (tall / 4)
+right-side w h x y wide tall b =
+    record { whole-x = omega (arith, b .whole-x, b .whole-wide); whole-y = b .whole-y; few = omega (arith, b .few-tall); some = omega (arith, b .some-tall); bottom = omega (arith, b .bottom, b .whole-tall) }

@@ -89,7 +89,7 @@ pub record Side (w h x y n : ℕ) : Type 0 where
   pub some : 1 ≤ n
   pub bottom : y + 4 * n ≤ 4 * h
 
--- what a visit's function leaves: the state after it, and at most 32 edges more
-pub record Visited (motion refs : List ℤ) (entries : List ℕ) (d : Pass) (w : ℕ) (p : Visit) (count : ℕ) (a : Planes) (words : List ℕ) (b : Planes) (words₁ : List ℕ) (r : ℕ) : Type 0 where
-  pub state : (record { planes = b; words = words₁; count = r }) ≡ visited motion refs entries d w p (record { planes = a; words = words; count = count })
-  pub few : r ≤ count + 32
+-- what the functions of visits leave: the state after them, and no more edges than these
+pub record Visited (motion refs : List ℤ) (entries : List ℕ) (d : Pass) (w : ℕ) (l : List Visit) (most : ℕ) (a b : State) : Type 0 where
+  pub state : b ≡ visitedAll motion refs entries d w l a
+  pub few : b .count ≤ a .count + most

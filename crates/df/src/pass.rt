@@ -3,7 +3,7 @@
 ghost use mathlib.Core.Path.{_≡_};
 ghost use Prim.Native.Nat.{ℕ, _+_, _-_, _*_, _/_, _%_, _≤_, _<_};
 ghost use lib.ListN.{length, getD};
-ghost use mathlib.Core.List.{[]};
+ghost use mathlib.Core.List.{[], _∷_};
 ghost use Rattle.laws.specs.Index.{pick};
 ghost use Rattle.split.specs.Edges.{vertical, horizontal, visit, stretch};
 ghost use Rattle.df.specs.Edges.{passOf, Frame, Gone};
@@ -95,7 +95,7 @@ fn left_edge(
     count: usize,
 ) -> usize
     requires { ⌜ Frame (size .columns) (size .rows) (now y) (now u) (now v) (now words) (now motion) (now refs) (now entries) ⌝ }
-    requires { ⌜ Side (size .columns) (size .rows) (x .0) (z .0) n × (count ≤ 1099511627776) ⌝ }
+    requires { ⌜ Side (size .columns) (size .rows) (x .0) (z .0) n × (x .0 < 4 * size .columns) × (count ≤ 1099511627776) ⌝ }
     ensures { λ r. ⌜ Gone (record { words = now (words .entry); motion = now (motion .entry); refs = now (refs .entry) }) (now (entries .entry))
         vertical (size .columns) (pick (leftDone (size .columns) (now (words .entry)) (x .0 / 4) (z .0 / 4)) (stretch vertical (x .0 / 4) (z .0 / 4) n) []) 16 count
         (record { y = now (y .entry); u = now (u .entry); v = now (v .entry) }) (record { y = now (y .exit); u = now (u .exit); v = now (v .exit) }) r ⌝ }
@@ -181,4 +181,64 @@ fn edges_hor(
 {
     let go = 0 < pel2scu(z).0;
     edges_if(go, Pass::Horizontal, size, y, u, v, words, motion, refs, entries, z, x, wide / 4, count)
+}
+
+// The edges of a leaf, or half of one, in either pass.
+fn edges_cu(
+    pass: Pass,
+    size: Size,
+    y: &mut [u16],
+    u: &mut [u16],
+    v: &mut [u16],
+    words: &[u32],
+    motion: &[i16],
+    refs: &[i8],
+    entries: &[u8],
+    x: Pel,
+    z: Pel,
+    wide: usize,
+    tall: usize,
+    count: usize,
+) -> usize
+    requires { ⌜ Frame (size .columns) (size .rows) (now y) (now u) (now v) (now words) (now motion) (now refs) (now entries) ⌝ }
+    requires { ⌜ Block (size .columns) (size .rows) (x .0) (z .0) wide tall × (count ≤ 549755813888) ⌝ }
+    ensures { λ r. ⌜ Gone (record { words = now (words .entry); motion = now (motion .entry); refs = now (refs .entry) }) (now (entries .entry))
+        (passOf pass) (size .columns) (visitEdges (passOf pass) (size .columns) (now (words .entry)) (visit (x .0 / 4) (z .0 / 4) (wide / 4) (tall / 4))) 32 count
+        (record { y = now (y .entry); u = now (u .entry); v = now (v .entry) }) (record { y = now (y .exit); u = now (u .exit); v = now (v .exit) }) r ⌝ }
+{
+    match pass {
+        Pass::Vertical => edges_ver(size, y, u, v, words, motion, refs, entries, x, z, wide, tall, count),
+        Pass::Horizontal => edges_hor(size, y, u, v, words, motion, refs, entries, x, z, wide, tall, count),
+    }
+}
+
+// ---- a visit
+
+// evc_deblock_cu_ver, evc_deblock_cu_hor: the edges of a leaf, or half of one; then it is done. The answer is the count, with these counted.
+fn deblock_cu(
+    pass: Pass,
+    size: Size,
+    y: &mut [u16],
+    u: &mut [u16],
+    v: &mut [u16],
+    words: &mut [u32],
+    motion: &[i16],
+    refs: &[i8],
+    entries: &[u8],
+    x: Pel,
+    z: Pel,
+    wide: usize,
+    tall: usize,
+    count: usize,
+) -> usize
+    requires { ⌜ Frame (size .columns) (size .rows) (now y) (now u) (now v) (now words) (now motion) (now refs) (now entries) ⌝ }
+    requires { ⌜ Block (size .columns) (size .rows) (x .0) (z .0) wide tall × (count ≤ 549755813888) ⌝ }
+    ensures { λ r. ⌜ Visited (now (motion .entry)) (now (refs .entry)) (now (entries .entry)) (passOf pass) (size .columns) (visit (x .0 / 4) (z .0 / 4) (wide / 4) (tall / 4) ∷ []) 32
+        (record { planes = record { y = now (y .entry); u = now (u .entry); v = now (v .entry) }; words = now (words .entry); count = count })
+        (record { planes = record { y = now (y .exit); u = now (u .exit); v = now (v .exit) }; words = now (words .exit); count = r }) ⌝ }
+{
+    let columns = size.columns;
+    let n = edges_cu(pass, size, &mut *y, &mut *u, &mut *v, &*words, motion, refs, entries, x, z, wide, tall, count);
+    mark(&mut *words, columns, pel2scu(x), pel2scu(z), wide / 4, tall / 4);
+    n
 }

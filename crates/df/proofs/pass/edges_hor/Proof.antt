@@ -1,36 +1,31 @@
+-- `df::pass::edges_hor` meets its contract: the top edge where there is a unit above. Assumes nothing.
+use Prim.Native.Nat.{_/_}
+use mathlib.Core.List.{[]}
+use mathlib.Core.Path.{_≡_, sym, ap, _∙_}
+use native.Mathlib.Omega.{arith}
 use borrow.Author.Needs.{needs}
+use lib.Dec.{ltb}
+use Rattle.laws.specs.Index.{pick}
+use Rattle.split.specs.Edges.{horizontal, stretch}
+use Rattle.df.proofs.Edges.{gone-as, gone-few}
+use Rattle.df.proofs.Visits.{top-units}
 use Rattle.df.proofs.pass.edges_hor.Statement.{statement}
 use Rattle.df.proofs.pass.edges_hor.Tie as tie
-use Rattle.df.proofs.pass.edges_hor.Reads as reads
-use Rattle.df.proofs.pass.edges_hor.Lts as lts
-use Rattle.def.proofs.pel2scu.Reads as pel2scu-reads
-use Rattle.df.proofs.edge.edges_if.Reads as edges-if-reads
 
--- src/pass.rt:182:18
-pel2scu-requires : tie.Need-pel2scu-requires
-pel2scu-requires c κs = search needs
+-- the test is that of the unit
+tested : (c : tie.After-pel2scu) → ltb 0 (c .pel2scu .result .0) ≡ ltb 0 (c .before .before .before .before .before .before .args .z .0 / 4)
+tested c = ap (ltb 0) (c .pel2scu .ensures)
 
--- src/pass.rt:183:5
 edges-if-requires : tie.Need-edges-if-requires
-edges-if-requires c κs = ?
+edges-if-requires c κs =
+    let s = c .before .before .before .before .before .before .before .before .before .before in
+    let b = s .pre .1 .0 in
+    (s .pre .0, (λ t. top-units _ _ _ _ _ _ b (sym (tested (c .before .before .before .before)) ∙ t), omega (arith, b .few-wide), omega (arith, s .pre .1 .1)))
 
--- src/pass.rt:161:1
-same-length : tie.Need-same-length
-same-length c = search needs
-
--- src/pass.rt:161:1
-same-length-2 : tie.Need-same-length-2
-same-length-2 c = search needs
-
--- src/pass.rt:161:1
-same-length-3 : tie.Need-same-length-3
-same-length-3 c = search needs
-
--- src/pass.rt:161:1
 returns : tie.Need-returns
-returns c = ?
+returns c =
+    let a = c .before .before .before .before .before .before .before .before .before .before .before .before .before .before .before .before .before .args in
+    gone-few (gone-as (c .before .before .before .before .before .before .edges-if .ensures) (λ i. pick (tested (c .before .before .before .before .before .before .before .before .before .before .before) i) (stretch horizontal (a .z .0 / 4) (a .x .0 / 4) (a .wide / 4)) []))
 
 pub edges-hor-spec : {M : Type 1} → statement M
-edges-hor-spec =
-    tie.close
-    (tie.spec pel2scu-requires edges-if-requires same-length same-length-2 same-length-3 returns)
+edges-hor-spec = tie.close (tie.spec (λ c κs. search needs) edges-if-requires (λ c. search needs) (λ c. search needs) (λ c. search needs) returns)
