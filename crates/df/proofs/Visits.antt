@@ -3,24 +3,29 @@
 use Prim.Native.Nat.{ℕ, _+_, _-_, _*_, _/_, _%_, _≤_, _<_}
 use mathlib.Core.Path.{_≡_, refl, sym, ap, _∙_, subst}
 use mathlib.Core.Bool.{Bool, true, false, _&&_}
-use mathlib.Core.List.{List}
+use mathlib.Core.List.{List, [], _∷_, _++_}
 use native.Mathlib.Decide.{decLt}
 use native.Mathlib.Nat.{mul-le-mul-right}
 use native.Mathlib.Omega.{arith}
-use borrow.Author.Tests.{le-ltb, lt-ltb, ltb-true}
+use borrow.Author.Tests.{le-ltb, lt-ltb, ltb-true, eqb-true, eqb-false, eq-eqb, ne-eqb}
 use lib.Arith.{digits-div, digits-mod}
-use lib.Dec.{ltb}
+use lib.Dec.{ltb, eqb}
+use lib.IntN.{ℤ}
 use lib.ListN.{length, getD}
 use lib.Seq.{ext-getD}
 use Rattle.def.specs.Word.{doneOf, withDone}
 use Rattle.laws.specs.Index.{pick}
+use Rattle.laws.specs.Orders.{run}
+use Rattle.laws.proofs.Orders.{run-append}
 use Rattle.laws.specs.Plane.{within, withRow, withBlock}
 use Rattle.laws.proofs.Flat.{flat-below}
 use Rattle.laws.proofs.Planes.{within-yes, within-low, within-high, length-row, length-block, getD-row, getD-block, block-none, block-more}
-use Rattle.split.specs.Edges.{Visit, visit, vertical, horizontal}
+use Rattle.split.specs.Edges.{Pass, Visit, visit, vertical, horizontal, halves, visitOf}
+use Rattle.split.specs.Walk.{leaf}
 use Rattle.split.proofs.Sides.{and-true}
-use Rattle.df.specs.Edges.{AtUnits}
-use Rattle.df.specs.Visit.{doneRow, marked, thereDone, leftDone, Side, Block}
+use Rattle.df.specs.Edges.{AtUnits, Gone}
+use Rattle.df.specs.Filter.{Planes}
+use Rattle.df.specs.Visit.{doneRow, marked, thereDone, leftDone, Fits, Side, Block, visitEdges, State, visited, visitedAll, halfWide, halfTall, Visited}
 
 -- ---- a block marked row by row
 
@@ -117,3 +122,85 @@ left-side w h x y wide tall b =
 pub right-side : (w h x y wide tall : ℕ) → Block w h x y wide tall → Side w h (x + wide) y (tall / 4)
 right-side w h x y wide tall b =
     record { whole-x = omega (arith, b .whole-x, b .whole-wide); whole-y = b .whole-y; few = omega (arith, b .few-tall); some = omega (arith, b .some-tall); bottom = omega (arith, b .bottom, b .whole-tall) }
+
+-- the block's units lie in the map; u and v are where its first one stands
+pub block-fits : (w h x y wide tall n u v : ℕ) → Block w h x y wide tall → n ≡ h * w → u ≡ x / 4 → v ≡ y / 4 → Fits w n (visit u v (wide / 4) (tall / 4))
+block-fits w h x y wide tall n u v b e p q =
+    record {
+      some = omega (arith, b .some-wide, b .right);
+      right = omega (arith, b .right, b .whole-wide);
+      bottom = rw e (mul-le-mul-right w (omega (arith, b .bottom, b .whole-tall)));
+    }
+
+-- ---- a visit, by what its functions leave
+
+module _ (motion refs : List ℤ) (t : List ℕ) (d : Pass) (w : ℕ) where
+  pub visit-one : (p : Visit) (a b : Planes) (words words₁ : List ℕ) (count r : ℕ)
+      → Gone (record { words = words; motion = motion; refs = refs }) t d w (visitEdges d w words p) 32 count a b r → words₁ ≡ marked w p words
+      → Visited motion refs t d w (p ∷ []) 32 (record { planes = a; words = words; count = count }) (record { planes = b; words = words₁; count = r })
+  unfolding run
+  visit-one p a b words words₁ count r g e = record {
+    state = λ i. record { planes = g .planes i; words = e i; count = g .counted i };
+    few = g .few;
+  }
+
+  pub visit-then : (k l : List Visit) (m n : ℕ) (a b c : State) → Visited motion refs t d w k m a b → Visited motion refs t d w l n b c → Visited motion refs t d w (k ++ l) (m + n) a c
+  visit-then k l m n a b c g h = record {
+    state = h .state ∙ ap (visitedAll motion refs t d w l) (g .state) ∙ sym (run-append (visited motion refs t d w) k l a);
+    few = omega (arith, g .few, h .few);
+  }
+
+  pub visit-none : (a : State) → Visited motion refs t d w [] 0 a a
+  unfolding run
+  visit-none a = record { state = refl; few = omega arith }
+
+pub visited-as : {motion refs : List ℤ} {t : List ℕ} {d : Pass} {w : ℕ} {k l : List Visit} {m n : ℕ} {a b : State} → k ≡ l → m ≤ n → Visited motion refs t d w k m a b → Visited motion refs t d w l n a b
+visited-as {motion} {refs} {t} {d} {w} {a = a} e o g = record { state = g .state ∙ ap (λ (j : List Visit). visitedAll motion refs t d w j a) e; few = omega (arith, g .few) }
+
+-- ---- a leaf's visits
+
+-- a half's sides, in luma samples
+abbrev pub Half : Pass → (wide tall : ℕ) → Type 0
+Half d wide tall = (wide ≡ 4 * halfWide d) × (tall ≡ 4 * halfTall d)
+
+pub half-few : (d : Pass) (wide tall : ℕ) → Half d wide tall → (wide ≤ 64) × (tall ≤ 64)
+half-few vertical wide tall (e, f) = (omega arith, omega arith)
+half-few horizontal wide tall (e, f) = (omega arith, omega arith)
+
+module _ (w h x y wide tall : ℕ) (b : Block w h x y 64 64) where
+  pub first-half : (d : Pass) → Half d wide tall → Block w h x y wide tall
+  first-half vertical (e, f) = rw (e, f) (record { whole-x = b .whole-x; whole-y = b .whole-y; whole-wide = refl; whole-tall = refl; some-wide = omega arith; some-tall = omega arith; few-wide = omega arith; few-tall = omega arith; right = omega (arith, b .right); bottom = omega (arith, b .bottom) })
+  first-half horizontal (e, f) = rw (e, f) (record { whole-x = b .whole-x; whole-y = b .whole-y; whole-wide = refl; whole-tall = refl; some-wide = omega arith; some-tall = omega arith; few-wide = omega arith; few-tall = omega arith; right = omega (arith, b .right); bottom = omega (arith, b .bottom) })
+
+  pub second-half : (d : Pass) → Half d wide tall → Block w h (x + (64 - wide)) (y + (64 - tall)) wide tall
+  second-half vertical (e, f) = rw (e, f) (record { whole-x = omega (arith, b .whole-x); whole-y = omega (arith, b .whole-y); whole-wide = refl; whole-tall = refl; some-wide = omega arith; some-tall = omega arith; few-wide = omega arith; few-tall = omega arith; right = omega (arith, b .right); bottom = omega (arith, b .bottom) })
+  second-half horizontal (e, f) = rw (e, f) (record { whole-x = omega (arith, b .whole-x); whole-y = omega (arith, b .whole-y); whole-wide = refl; whole-tall = refl; some-wide = omega arith; some-tall = omega arith; few-wide = omega arith; few-tall = omega arith; right = omega (arith, b .right); bottom = omega (arith, b .bottom) })
+
+  -- one where the other ends
+  pub two-halves : (d : Pass) → Half d wide tall → visit (x / 4) (y / 4) (wide / 4) (tall / 4) ∷ visit ((x + (64 - wide)) / 4) ((y + (64 - tall)) / 4) (wide / 4) (tall / 4) ∷ [] ≡ halves d (x / 4) (y / 4)
+  two-halves vertical (e, f) =
+      let p : (x + 32) / 4 ≡ x / 4 + 8 = omega arith in
+      let q : (y + 0) / 4 ≡ y / 4 = omega arith in
+      rw (e, f) (λ i. visit (x / 4) (y / 4) 8 16 ∷ visit (p i) (q i) 8 16 ∷ [])
+  two-halves horizontal (e, f) =
+      let p : (x + 0) / 4 ≡ x / 4 = omega arith in
+      let q : (y + 32) / 4 ≡ y / 4 + 8 = omega arith in
+      rw (e, f) (λ i. visit (x / 4) (y / 4) 16 8 ∷ visit (p i) (q i) 16 8 ∷ [])
+
+pub cut-leaf : (d : Pass) (short : Bool) (x y side : ℕ) → (short && eqb side 64) ≡ true → halves d x y ≡ visitOf d short (leaf x y (side / 4))
+unfolding visitOf
+cut-leaf d short x y side e =
+    let t = and-true short (eqb side 64) e in
+    let n : side / 4 ≡ 16 = ap (λ (k : ℕ). k / 4) (eqb-true side 64 (t .1)) in
+    rw (t .0, eq-eqb (side / 4) 16 n)
+
+-- a side of 64 samples is one of 16 units
+same-side : (side : ℕ) → side % 4 ≡ 0 → eqb (side / 4) 16 ≡ eqb side 64
+same-side side e = go (eqb side 64) refl where
+  go : (b : Bool) → eqb side 64 ≡ b → eqb (side / 4) 16 ≡ b
+  go true q = let p = eqb-true side 64 q in eq-eqb (side / 4) 16 (omega arith)
+  go false q = ne-eqb (side / 4) 16 (λ r. eqb-false side 64 q (omega arith))
+
+pub whole-leaf : (d : Pass) (short : Bool) (x y side : ℕ) → side % 4 ≡ 0 → (short && eqb side 64) ≡ false → visit x y (side / 4) (side / 4) ∷ [] ≡ visitOf d short (leaf x y (side / 4))
+unfolding visitOf
+whole-leaf d short x y side m e = rw (ap (λ (b : Bool). short && b) (same-side side m) ∙ e)

@@ -1,5 +1,6 @@
 pub mod Edges
 pub mod Filter
+pub mod Leaves
 pub mod Places
 pub mod Strength
 pub mod Visit

@@ -93,3 +93,12 @@ pub record Side (w h x y n : ℕ) : Type 0 where
 pub record Visited (motion refs : List ℤ) (entries : List ℕ) (d : Pass) (w : ℕ) (l : List Visit) (most : ℕ) (a b : State) : Type 0 where
   pub state : b ≡ visitedAll motion refs entries d w l a
   pub few : b .count ≤ a .count + most
+
+-- the sides of a half of a leaf of 64
+abbrev pub halfWide : Pass → ℕ
+halfWide vertical = 8
+halfWide horizontal = 16
+
+abbrev pub halfTall : Pass → ℕ
+halfTall vertical = 16
+halfTall horizontal = 8

@@ -5,9 +5,12 @@ ghost use Prim.Native.Nat.{ℕ, _+_, _-_, _*_, _/_, _%_, _≤_, _<_};
 ghost use lib.ListN.{length, getD};
 ghost use mathlib.Core.List.{[], _∷_};
 ghost use Rattle.laws.specs.Index.{pick};
-ghost use Rattle.split.specs.Edges.{vertical, horizontal, visit, stretch};
+ghost use Rattle.split.specs.Edges.{vertical, horizontal, visit, halves, visitOf, stretch};
+ghost use Rattle.split.specs.Walk.{leaf};
 ghost use Rattle.df.specs.Edges.{passOf, Frame, Gone};
-ghost use Rattle.df.specs.Visit.{cleared, doneRow, marked, Fits, leftDone, thereDone, visitEdges, Side, Block, Visited};
+ghost use Rattle.laws.specs.Orders.{each};
+ghost use Rattle.df.specs.Leaves.{leavesIn, Leaves};
+ghost use Rattle.df.specs.Visit.{cleared, doneRow, marked, Fits, leftDone, thereDone, visitEdges, Side, Block, halfWide, halfTall, Visited};
 use crate::edge::Pass;
 use crate::edge::Size;
 use crate::edge::edges_if;
@@ -241,4 +244,117 @@ fn deblock_cu(
     let n = edges_cu(pass, size, &mut *y, &mut *u, &mut *v, &*words, motion, refs, entries, x, z, wide, tall, count);
     mark(&mut *words, columns, pel2scu(x), pel2scu(z), wide / 4, tall / 4);
     n
+}
+
+// ---- a leaf
+
+// The sides of a half of a leaf of 64: the halves stand side by side in the vertical pass, stacked in the horizontal.
+fn half_wide(pass: Pass) -> usize
+    ensures { λ r. ⌜ r ≡ 4 * halfWide (passOf pass) ⌝ }
+{
+    match pass {
+        Pass::Vertical => 32,
+        Pass::Horizontal => 64,
+    }
+}
+
+fn half_tall(pass: Pass) -> usize
+    ensures { λ r. ⌜ r ≡ 4 * halfTall (passOf pass) ⌝ }
+{
+    match pass {
+        Pass::Vertical => 64,
+        Pass::Horizontal => 32,
+    }
+}
+
+// Two halves, the second where the first ends.
+fn deblock_halves(
+    pass: Pass,
+    size: Size,
+    y: &mut [u16],
+    u: &mut [u16],
+    v: &mut [u16],
+    words: &mut [u32],
+    motion: &[i16],
+    refs: &[i8],
+    entries: &[u8],
+    x: Pel,
+    z: Pel,
+    count: usize,
+) -> usize
+    requires { ⌜ Frame (size .columns) (size .rows) (now y) (now u) (now v) (now words) (now motion) (now refs) (now entries) ⌝ }
+    requires { ⌜ Block (size .columns) (size .rows) (x .0) (z .0) 64 64 × (count ≤ 274877906944) ⌝ }
+    ensures { λ r. ⌜ Visited (now (motion .entry)) (now (refs .entry)) (now (entries .entry)) (passOf pass) (size .columns) (halves (passOf pass) (x .0 / 4) (z .0 / 4)) 64
+        (record { planes = record { y = now (y .entry); u = now (u .entry); v = now (v .entry) }; words = now (words .entry); count = count })
+        (record { planes = record { y = now (y .exit); u = now (u .exit); v = now (v .exit) }; words = now (words .exit); count = r }) ⌝ }
+{
+    let wide = half_wide(pass);
+    let tall = half_tall(pass);
+    let n = deblock_cu(pass, size, &mut *y, &mut *u, &mut *v, &mut *words, motion, refs, entries, x, z, wide, tall, count);
+    let px = Pel(x.0 + (64 - wide));
+    let pz = Pel(z.0 + (64 - tall));
+    deblock_cu(pass, size, &mut *y, &mut *u, &mut *v, &mut *words, motion, refs, entries, px, pz, wide, tall, n)
+}
+
+// evc_deblock_tree at a leaf: with limit 5 a leaf of 64 is two halves.
+fn deblock_leaf(
+    pass: Pass,
+    short: bool,
+    size: Size,
+    y: &mut [u16],
+    u: &mut [u16],
+    v: &mut [u16],
+    words: &mut [u32],
+    motion: &[i16],
+    refs: &[i8],
+    entries: &[u8],
+    x: Pel,
+    z: Pel,
+    side: usize,
+    count: usize,
+) -> usize
+    requires { ⌜ Frame (size .columns) (size .rows) (now y) (now u) (now v) (now words) (now motion) (now refs) (now entries) ⌝ }
+    requires { ⌜ Block (size .columns) (size .rows) (x .0) (z .0) side side × (count ≤ 274877906944) ⌝ }
+    ensures { λ r. ⌜ Visited (now (motion .entry)) (now (refs .entry)) (now (entries .entry)) (passOf pass) (size .columns) (visitOf (passOf pass) short (leaf (x .0 / 4) (z .0 / 4) (side / 4))) 64
+        (record { planes = record { y = now (y .entry); u = now (u .entry); v = now (v .entry) }; words = now (words .entry); count = count })
+        (record { planes = record { y = now (y .exit); u = now (u .exit); v = now (v .exit) }; words = now (words .exit); count = r }) ⌝ }
+{
+    if short & (side == 64) {
+        return deblock_halves(pass, size, y, u, v, words, motion, refs, entries, x, z, count);
+    }
+    deblock_cu(pass, size, y, u, v, words, motion, refs, entries, x, z, side, side, count)
+}
+
+// ---- a root
+
+// The first n leaves of a list, in its order.
+fn deblock_leaves(
+    pass: Pass,
+    short: bool,
+    size: Size,
+    y: &mut [u16],
+    u: &mut [u16],
+    v: &mut [u16],
+    words: &mut [u32],
+    motion: &[i16],
+    refs: &[i8],
+    entries: &[u8],
+    list: &[u16],
+    n: usize,
+    count: usize,
+) -> usize
+    requires { ⌜ Frame (size .columns) (size .rows) (now y) (now u) (now v) (now words) (now motion) (now refs) (now entries) ⌝ }
+    requires { ⌜ Leaves (size .columns) (size .rows) (now list) n × (count ≤ 137438953472) ⌝ }
+    ensures { λ r. ⌜ Visited (now (motion .entry)) (now (refs .entry)) (now (entries .entry)) (passOf pass) (size .columns) (each (visitOf (passOf pass) short) (leavesIn (now (list .entry)) n)) (64 * n)
+        (record { planes = record { y = now (y .entry); u = now (u .entry); v = now (v .entry) }; words = now (words .entry); count = count })
+        (record { planes = record { y = now (y .exit); u = now (u .exit); v = now (v .exit) }; words = now (words .exit); count = r }) ⌝ }
+{
+    let mut total = count;
+    for k in 0..n {
+        let x = list[3 * k] as usize;
+        let z = list[3 * k + 1] as usize;
+        let side = list[3 * k + 2] as usize;
+        total = deblock_leaf(pass, short, size, &mut *y, &mut *u, &mut *v, &mut *words, motion, refs, entries, Pel(x), Pel(z), side, total);
+    }
+    total
 }

@@ -1,58 +1,25 @@
+-- `df::pass::deblock_cu` meets its contract: the edges, then the block is done. Assumes nothing.
+use Prim.Native.Nat.{_/_}
+use mathlib.Core.Path.{_∙_}
 use borrow.Author.Needs.{needs}
+use Rattle.split.specs.Edges.{visit}
+use Rattle.df.specs.Edges.{passOf}
+use Rattle.df.specs.Visit.{marked}
+use Rattle.df.proofs.Visits.{block-fits, visit-one}
 use Rattle.df.proofs.pass.deblock_cu.Statement.{statement}
 use Rattle.df.proofs.pass.deblock_cu.Tie as tie
-use Rattle.df.proofs.pass.deblock_cu.Reads as reads
-use Rattle.df.proofs.pass.deblock_cu.Lts as lts
-use Rattle.def.proofs.pel2scu.Reads as pel2scu-reads
-use Rattle.df.proofs.pass.edges_cu.Reads as edges-cu-reads
-use Rattle.df.proofs.pass.mark.Reads as mark-reads
 
--- src/pass.rt:241:9
-edges-cu-requires : tie.Need-edges-cu-requires
-edges-cu-requires c κs = search needs
-
--- src/pass.rt:242:32
-pel2scu-requires : tie.Need-pel2scu-requires
-pel2scu-requires c κs = search needs
-
--- src/pass.rt:242:44
-pel2scu-requires-2 : tie.Need-pel2scu-requires-2
-pel2scu-requires-2 c κs = search needs
-
--- src/pass.rt:242:5
 mark-requires : tie.Need-mark-requires
-mark-requires c κs = ?
+mark-requires c κs = let s = c .before .before .before .before .before .before .before .before .before .before .before .before .before .before .before .before .before .before .before in block-fits _ _ _ _ _ _ _ _ _ (s .pre .1 .0) (s .pre .0 .long-words) (c .before .pel2scu .ensures) (c .pel2scu2 .ensures)
 
--- src/pass.rt:218:1
-same-length : tie.Need-same-length
-same-length c = search needs
-
--- src/pass.rt:218:1
-same-length-2 : tie.Need-same-length-2
-same-length-2 c = search needs
-
--- src/pass.rt:218:1
-same-length-3 : tie.Need-same-length-3
-same-length-3 c = search needs
-
--- src/pass.rt:218:1
-same-length-4 : tie.Need-same-length-4
-same-length-4 c = search needs
-
--- src/pass.rt:218:1
 returns : tie.Need-returns
-returns c = ?
+returns c =
+    let a = c .before .before .before .before .before .before .before .before .before .before .before .before .before .before .before .before .before .before .before .before .before .before .args in
+    visit-one _ _ _ (passOf (a .pass)) _ _ _ _ _ _ _ _ (c .before .before .before .before .before .before .before .before .before .before .before .before .edges-cu .ensures)
+    (c .before .before .mark .ensures ∙ (λ i. marked (a .size .columns) (visit (c .before .before .before .before .pel2scu .ensures i) (c .before .before .before .pel2scu2 .ensures i) (a .wide / 4) (a .tall / 4)) (a .words .now)))
 
 pub deblock-cu-spec : {M : Type 1} → statement M
 deblock-cu-spec =
     tie.close
-    (tie.spec
-    edges-cu-requires
-    pel2scu-requires
-    pel2scu-requires-2
-    mark-requires
-    same-length
-    same-length-2
-    same-length-3
-    same-length-4
-    returns)
+    (tie.spec (λ c κs. let s = c .before .before .before .before .before .before .before .before .before in (s .pre .0, s .pre .1)) (λ c κs. search needs) (λ c κs. search needs) mark-requires
+    (λ c. search needs) (λ c. search needs) (λ c. search needs) (λ c. search needs) returns)

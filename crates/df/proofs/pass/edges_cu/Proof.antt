@@ -1,72 +1,20 @@
+-- `df::pass::edges_cu` meets its contract: an arm for each pass. Assumes nothing.
+use mathlib.Core.Path.{sym, ap, subst}
 use borrow.Author.Needs.{needs}
+use Rattle.split.specs.Edges.{Pass, visit}
+use Rattle.df.specs.Edges.{passOf, Gone}
+use Rattle.df.specs.Visit.{visitEdges}
 use Rattle.df.proofs.pass.edges_cu.Statement.{statement}
 use Rattle.df.proofs.pass.edges_cu.Tie as tie
-use Rattle.df.proofs.pass.edges_cu.Reads as reads
-use Rattle.df.proofs.pass.edges_cu.Lts as lts
-use Rattle.df.proofs.pass.edges_hor.Reads as edges-hor-reads
-use Rattle.df.proofs.pass.edges_ver.Reads as edges-ver-reads
 
--- src/pass.rt:210:43
-enum-told : tie.Need-enum-told
-enum-told c = search needs
-
--- src/pass.rt:210:27
-edges-ver-requires : tie.Need-edges-ver-requires
-edges-ver-requires c κs = search needs
-
--- src/pass.rt:211:45
-enum-told-2 : tie.Need-enum-told-2
-enum-told-2 c = search needs
-
--- src/pass.rt:211:29
-edges-hor-requires : tie.Need-edges-hor-requires
-edges-hor-requires c κs = search needs
-
--- src/pass.rt:187:1
-same-length : tie.Need-same-length
-same-length c = search needs
-
--- src/pass.rt:187:1
-same-length-2 : tie.Need-same-length-2
-same-length-2 c = search needs
-
--- src/pass.rt:187:1
-same-length-3 : tie.Need-same-length-3
-same-length-3 c = search needs
-
--- src/pass.rt:187:1
 returns : tie.Need-returns
-returns c = ?
+returns c = rw (c .before .before .before .before .before .before .before .before .before .before .enum-told .given .1) (c .before .before .before .before .before .before .edges-ver .ensures)
 
--- src/pass.rt:187:1
-same-length-4 : tie.Need-same-length-4
-same-length-4 c = search needs
-
--- src/pass.rt:187:1
-same-length-5 : tie.Need-same-length-5
-same-length-5 c = search needs
-
--- src/pass.rt:187:1
-same-length-6 : tie.Need-same-length-6
-same-length-6 c = search needs
-
--- src/pass.rt:187:1
 returns-2 : tie.Need-returns-2
-returns-2 c = ?
+returns-2 c = rw (c .before .before .before .before .before .before .before .before .before .before .enum-told2 .given .1) (c .before .before .before .before .before .before .edges-hor .ensures)
 
 pub edges-cu-spec : {M : Type 1} → statement M
 edges-cu-spec =
     tie.close
-    (tie.spec
-    enum-told
-    edges-ver-requires
-    enum-told-2
-    edges-hor-requires
-    same-length
-    same-length-2
-    same-length-3
-    returns
-    same-length-4
-    same-length-5
-    same-length-6
-    returns-2)
+    (tie.spec (λ c. search needs) (λ c κs. (c .before .before .before .before .before .before .before .before .before .before .pre .0, c .before .before .before .before .before .before .before .before .before .before .pre .1)) (λ c. search needs) (λ c κs. (c .before .before .before .before .before .before .before .before .before .before .pre .0, c .before .before .before .before .before .before .before .before .before .before .pre .1)) (λ c. search needs) (λ c. search needs) (λ c. search needs)
+    returns (λ c. search needs) (λ c. search needs) (λ c. search needs) returns-2)
