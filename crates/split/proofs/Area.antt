@@ -17,15 +17,12 @@ use Rattle.laws.specs.Index.{pick}
 use Rattle.laws.specs.Orders.{each}
 use Rattle.split.specs.Edges.{Pass, Edge, stretch, edgeList}
 use Rattle.split.specs.Picture.{across, roots, rootBytes, rootX, rootY, rootWalk, rootLeaves, leavesOf, allLeaves}
+use Rattle.split.specs.Stored.{area}
 use Rattle.split.specs.Walk.{Leaf, leaf, walk}
 use Rattle.split.proofs.Induct.{Cases, walk-ind, test}
 use Rattle.split.proofs.Passes.{by-leaves}
 use Rattle.split.proofs.Places.{known}
 use Rattle.split.proofs.Sides.{X, Y, leafEdges, and-true}
-
-abbrev pub area : List Leaf → ℕ
-area [] = 0
-area (p ∷ l) = p .side * p .side + area l
 
 pub area-append : (l m : List Leaf) → area (l ++ m) ≡ area l + area m
 area-append [] m = omega arith

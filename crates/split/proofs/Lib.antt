@@ -3,11 +3,13 @@ pub mod Blocks
 pub mod Demand3
 pub mod Example
 pub mod Induct
+pub mod Listing
 pub mod Order
 pub mod Outcomes
 pub mod Parts
 pub mod Passes
 pub mod Places
+pub mod Puts
 pub mod Ranks
 pub mod Roots
 pub mod Rows

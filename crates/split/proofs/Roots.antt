@@ -70,6 +70,9 @@ module _ {w h : ℕ} (z : Sized w h) where
   pub some-wide : 1 ≤ w / 4
   some-wide = omega arith
 
+  pub few-units : w / 4 * (h / 4) ≤ 1048576
+  few-units = mul-le-mul {n₁ = w / 4} {m₁ = h / 4} {n₂ = 1024} {m₂ = 1024} (omega arith) (omega arith)
+
   -- root i stands on a multiple of 64, inside
   module _ (i : ℕ) (l : i < rootCount w h) where
     pub root-column : 64 * (i % rootsAlong w) < w

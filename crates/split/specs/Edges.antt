@@ -1,7 +1,7 @@
 -- What a pass visits, in the order of the walk, and its list of edges, as listing writes it. short: the transform limit is 5.
 -- A place is told by its coordinate across the pass's edges and the one along them, so that both passes are one definition.
 -- Assumes nothing: these are definitions.
-use mathlib.Core.Bool.{Bool, _&&_}
+use mathlib.Core.Bool.{Bool, true, false, _&&_}
 use mathlib.Core.List.{List, [], _∷_}
 use Prim.Native.Nat.{ℕ, zero, suc, _+_, _*_}
 use lib.Dec.{ltb, eqb}
@@ -57,9 +57,17 @@ abbrev pub nearEdge : Pass → Visit → List Edge
 nearEdge vertical p = pick (ltb 0 (p .x)) (stretch vertical (p .x) (p .y) (p .tall)) []
 nearEdge horizontal p = pick (ltb 0 (p .y)) (stretch horizontal (p .y) (p .x) (p .wide)) []
 
--- a pass's list
+-- the edges of some leaves, one after the other; and a pass's list, those of all
+abbrev pub edgesOf : Pass → Bool → List Leaf → List Edge
+edgesOf d short l = each (nearEdge d) (each (visitOf d short) l)
+
 abbrev pub edgeList : Pass → Bool → List ℕ → ℕ → ℕ → List Edge
-edgeList d short s w h = each (nearEdge d) (visits d short s w h)
+edgeList d short s w h = edgesOf d short (allLeaves s w h)
+
+-- the pass by the code's flag: whether its edges are horizontal
+abbrev pub passOf : Bool → Pass
+passOf false = vertical
+passOf true = horizontal
 
 -- an edge as listing writes it: Q's first luma sample
 abbrev pub edgeNumbers : Edge → List ℕ

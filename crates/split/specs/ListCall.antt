@@ -51,27 +51,33 @@ lengthsOk w h splits m n = allOf (eqb splits (1024 * rootCount w h) ∷ eqb m (2
 unfoldable pub limitOk : ℕ → Bool
 limitOk limit = anyOf (eqb limit 5 ∷ eqb limit 6 ∷ [])
 
-unfoldable pub check : Input → Answer
-check i =
-    unless (sizeOk (i .w) (i .h)) (Refused Size)
-    (unless (lengthsOk (i .w) (i .h) (length (i .splits)) (length (i .vertical)) (length (i .horizontal))) (Refused Length)
-    (unless (limitOk (i .limit)) (Refused Setting)
-    (pictureWalk (i .splits) (i .w / 4) (i .h / 4) .answer)))
+-- m, n: the buffers' lengths
+unfoldable pub checkOf : (w h : ℕ) → List ℕ → (limit m n : ℕ) → Answer
+checkOf w h s limit m n =
+    unless (sizeOk w h) (Refused Size)
+    (unless (lengthsOk w h (length s) m n) (Refused Length)
+    (unless (limitOk limit) (Refused Setting)
+    (pictureWalk s (w / 4) (h / 4) .answer)))
+
+abbrev pub check : Input → Answer
+check i = checkOf (i .w) (i .h) (i .splits) (i .limit) (length (i .vertical)) (length (i .horizontal))
 
 -- a pass's list
-abbrev pub edgesOf : Pass → Input → List Edge
-edgesOf d i = edgeList d (eqb (i .limit) 5) (i .splits) (i .w / 4) (i .h / 4)
+abbrev pub passEdges : Pass → Input → List Edge
+passEdges d i = edgeList d (eqb (i .limit) 5) (i .splits) (i .w / 4) (i .h / 4)
+
+-- the outcome of an answer and the two buffers at exit
+abbrev pub after : Listed → List ℕ → List ℕ → Outcome
+after r m n = record { reading = readingOf r; vertical = m; horizontal = n }
 
 abbrev pub refused : Input → Refusal → Outcome
-refused i r = record { reading = readingOf (NotCounted r); vertical = i .vertical; horizontal = i .horizontal }
+refused i r = after (NotCounted r) (i .vertical) (i .horizontal)
 
 abbrev pub done : Input → Outcome
 done i =
-    record {
-      reading = readingOf (Counted (length (edgesOf vertical i)) (length (edgesOf horizontal i)));
-      vertical = sets (i .vertical) 0 (each edgeNumbers (edgesOf vertical i));
-      horizontal = sets (i .horizontal) 0 (each edgeNumbers (edgesOf horizontal i));
-    }
+    after (Counted (length (passEdges vertical i)) (length (passEdges horizontal i)))
+    (sets (i .vertical) 0 (each edgeNumbers (passEdges vertical i)))
+    (sets (i .horizontal) 0 (each edgeNumbers (passEdges horizontal i)))
 
 unfoldable pub outcome : Input → Outcome
 outcome i = afterChecks (refused i) (done i) (check i)

@@ -34,6 +34,8 @@ pub record Outcome : Type 0 where
 unfoldable pub check : Input → Answer
 check i = unless (allOf (ltb (i .x) 16 ∷ ltb (i .y) 16 ∷ [])) (Refused Block) Done
 
+abbrev pub after : Rank → Outcome
+after r = record { reading = readingOf r }
+
 unfoldable pub outcome : Input → Outcome
-outcome i =
-    afterChecks (λ r. record { reading = readingOf (NotRanked r) }) (record { reading = record { number = 0; rank = rank (i .x) (i .y) } }) (check i)
+outcome i = afterChecks (λ r. after (NotRanked r)) (after (Ranked (rank (i .x) (i .y)))) (check i)
