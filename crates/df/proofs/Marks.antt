@@ -12,7 +12,7 @@ use lib.Dec.{leb, ltb}
 use lib.IntN.{ℤ}
 use lib.ListN.{length, getD}
 use Rattle.def.specs.Word.{doneOf, withDone, qpOf}
-use Rattle.def.proofs.Words.{Alike, set-alike}
+use Rattle.def.proofs.Words.{Alike, set-alike, cleared-alike}
 use Rattle.laws.specs.Index.{pick}
 use Rattle.laws.specs.Orders.{run}
 use Rattle.laws.specs.Plane.{within, withBlock}
@@ -21,7 +21,8 @@ use Rattle.split.specs.Edges.{Pass, Visit, visit}
 use Rattle.split.specs.Passes.{has}
 use Rattle.split.proofs.Sides.{and-true}
 use Rattle.df.specs.Edges.{Frame}
-use Rattle.df.specs.Visit.{marked, State, visited, visitedAll, Visited}
+use Rattle.laws.proofs.Tabulate.{length-tabulate, getD-tabulate}
+use Rattle.df.specs.Visit.{cleared, marked, State, visited, visitedAll, Visited}
 
 -- ---- words that differ in done alone
 
@@ -98,6 +99,10 @@ module _ (w : ℕ) (p : Visit) (l : List ℕ) where
     go true v = set-alike v
     go false v = alike-refl v
 
+pub cleared-alikes : (l : List ℕ) → Alikes (cleared l) l
+unfolding cleared
+cleared-alikes l = alikes-at _ l (length-tabulate _ (length l)) (λ k h. subst (λ (x : ℕ). Alike x (getD l k 0)) (sym (getD-tabulate _ (length l) k 0 h)) (cleared-alike (getD l k 0)))
+
 -- of any visits
 pub visited-alike : (motion refs : List ℤ) (t : List ℕ) (d : Pass) (w : ℕ) (l : List Visit) (s : State) → Alikes (visitedAll motion refs t d w l s .words) (s .words)
 unfolding run
@@ -106,7 +111,7 @@ visited-alike motion refs t d w (p ∷ l) s = alikes-trans (visited-alike motion
 
 -- ---- a picture after visits
 
-frame-alike : {w h : ℕ} {y u v words words₁ : List ℕ} {motion refs : List ℤ} {t : List ℕ} → Alikes words₁ words → Frame w h y u v words motion refs t → Frame w h y u v words₁ motion refs t
+pub frame-alike : {w h : ℕ} {y u v words words₁ : List ℕ} {motion refs : List ℤ} {t : List ℕ} → Alikes words₁ words → Frame w h y u v words motion refs t → Frame w h y u v words₁ motion refs t
 frame-alike a f =
     record {
       wide = f .wide;

@@ -5,11 +5,13 @@ ghost use Prim.Native.Nat.{ℕ, _+_, _-_, _*_, _/_, _%_, _≤_, _<_};
 ghost use lib.ListN.{length, getD};
 ghost use mathlib.Core.List.{[], _∷_};
 ghost use Rattle.laws.specs.Index.{pick};
-ghost use Rattle.split.specs.Edges.{vertical, horizontal, visit, halves, visitOf, stretch};
+ghost use Rattle.split.specs.Edges.{vertical, horizontal, visit, halves, visitOf, visits, stretch};
 ghost use Rattle.split.specs.Walk.{leaf};
 ghost use Rattle.df.specs.Edges.{passOf, Frame, Gone};
 ghost use Rattle.laws.specs.Orders.{each};
-ghost use Rattle.df.specs.Leaves.{leavesIn, Leaves};
+ghost use Rattle.def.specs.Picture.{rootCount};
+ghost use Rattle.split.specs.Stored.{leavesFrom};
+ghost use Rattle.df.specs.Leaves.{Leaves, Accepted, Rooted};
 ghost use Rattle.df.specs.Visit.{cleared, doneRow, marked, Fits, leftDone, thereDone, visitEdges, Side, Block, halfWide, halfTall, Visited};
 use crate::edge::Pass;
 use crate::edge::Size;
@@ -20,6 +22,7 @@ use def::clr_cod;
 use def::get_cod;
 use def::pel2scu;
 use def::set_cod;
+use split::Walked;
 
 // ---- done bits
 
@@ -345,7 +348,7 @@ fn deblock_leaves(
 ) -> usize
     requires { ⌜ Frame (size .columns) (size .rows) (now y) (now u) (now v) (now words) (now motion) (now refs) (now entries) ⌝ }
     requires { ⌜ Leaves (size .columns) (size .rows) (now list) n × (count ≤ 137438953472) ⌝ }
-    ensures { λ r. ⌜ Visited (now (motion .entry)) (now (refs .entry)) (now (entries .entry)) (passOf pass) (size .columns) (each (visitOf (passOf pass) short) (leavesIn (now (list .entry)) n)) (64 * n)
+    ensures { λ r. ⌜ Visited (now (motion .entry)) (now (refs .entry)) (now (entries .entry)) (passOf pass) (size .columns) (each (visitOf (passOf pass) short) (leavesFrom (now (list .entry)) n)) (64 * n)
         (record { planes = record { y = now (y .entry); u = now (u .entry); v = now (v .entry) }; words = now (words .entry); count = count })
         (record { planes = record { y = now (y .exit); u = now (u .exit); v = now (v .exit) }; words = now (words .exit); count = r }) ⌝ }
 {
@@ -357,4 +360,55 @@ fn deblock_leaves(
         total = deblock_leaf(pass, short, size, &mut *y, &mut *u, &mut *v, &mut *words, motion, refs, entries, Pel(x), Pel(z), side, total);
     }
     total
+}
+
+// The leaves of root i into a list, and how many they are. The walk of the picture was checked, and is not refused here.
+fn root_leaves(w: usize, h: usize, splits: &[u8], i: usize, list: &mut [u16]) -> usize
+    requires { ⌜ Accepted w h (now splits) × (i < rootCount w h) × (length (now list) ≡ 768) ⌝ }
+    ensures { λ r. ⌜ Rooted w h (now (splits .entry)) i (now (list .exit)) r ⌝ }
+{
+    let across = (w + 63) / 64;
+    let x = Pel(64 * (i % across));
+    let z = Pel(64 * (i / across));
+    match split::leaves(w, h, splits, x, z, list) {
+        Walked::Done(n) => n,
+        Walked::Refused(_) => 0,
+    }
+}
+
+// ---- the picture
+
+// One pass: done is cleared, then the roots follow in raster order. The answer is how many edges were filtered.
+pub(crate) fn deblock_pass(
+    pass: Pass,
+    short: bool,
+    w: usize,
+    h: usize,
+    y: &mut [u16],
+    u: &mut [u16],
+    v: &mut [u16],
+    words: &mut [u32],
+    splits: &[u8],
+    motion: &[i16],
+    refs: &[i8],
+    entries: &[u8],
+) -> usize
+    requires { ⌜ Frame (w / 4) (h / 4) (now y) (now u) (now v) (now words) (now motion) (now refs) (now entries) × Accepted w h (now splits) ⌝ }
+    ensures { λ r. ⌜ Visited (now (motion .entry)) (now (refs .entry)) (now (entries .entry)) (passOf pass) (w / 4) (visits (passOf pass) short (now (splits .entry)) (w / 4) (h / 4)) 67108864
+        (record { planes = record { y = now (y .entry); u = now (u .entry); v = now (v .entry) }; words = cleared (now (words .entry)); count = 0 })
+        (record { planes = record { y = now (y .exit); u = now (u .exit); v = now (v .exit) }; words = now (words .exit); count = r }) ⌝ }
+{
+    clear(&mut *words);
+    let size = Size {
+        columns: w / 4,
+        rows: h / 4,
+    };
+    let roots = (w + 63) / 64 * ((h + 63) / 64);
+    let mut list = [0u16; 768];
+    let mut count = 0;
+    for i in 0..roots {
+        let n = root_leaves(w, h, splits, i, &mut list);
+        count = deblock_leaves(pass, short, size, &mut *y, &mut *u, &mut *v, &mut *words, motion, refs, entries, &list, n, count);
+    }
+    count
 }

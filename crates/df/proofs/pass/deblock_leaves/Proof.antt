@@ -7,7 +7,7 @@ use lib.ListN.{length}
 use Rattle.laws.specs.Orders.{each}
 use Rattle.split.specs.Edges.{visitOf}
 use Rattle.df.specs.Edges.{passOf, Frame}
-use Rattle.df.specs.Leaves.{leavesIn}
+use Rattle.split.specs.Stored.{leavesFrom}
 use Rattle.df.specs.Visit.{Visited}
 use Rattle.df.proofs.Edges.{frame-kept}
 use Rattle.df.proofs.Leaves.{leaves-none, leaves-more}
@@ -18,7 +18,7 @@ use Rattle.df.proofs.pass.deblock_leaves.Tie as tie
 abbrev Inv-loop : tie.InvT-loop
 Inv-loop pass short size y₀ u₀ v₀ words₀ motion refs entries list n count total₀ k₀ y u v words total k =
     (k ≤ n) × (length y ≡ length y₀) × (length u ≡ length u₀) × (length v ≡ length v₀) × (length words ≡ length words₀)
-    × Visited motion refs entries (passOf pass) (size .columns) (each (visitOf (passOf pass) short) (leavesIn list k)) (64 * k)
+    × Visited motion refs entries (passOf pass) (size .columns) (each (visitOf (passOf pass) short) (leavesFrom list k)) (64 * k)
     (record { planes = record { y = y₀; u = u₀; v = v₀ }; words = words₀; count = count }) (record { planes = record { y = y; u = u; v = v }; words = words; count = total })
 
 abbrev μ-loop : tie.MeasureT-loop
