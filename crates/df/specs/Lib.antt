@@ -1,4 +1,5 @@
 pub mod Edges
+pub mod Entries
 pub mod Filter
 pub mod Leaves
 pub mod Places

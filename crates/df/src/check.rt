@@ -1,0 +1,1 @@
+// What is refused: the checks before the first write.
