@@ -1,3 +1,4 @@
+pub mod Checks
 pub mod Edges
 pub mod Entries
 pub mod Filter

@@ -1,20 +1,18 @@
+-- `df::entries::mapped_at` meets its contract: the entry at the held place. Assumes nothing.
+use mathlib.Core.Path.{_≡_, ap, _∙_}
+use Prim.Native.Nat.{ℕ}
 use borrow.Author.Needs.{needs}
+use lib.IntN.{pos}
+use lib.ListN.{getD}
+use mir.Syntax.{w8}
+use Rattle.laws.proofs.Widths.{back}
+use Rattle.df.specs.Entries.{mappedAt}
 use Rattle.df.proofs.entries.mapped_at.Statement.{statement}
 use Rattle.df.proofs.entries.mapped_at.Tie as tie
-use Rattle.df.proofs.entries.mapped_at.Reads as reads
-use Rattle.df.proofs.entries.mapped_at.Lts as lts
 
--- src/entries.rt:26:13
-add-n : tie.Need-add-n
-add-n c = search needs
-
--- src/entries.rt:28:5
-shared-slice-copy-out-result : tie.Need-shared-slice-copy-out-result
-shared-slice-copy-out-result c = ?
-
--- src/entries.rt:22:1
 returns : tie.Need-returns
-returns c = ?
+unfolding mappedAt
+returns c = back w8 _ (record { sfits = c .result .given }) ∙ ap (λ (i : ℕ). getD (c .before .before .args .table .now) i (pos 0)) (c .before .least .ensures)
 
 pub mapped-at-spec : {M : Type 1} → statement M
-mapped-at-spec = tie.close (tie.spec add-n shared-slice-copy-out-result returns)
+mapped-at-spec = tie.close (tie.spec (λ c. search needs) (λ c κs. search needs) (λ c. search needs) returns)

@@ -1,17 +1,14 @@
+-- `df::entries::mapped_ok` meets its contract: the two tests, at the entry read back from its bits. Assumes nothing.
+use mathlib.Core.Path.{_≡_, ap, _∙_}
 use borrow.Author.Needs.{needs}
+use mir.Syntax.{w8}
+use Rattle.laws.proofs.Widths.{back}
+use Rattle.df.specs.Strength.{hasEntry}
 use Rattle.df.proofs.entries.mapped_ok.Statement.{statement}
 use Rattle.df.proofs.entries.mapped_ok.Tie as tie
-use Rattle.df.proofs.entries.mapped_ok.Reads as reads
-use Rattle.df.proofs.entries.mapped_ok.Lts as lts
-use Rattle.df.proofs.entries.mapped_at.Reads as mapped-at-reads
 
--- src/entries.rt:36:9
-mapped-at-requires : tie.Need-mapped-at-requires
-mapped-at-requires c κs = search needs
-
--- src/entries.rt:32:1
 returns : tie.Need-returns
-returns c = ?
+returns c = ap hasEntry (back w8 _ (record { sfits = c .mapped-at .ok }) ∙ c .mapped-at .ensures)
 
 pub mapped-ok-spec : {M : Type 1} → statement M
-mapped-ok-spec = tie.close (tie.spec mapped-at-requires returns)
+mapped-ok-spec = tie.close (tie.spec (λ c κs. search needs) returns)
