@@ -30,7 +30,20 @@ fn samples_ok(plane: &[u16]) -> bool
 }
 
 // Whether the lent slices have their lengths.
-fn lengths_ok(w: usize, h: usize, y: usize, u: usize, v: usize, words: usize, splits: usize, motion: usize, refs: usize, table0: usize, table1: usize, strengths: usize) -> bool
+fn lengths_ok(
+    w: usize,
+    h: usize,
+    y: usize,
+    u: usize,
+    v: usize,
+    words: usize,
+    splits: usize,
+    motion: usize,
+    refs: usize,
+    table0: usize,
+    table1: usize,
+    strengths: usize,
+) -> bool
     requires { ⌜ (w ≤ 4096) × (h ≤ 4096) ⌝ }
     ensures { λ r. ⌜ r ≡ lengthsOk w h y u v words splits motion refs table0 table1 strengths ⌝ }
 {

@@ -108,7 +108,22 @@ fn left_edge(
 {
     let columns = size.columns;
     let go = left_done(words, columns, pel2scu(x), pel2scu(z));
-    edges_if(go, Pass::Vertical, size, y, u, v, words, motion, refs, entries, x, z, n, count)
+    edges_if(
+        go,
+        Pass::Vertical,
+        size,
+        y,
+        u,
+        v,
+        words,
+        motion,
+        refs,
+        entries,
+        x,
+        z,
+        n,
+        count,
+    )
 }
 
 // The edge of n units left of the one at (x, y), if that one is there and done: the right edge of the block before it.
@@ -134,7 +149,22 @@ fn right_edge(
 {
     let columns = size.columns;
     let go = there_done(words, columns, pel2scu(x), pel2scu(z));
-    edges_if(go, Pass::Vertical, size, y, u, v, words, motion, refs, entries, x, z, n, count)
+    edges_if(
+        go,
+        Pass::Vertical,
+        size,
+        y,
+        u,
+        v,
+        words,
+        motion,
+        refs,
+        entries,
+        x,
+        z,
+        n,
+        count,
+    )
 }
 
 // evc_deblock_cu_ver, its edges: left, then right, each if the unit beyond it is done.
@@ -159,8 +189,34 @@ fn edges_ver(
         vertical (size .columns) (visitEdges vertical (size .columns) (now (words .entry)) (visit (x .0 / 4) (z .0 / 4) (wide / 4) (tall / 4))) 32 count
         (record { y = now (y .entry); u = now (u .entry); v = now (v .entry) }) (record { y = now (y .exit); u = now (u .exit); v = now (v .exit) }) r ⌝ }
 {
-    let n = left_edge(size, &mut *y, &mut *u, &mut *v, words, motion, refs, entries, x, z, tall / 4, count);
-    right_edge(size, &mut *y, &mut *u, &mut *v, words, motion, refs, entries, Pel(x.0 + wide), z, tall / 4, n)
+    let n = left_edge(
+        size,
+        &mut *y,
+        &mut *u,
+        &mut *v,
+        words,
+        motion,
+        refs,
+        entries,
+        x,
+        z,
+        tall / 4,
+        count,
+    );
+    right_edge(
+        size,
+        &mut *y,
+        &mut *u,
+        &mut *v,
+        words,
+        motion,
+        refs,
+        entries,
+        Pel(x.0 + wide),
+        z,
+        tall / 4,
+        n,
+    )
 }
 
 // evc_deblock_cu_hor, its edge: the top, if it is not the picture's.
@@ -186,7 +242,22 @@ fn edges_hor(
         (record { y = now (y .entry); u = now (u .entry); v = now (v .entry) }) (record { y = now (y .exit); u = now (u .exit); v = now (v .exit) }) r ⌝ }
 {
     let go = 0 < pel2scu(z).0;
-    edges_if(go, Pass::Horizontal, size, y, u, v, words, motion, refs, entries, z, x, wide / 4, count)
+    edges_if(
+        go,
+        Pass::Horizontal,
+        size,
+        y,
+        u,
+        v,
+        words,
+        motion,
+        refs,
+        entries,
+        z,
+        x,
+        wide / 4,
+        count,
+    )
 }
 
 // The edges of a leaf, or half of one, in either pass.
@@ -213,8 +284,36 @@ fn edges_cu(
         (record { y = now (y .entry); u = now (u .entry); v = now (v .entry) }) (record { y = now (y .exit); u = now (u .exit); v = now (v .exit) }) r ⌝ }
 {
     match pass {
-        Pass::Vertical => edges_ver(size, y, u, v, words, motion, refs, entries, x, z, wide, tall, count),
-        Pass::Horizontal => edges_hor(size, y, u, v, words, motion, refs, entries, x, z, wide, tall, count),
+        Pass::Vertical => edges_ver(
+            size,
+            y,
+            u,
+            v,
+            words,
+            motion,
+            refs,
+            entries,
+            x,
+            z,
+            wide,
+            tall,
+            count,
+        ),
+        Pass::Horizontal => edges_hor(
+            size,
+            y,
+            u,
+            v,
+            words,
+            motion,
+            refs,
+            entries,
+            x,
+            z,
+            wide,
+            tall,
+            count,
+        ),
     }
 }
 
@@ -244,8 +343,30 @@ fn deblock_cu(
         (record { planes = record { y = now (y .exit); u = now (u .exit); v = now (v .exit) }; words = now (words .exit); count = r }) ⌝ }
 {
     let columns = size.columns;
-    let n = edges_cu(pass, size, &mut *y, &mut *u, &mut *v, &*words, motion, refs, entries, x, z, wide, tall, count);
-    mark(&mut *words, columns, pel2scu(x), pel2scu(z), wide / 4, tall / 4);
+    let n = edges_cu(
+        pass,
+        size,
+        &mut *y,
+        &mut *u,
+        &mut *v,
+        &*words,
+        motion,
+        refs,
+        entries,
+        x,
+        z,
+        wide,
+        tall,
+        count,
+    );
+    mark(
+        &mut *words,
+        columns,
+        pel2scu(x),
+        pel2scu(z),
+        wide / 4,
+        tall / 4,
+    );
     n
 }
 
@@ -293,10 +414,40 @@ fn deblock_halves(
 {
     let wide = half_wide(pass);
     let tall = half_tall(pass);
-    let n = deblock_cu(pass, size, &mut *y, &mut *u, &mut *v, &mut *words, motion, refs, entries, x, z, wide, tall, count);
+    let n = deblock_cu(
+        pass,
+        size,
+        &mut *y,
+        &mut *u,
+        &mut *v,
+        &mut *words,
+        motion,
+        refs,
+        entries,
+        x,
+        z,
+        wide,
+        tall,
+        count,
+    );
     let px = Pel(x.0 + (64 - wide));
     let pz = Pel(z.0 + (64 - tall));
-    deblock_cu(pass, size, &mut *y, &mut *u, &mut *v, &mut *words, motion, refs, entries, px, pz, wide, tall, n)
+    deblock_cu(
+        pass,
+        size,
+        &mut *y,
+        &mut *u,
+        &mut *v,
+        &mut *words,
+        motion,
+        refs,
+        entries,
+        px,
+        pz,
+        wide,
+        tall,
+        n,
+    )
 }
 
 // evc_deblock_tree at a leaf: with limit 5 a leaf of 64 is two halves.
@@ -323,9 +474,37 @@ fn deblock_leaf(
         (record { planes = record { y = now (y .exit); u = now (u .exit); v = now (v .exit) }; words = now (words .exit); count = r }) ⌝ }
 {
     if short & (side == 64) {
-        return deblock_halves(pass, size, y, u, v, words, motion, refs, entries, x, z, count);
+        return deblock_halves(
+            pass,
+            size,
+            y,
+            u,
+            v,
+            words,
+            motion,
+            refs,
+            entries,
+            x,
+            z,
+            count,
+        );
     }
-    deblock_cu(pass, size, y, u, v, words, motion, refs, entries, x, z, side, side, count)
+    deblock_cu(
+        pass,
+        size,
+        y,
+        u,
+        v,
+        words,
+        motion,
+        refs,
+        entries,
+        x,
+        z,
+        side,
+        side,
+        count,
+    )
 }
 
 // ---- a root
@@ -357,7 +536,22 @@ fn deblock_leaves(
         let x = list[3 * k] as usize;
         let z = list[3 * k + 1] as usize;
         let side = list[3 * k + 2] as usize;
-        total = deblock_leaf(pass, short, size, &mut *y, &mut *u, &mut *v, &mut *words, motion, refs, entries, Pel(x), Pel(z), side, total);
+        total = deblock_leaf(
+            pass,
+            short,
+            size,
+            &mut *y,
+            &mut *u,
+            &mut *v,
+            &mut *words,
+            motion,
+            refs,
+            entries,
+            Pel(x),
+            Pel(z),
+            side,
+            total,
+        );
     }
     total
 }
@@ -408,7 +602,21 @@ pub(crate) fn deblock_pass(
     let mut count = 0;
     for i in 0..roots {
         let n = root_leaves(w, h, splits, i, &mut list);
-        count = deblock_leaves(pass, short, size, &mut *y, &mut *u, &mut *v, &mut *words, motion, refs, entries, &list, n, count);
+        count = deblock_leaves(
+            pass,
+            short,
+            size,
+            &mut *y,
+            &mut *u,
+            &mut *v,
+            &mut *words,
+            motion,
+            refs,
+            entries,
+            &list,
+            n,
+            count,
+        );
     }
     count
 }

@@ -29,8 +29,7 @@ sub-t26-2 c = half-few (passOf (c .before .before .before .before .before .befor
 deblock-cu-requires-2 : tie.Need-deblock-cu-requires-2
 deblock-cu-requires-2 c κs =
     let s = c .before .before .before .before .before .before .before .before .before .before .before .before .before .before .before .before .before .before .before .before .before .before .before .before .before .before in
-    let l = c .before .before .before .before .before .before .before .before .before .before .before .before .before .before .deblock-cu in
-    (
+    let l = c .before .before .before .before .before .before .before .before .before .before .before .before .before .before .deblock-cu in (
       frame-visited (l .ensures) (frame-kept (l .kept .1 .1 .0) (l .kept .1 .1 .1 .0) (l .kept .1 .1 .1 .1 .0) (s .pre .0)),
       (second-half _ _ _ _ _ _ (s .pre .1 .0) (passOf (s .args .pass)) (sides (c .before .before .before .before .before .before .before .before .before .before .before .before .before .before .before .before .before .before .before)), omega (arith, s .pre .1 .1, l .ensures .few)),
     )

@@ -34,8 +34,7 @@ in-list c = let s = c .before .before .before .before .before .before .before .b
 deblock-leaf-requires : tie.Need-deblock-leaf-requires Inv-loop μ-loop
 deblock-leaf-requires c κs =
     let s = c .before .before .before .before .before .before .before .before .before .before .before .before .before .before .before in
-    let i = c .before .before .before .before .before .before .before .before .loop .inv in
-    (
+    let i = c .before .before .before .before .before .before .before .before .loop .inv in (
       frame-visited (i .5) (frame-kept (i .1) (i .2) (i .3) (s .pre .0)),
       (s .pre .1 .0 .blocks _ (c .before .before .before .before .before .before .before .loop-test .taken), omega (arith, s .pre .1 .1, i .5 .few, s .pre .1 .0 .few)),
     )
@@ -44,8 +43,7 @@ loop-again : tie.Need-loop-again Inv-loop μ-loop
 loop-again c =
     let s = c .before .before .before .before .before .before .before .before .before .before .before .before .before .before .before .before .before .before .before .before .before .before .before .before in
     let l = c .before .before .before .before .before .before .before .before .before .before .before .before .before .before .before .before .before .loop in
-    let k = c .before .before .before .before .before .before .before .before .deblock-leaf .kept in
-    (
+    let k = c .before .before .before .before .before .before .before .before .deblock-leaf .kept in (
       omega (arith, c .before .before .before .before .before .before .before .before .before .before .before .before .before .before .before .before .loop-test .taken),
       k .1 .1 .1 .0 ∙ l .inv .1,
       k .1 .1 .1 .1 .0 ∙ l .inv .2,

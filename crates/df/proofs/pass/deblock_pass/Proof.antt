@@ -46,8 +46,7 @@ deblock-leaves-requires : tie.Need-deblock-leaves-requires Inv-loop μ-loop
 deblock-leaves-requires c κs =
     let s = c .before .before .before .before .before .before .before .before .before .before .before .before .before .before .before .before .before .before .before .before in
     let i = c .before .before .before .before .before .before .before .before .before .loop .inv in
-    let k = c .before .before .before .before .before .before .root-leaves .ensures in
-    (
+    let k = c .before .before .before .before .before .before .root-leaves .ensures in (
       current (c .before .before .before .before .before .before .before .before .before) _ _ _ (frame-kept (i .1) (i .2) (i .3) (s .pre .0)),
       (k .leaves, omega (arith, few s, i .0, roots-few _ _ _ (passOf (s .args .pass)) _ _ _ _ _ _ _ (i .6))),
     )
@@ -57,8 +56,7 @@ loop-again c =
     let s = c .before .before .before .before .before .before .before .before .before .before .before .before .before .before .before .before .before .before .before .before .before .before .before .before .before .before .before .before .before in
     let l = c .before .before .before .before .before .before .before .before .before .before .before .before .before .before .before .before .before .before .loop in
     let k = c .before .before .before .before .before .before .before .before .deblock-leaves .kept in
-    let r = c .before .before .before .before .before .before .before .before .before .before .before .before .before .before .before .root-leaves in
-    (
+    let r = c .before .before .before .before .before .before .before .before .before .before .before .before .before .before .before .root-leaves in (
       omega (arith, c .before .before .before .before .before .before .before .before .before .before .before .before .before .before .before .before .before .loop-test .taken),
       k .1 .1 .1 .0 ∙ l .inv .1,
       k .1 .1 .1 .1 .0 ∙ l .inv .2,

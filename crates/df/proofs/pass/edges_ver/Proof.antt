@@ -22,8 +22,7 @@ right-edge-requires : tie.Need-right-edge-requires
 right-edge-requires c κs =
     let s = c .before .before .before .before .before .before .before .before .before .before .before .before .before .before .before .before .before .before .before in
     let b = s .pre .1 .0 in
-    let l = c .before .before .before .before .before .before .before .before .before .before .left-edge in
-    (
+    let l = c .before .before .before .before .before .before .before .before .before .before .left-edge in (
       frame-kept (l .kept .1 .0) (l .kept .1 .1 .0) (l .kept .1 .1 .1 .0) (s .pre .0),
       (right-side _ _ _ _ _ _ b, omega (arith, b .some-wide), omega (arith, s .pre .1 .1, l .ensures .few)),
     )

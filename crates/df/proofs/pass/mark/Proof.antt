@@ -45,8 +45,7 @@ mark-row-requires c κs = omega (arith, part-in (c .before), c .before .before .
 loop-again : tie.Need-loop-again Inv-loop μ-loop
 loop-again c =
     let s = c .before .before .before .before .before .before .before in
-    let l = c .before .before .before .before .before .loop in
-    (
+    let l = c .before .before .before .before .before .loop in (
       omega arith,
       c .before .before .mark-row .kept .0 ∙ l .inv .1,
       c .before .before .mark-row .ensures ∙ mark-more _ _ _ _ (s .pre .right) (s .pre .some) (s .args .words .now) (l .j) _ (in-map (c .before .before .before .before)) (l .inv .2),
