@@ -1,7 +1,0 @@
-pub mod ChromaQp
-pub mod Edges
-pub mod Leaves
-pub mod Marks
-pub mod Passes
-pub mod Visits
-pub mod Windows

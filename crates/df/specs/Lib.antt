@@ -1,9 +1,0 @@
-pub mod Checks
-pub mod Edges
-pub mod Entries
-pub mod Filter
-pub mod Leaves
-pub mod Places
-pub mod Strength
-pub mod Visit
-pub mod Window
