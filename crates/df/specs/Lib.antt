@@ -1,0 +1,7 @@
+pub mod Edges
+pub mod Filter
+pub mod Leaves
+pub mod Places
+pub mod Strength
+pub mod Visit
+pub mod Window
