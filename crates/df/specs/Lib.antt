@@ -1,7 +1,1 @@
 pub mod Edges
-pub mod Filter
-pub mod Leaves
-pub mod Places
-pub mod Strength
-pub mod Visit
-pub mod Window

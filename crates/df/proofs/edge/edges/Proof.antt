@@ -5,8 +5,8 @@ use native.Mathlib.Omega.{arith}
 use lib.ListN.{length}
 use Rattle.split.specs.Edges.{stretch}
 use Rattle.df.specs.Edges.{passOf}
-use Rattle.df.specs.Filter.{filterAll}
-use Rattle.df.proofs.Edges.{few-along, frame-kept, filter-none, filter-more}
+use Rattle.df_rules.specs.Filter.{filterAll}
+use Rattle.df_rules.proofs.Edges.{few-along, frame-kept, filter-none, filter-more}
 use Rattle.df.proofs.edge.edges.Statement.{statement}
 use Rattle.df.proofs.edge.edges.Tie as tie
 

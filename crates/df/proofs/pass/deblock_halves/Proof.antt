@@ -6,9 +6,9 @@ use native.Mathlib.Nat.{le-refl}
 use borrow.Author.Needs.{needs}
 use Rattle.split.specs.Edges.{visit}
 use Rattle.df.specs.Edges.{passOf}
-use Rattle.df.proofs.Edges.{frame-kept}
-use Rattle.df.proofs.Marks.{frame-visited}
-use Rattle.df.proofs.Visits.{Half, half-few, first-half, second-half, two-halves, visit-then, visited-as}
+use Rattle.df_rules.proofs.Edges.{frame-kept}
+use Rattle.df_rules.proofs.Marks.{frame-visited}
+use Rattle.df_rules.proofs.Visits.{Half, half-few, first-half, second-half, two-halves, visit-then, visited-as}
 use Rattle.df.proofs.pass.deblock_halves.Statement.{statement}
 use Rattle.df.proofs.pass.deblock_halves.Tie as tie
 

@@ -6,12 +6,13 @@ use borrow.Author.Needs.{needs}
 use lib.ListN.{length}
 use Rattle.laws.specs.Orders.{each}
 use Rattle.split.specs.Edges.{visitOf}
-use Rattle.df.specs.Edges.{passOf, Frame}
+use Rattle.df_rules.specs.Frame.{Frame}
+use Rattle.df.specs.Edges.{passOf}
 use Rattle.split.specs.Stored.{leavesFrom}
-use Rattle.df.specs.Visit.{Visited}
-use Rattle.df.proofs.Edges.{frame-kept}
-use Rattle.df.proofs.Leaves.{leaves-none, leaves-more}
-use Rattle.df.proofs.Marks.{frame-visited}
+use Rattle.df_rules.specs.Visit.{Visited}
+use Rattle.df_rules.proofs.Edges.{frame-kept}
+use Rattle.df_rules.proofs.Leaves.{leaves-none, leaves-more}
+use Rattle.df_rules.proofs.Marks.{frame-visited}
 use Rattle.df.proofs.pass.deblock_leaves.Statement.{statement}
 use Rattle.df.proofs.pass.deblock_leaves.Tie as tie
 

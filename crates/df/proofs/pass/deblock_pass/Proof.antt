@@ -8,10 +8,11 @@ use lib.ListN.{length}
 use Rattle.def.specs.Picture.{rootCount}
 use Rattle.def.proofs.Sizes.{Sized, sized}
 use Rattle.split.proofs.Roots.{few-roots, roots-units}
-use Rattle.df.specs.Edges.{passOf, Frame}
-use Rattle.df.specs.Visit.{cleared}
-use Rattle.df.proofs.Edges.{frame-kept}
-use Rattle.df.proofs.Leaves.{Roots, roots-none, roots-more, roots-few, roots-frame, roots-all, frame-cleared}
+use Rattle.df_rules.specs.Frame.{Frame}
+use Rattle.df.specs.Edges.{passOf}
+use Rattle.df_rules.specs.Visit.{cleared}
+use Rattle.df_rules.proofs.Edges.{frame-kept}
+use Rattle.df_rules.proofs.Leaves.{Roots, roots-none, roots-more, roots-few, roots-frame, roots-all, frame-cleared}
 use Rattle.df.proofs.pass.deblock_pass.Statement.{statement}
 use Rattle.df.proofs.pass.deblock_pass.Tie as tie
 

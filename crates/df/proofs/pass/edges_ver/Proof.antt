@@ -6,9 +6,9 @@ use native.Mathlib.Omega.{arith}
 use borrow.Author.Needs.{needs}
 use Rattle.laws.specs.Index.{pick}
 use Rattle.split.specs.Edges.{vertical, stretch}
-use Rattle.df.specs.Visit.{thereDone}
-use Rattle.df.proofs.Edges.{frame-kept, gone-as, gone-then}
-use Rattle.df.proofs.Visits.{left-side, right-side}
+use Rattle.df_rules.specs.Visit.{thereDone}
+use Rattle.df_rules.proofs.Edges.{frame-kept, gone-as, gone-then}
+use Rattle.df_rules.proofs.Visits.{left-side, right-side}
 use Rattle.df.proofs.pass.edges_ver.Statement.{statement}
 use Rattle.df.proofs.pass.edges_ver.Tie as tie
 

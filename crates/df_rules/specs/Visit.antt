@@ -13,7 +13,7 @@ use Rattle.laws.specs.Orders.{run}
 use Rattle.laws.specs.Plane.{withRow, withBlock}
 use Rattle.split.specs.Edges.{Pass, vertical, horizontal, Edge, Visit, visit}
 use Rattle.split.specs.Passes.{leftEdge, rightEdge, topEdge}
-use Rattle.df.specs.Filter.{Planes, filterAll}
+use Rattle.df_rules.specs.Filter.{Planes, filterAll}
 
 -- done cleared in every unit, and set
 unfoldable pub cleared : List ℕ → List ℕ

@@ -11,7 +11,7 @@ use Rattle.def.specs.Word.{qpOf}
 use Rattle.line.specs.declared.Motion.{Motion}
 use Rattle.line.specs.Row.{rowOf}
 use Rattle.split.specs.Edges.{Pass, Edge}
-use Rattle.df.specs.Places.{unitQ, unitP}
+use Rattle.df_rules.specs.Places.{unitQ, unitP}
 
 -- what the row and the QP are read from: a word, four numbers of motion and two references a unit
 pub record Maps : Type 0 where

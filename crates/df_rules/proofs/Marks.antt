@@ -20,9 +20,9 @@ use Rattle.laws.proofs.Planes.{length-block, getD-block}
 use Rattle.split.specs.Edges.{Pass, Visit, visit}
 use Rattle.split.specs.Passes.{has}
 use Rattle.split.proofs.Sides.{and-true}
-use Rattle.df.specs.Edges.{Frame}
+use Rattle.df_rules.specs.Frame.{Frame}
 use Rattle.laws.proofs.Tabulate.{length-tabulate, getD-tabulate}
-use Rattle.df.specs.Visit.{cleared, marked, State, visited, visitedAll, Visited}
+use Rattle.df_rules.specs.Visit.{cleared, marked, State, visited, visitedAll, Visited}
 
 -- ---- words that differ in done alone
 

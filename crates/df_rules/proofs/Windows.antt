@@ -8,7 +8,7 @@ use lib.Dec.{eqb}
 use borrow.Author.Tests.{eq-eqb, ne-eqb}
 use Rattle.line.specs.declared.Mask.{Mask}
 use Rattle.line.specs.declared.Quad.{Quad}
-use Rattle.df.specs.Window.{quadAt, putIf, lineAt, linesAt, windowAt}
+use Rattle.df_rules.specs.Window.{quadAt, putIf, lineAt, linesAt, windowAt}
 
 -- a line put sample by sample
 pub line-put : (m : Mask) (st step at : ℕ) (q : Quad) (xs ka kb kc kd : List ℕ) → q ≡ quadAt st step at xs

@@ -33,11 +33,11 @@ use Rattle.split.proofs.Listing.{read-back, ready}
 use Rattle.split.proofs.Places.{sound-at}
 use Rattle.split.proofs.Roots.{roots-units, some-wide, root-column, root-row}
 use Rattle.split.proofs.Walks.{each-done, few-leaves}
-use Rattle.df.specs.Leaves.{Accepted, Leaves, Rooted}
-use Rattle.df.specs.Edges.{Frame}
-use Rattle.df.specs.Visit.{State, Visited, cleared}
-use Rattle.df.proofs.Marks.{frame-alike, frame-visited, cleared-alikes}
-use Rattle.df.proofs.Visits.{visit-none, visit-then, visited-as}
+use Rattle.df_rules.specs.Leaves.{Accepted, Leaves, Rooted}
+use Rattle.df_rules.specs.Frame.{Frame}
+use Rattle.df_rules.specs.Visit.{State, Visited, cleared}
+use Rattle.df_rules.proofs.Marks.{frame-alike, frame-visited, cleared-alikes}
+use Rattle.df_rules.proofs.Visits.{visit-none, visit-then, visited-as}
 
 each-more : {A B : Type 0} (f : A → List B) (l : List A) (a : A) → each f l ++ f a ≡ each f (l ++ (a ∷ []))
 unfolding each

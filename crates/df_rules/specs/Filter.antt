@@ -8,9 +8,9 @@ use Rattle.laws.specs.Orders.{run}
 use Rattle.line.specs.Line.{maskOf}
 use Rattle.split.specs.Edges.{Pass, Edge}
 use Rattle.split.specs.Rows.{crossOf, alongOf}
-use Rattle.df.specs.Places.{unitSide, stepAcross, stepAlong, lineStart}
-use Rattle.df.specs.Strength.{Maps, strength}
-use Rattle.df.specs.Window.{windowAt}
+use Rattle.df_rules.specs.Places.{unitSide, stepAcross, stepAlong, lineStart}
+use Rattle.df_rules.specs.Strength.{Maps, strength}
+use Rattle.df_rules.specs.Window.{windowAt}
 
 -- the lines of a unit's edge
 abbrev pub window : Pass → Component → (w st : ℕ) → Edge → List ℕ → List ℕ

@@ -9,7 +9,7 @@ use Rattle.def.specs.Picture.{sizeOk, rootCount}
 use Rattle.def.specs.declared.Answer.the-variants.{Done}
 use Rattle.split.specs.Picture.{pictureWalk, rootLeaves}
 use Rattle.split.specs.Stored.{leavesFrom}
-use Rattle.df.specs.Visit.{Block}
+use Rattle.df_rules.specs.Visit.{Block}
 
 -- each of the first n is a block of the picture
 pub record Leaves (w h : ℕ) (l : List ℕ) (n : ℕ) : Type 0 where

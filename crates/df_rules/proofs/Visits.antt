@@ -23,9 +23,9 @@ use Rattle.laws.proofs.Planes.{within-yes, within-low, within-high, length-row,
 use Rattle.split.specs.Edges.{Pass, Visit, visit, vertical, horizontal, halves, visitOf}
 use Rattle.split.specs.Walk.{leaf}
 use Rattle.split.proofs.Sides.{and-true}
-use Rattle.df.specs.Edges.{AtUnits, Gone}
-use Rattle.df.specs.Filter.{Planes}
-use Rattle.df.specs.Visit.{doneRow, marked, thereDone, leftDone, Fits, Side, Block, visitEdges, State, visited, visitedAll, halfWide, halfTall, Visited}
+use Rattle.df_rules.specs.Frame.{AtUnits, Gone}
+use Rattle.df_rules.specs.Filter.{Planes}
+use Rattle.df_rules.specs.Visit.{doneRow, marked, thereDone, leftDone, Fits, Side, Block, visitEdges, State, visited, visitedAll, halfWide, halfTall, Visited}
 
 -- ---- a block marked row by row
 

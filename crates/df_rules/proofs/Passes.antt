@@ -32,11 +32,11 @@ use Rattle.split.specs.Tiling.{Holds}
 use Rattle.split.specs.Walk.{Leaf}
 use Rattle.split.proofs.Induct.{test}
 use Rattle.split.proofs.Sides.{and-true}
-use Rattle.df.specs.Filter.{Planes, filterOne, filterAll, window, inY, inU, inV}
-use Rattle.df.specs.Places.{unitQ, unitP}
-use Rattle.df.specs.Strength.{Maps, motionAt, rowAt, strengthOf}
-use Rattle.df.specs.Visit.{cleared, allDone, marked, thereDone, leftDone, visitEdges, State, visited, visitedAll}
-use Rattle.df.proofs.Marks.{Alikes, alikes-at, cleared-alikes, marked-long, marked-at}
+use Rattle.df_rules.specs.Filter.{Planes, filterOne, filterAll, window, inY, inU, inV}
+use Rattle.df_rules.specs.Places.{unitQ, unitP}
+use Rattle.df_rules.specs.Strength.{Maps, motionAt, rowAt, strengthOf}
+use Rattle.df_rules.specs.Visit.{cleared, allDone, marked, thereDone, leftDone, visitEdges, State, visited, visitedAll}
+use Rattle.df_rules.proofs.Marks.{Alikes, alikes-at, cleared-alikes, marked-long, marked-at}
 
 -- ---- what a word holds after done is set again, or cleared before
 

@@ -1,18 +1,14 @@
 -- Lines of a plane, filtered where they lie. A line's four samples start at `at` and lie `step` apart; the next line starts `next` further on.
 -- Assumes nothing: these are definitions.
-use Prim.Native.Nat.{ℕ, zero, suc, _+_, _*_, _<_}
+use Prim.Native.Nat.{ℕ, zero, suc, _+_, _*_}
 use mathlib.Core.Bool.{Bool, true, false}
 use mathlib.Core.List.{List}
-use mathlib.Core.Path.{_≡_}
 use lib.Dec.{eqb}
-use lib.ListN.{length, getD, set}
+use lib.ListN.{getD, set}
 use Rattle.laws.specs.Index.{pick}
 use Rattle.line.specs.declared.Mask.{Mask}
 use Rattle.line.specs.declared.Quad.{Quad}
-use Rattle.def.specs.declared.Component.the-variants.{Luma, Chroma}
-use Rattle.line.specs.Line.{lineOf, maskOf}
-use Rattle.df.specs.declared.window.Place.{Place}
-use Rattle.df.specs.declared.window.Strengths.{Strengths}
+use Rattle.line.specs.Line.{lineOf}
 
 -- what the four samples at `at` become
 abbrev pub quadAt : (st step at : ℕ) → List ℕ → Quad
@@ -37,13 +33,3 @@ linesAt m st step next at (suc n) xs = lineAt m st step (at + n * next) (linesAt
 -- strength 0 leaves the window untouched
 unfoldable pub windowAt : Mask → (st step next at n : ℕ) → List ℕ → List ℕ
 windowAt m st step next at n xs = pick (eqb st 0) xs (linesAt m st step next at n xs)
-
--- n further lines lie in the plane
-abbrev pub Inside : Place → ℕ → List ℕ → Type 0
-Inside p n xs = p .at + n * p .next + 3 * p .step < length xs
-
--- a unit's edge in all three planes: four lines of luma, two of each chroma plane
-pub record Windowed (luma chroma : Place) (st : Strengths) (y₀ u₀ v₀ y₁ u₁ v₁ : List ℕ) : Type 0 where
-  pub y : y₁ ≡ windowAt (maskOf Luma) (st .y) (luma .step) (luma .next) (luma .at) 4 y₀
-  pub u : u₁ ≡ windowAt (maskOf Chroma) (st .u) (chroma .step) (chroma .next) (chroma .at) 2 u₀
-  pub v : v₁ ≡ windowAt (maskOf Chroma) (st .v) (chroma .step) (chroma .next) (chroma .at) 2 v₀
