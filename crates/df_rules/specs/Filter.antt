@@ -6,7 +6,7 @@ use Rattle.def.specs.declared.Component.{Component}
 use Rattle.def.specs.declared.Component.the-variants.{Luma, Chroma}
 use Rattle.laws.specs.Orders.{run}
 use Rattle.line.specs.Line.{maskOf}
-use Rattle.split.specs.Edges.{Pass, Edge}
+use Rattle.split.specs.Edges.{Pass, vertical, horizontal, Edge}
 use Rattle.split.specs.Rows.{crossOf, alongOf}
 use Rattle.df_rules.specs.Places.{unitSide, stepAcross, stepAlong, lineStart}
 use Rattle.df_rules.specs.Strength.{Maps, strength}
@@ -49,3 +49,9 @@ filterOne m t d w e p =
 -- a list of edges, one after the other
 abbrev pub filterAll : Maps → (entries : List ℕ) → Pass → (w : ℕ) → List Edge → Planes → Planes
 filterAll m t d w l p = run (filterOne m t d w) l p
+
+-- ---- a plane after both passes: the first list, and then the second. at: by the pass, what Q's QP is mapped to
+
+abbrev pub finished : Maps → (strengths : List ℕ) → (at : Pass → ℕ → ℕ) → Component → (w : ℕ) → (ups levels : List Edge) → List ℕ → List ℕ
+finished m t at c w ups levels p =
+    run (filtered m t (at horizontal) horizontal c w) levels (run (filtered m t (at vertical) vertical c w) ups p)
