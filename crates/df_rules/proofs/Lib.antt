@@ -1,3 +1,4 @@
+pub mod Both
 pub mod Edges
 pub mod Leaves
 pub mod Marks
