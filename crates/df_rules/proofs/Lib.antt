@@ -1,5 +1,6 @@
 pub mod Both
 pub mod Edges
+pub mod Frames
 pub mod Leaves
 pub mod Marks
 pub mod Passes
