@@ -1,1 +1,2 @@
+pub mod Deblock
 pub mod Edges

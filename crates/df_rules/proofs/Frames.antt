@@ -4,6 +4,7 @@ use Prim.Native.Nat.{ℕ}
 use mathlib.Core.Path.{_≡_, refl, sym, _∙_, subst}
 use mathlib.Core.List.{List, [], _∷_}
 use lib.IntN.{ℤ}
+use lib.ListN.{length}
 use Rattle.laws.specs.Orders.{run}
 use Rattle.split.specs.Edges.{Pass, Visit, Edge}
 use Rattle.df_rules.specs.Filter.{Planes, filterAll}
@@ -54,3 +55,22 @@ module _ {w h : ℕ} {motion refs : List ℤ} {t : List ℕ} where
 
   pub frame-cleared : {p : Planes} {words : List ℕ} → Framed w h motion refs t p words → Framed w h motion refs t p (cleared words)
   frame-cleared {words = words} f = frame-alike (cleared-alikes words) f
+
+-- by other entries
+pub frame-entries : {w h : ℕ} {motion refs : List ℤ} {t t₁ : List ℕ} {p : Planes} {words : List ℕ} → length t₁ ≡ 624 → Framed w h motion refs t p words → Framed w h motion refs t₁ p words
+frame-entries e f =
+    record {
+      wide = f .wide;
+      high = f .high;
+      long-y = f .long-y;
+      long-u = f .long-u;
+      long-v = f .long-v;
+      long-words = f .long-words;
+      long-motion = f .long-motion;
+      long-refs = f .long-refs;
+      long-entries = e;
+      qps = f .qps;
+      all-y = f .all-y;
+      all-u = f .all-u;
+      all-v = f .all-v;
+    }

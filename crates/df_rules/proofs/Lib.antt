@@ -5,5 +5,6 @@ pub mod Leaves
 pub mod Marks
 pub mod Passes
 pub mod Planes
+pub mod Strengths
 pub mod Visits
 pub mod Windows

@@ -9,6 +9,7 @@ use Rattle.def.specs.Word.{qpOf}
 use Rattle.split.specs.Edges.{Pass, vertical, horizontal, Edge}
 use Rattle.df_rules.specs.Filter.{Planes, filterAll}
 use Rattle.df_rules.specs.Strength.{Maps}
+use Rattle.df_rules.specs.Visit.{allDone}
 use Rattle.df_rules.specs.Window.{Samples}
 
 -- k is a unit of the maps, and its QP has an entry
@@ -61,3 +62,10 @@ pub record Gone (m : Maps) (entries : List ℕ) (d : Pass) (w : ℕ) (l : List E
   pub planes : q ≡ filterAll m entries d w l p
   pub counted : r ≡ count + length l
   pub few : r ≤ count + most
+
+-- both passes' lists were filtered, one after the other, and counted, and every unit is done. t, t₁: the entries of the vertical pass, and of the horizontal
+pub record Both (m : Maps) (t t₁ : List ℕ) (w : ℕ) (ups levels : List Edge) (p q : Planes) (words : List ℕ) (ver hor : ℕ) : Type 0 where
+  pub planes : q ≡ filterAll m t₁ horizontal w levels (filterAll m t vertical w ups p)
+  pub ups-counted : ver ≡ length ups
+  pub levels-counted : hor ≡ length levels
+  pub marks : words ≡ allDone (m .words)

@@ -1,12 +1,9 @@
 -- The strength of a unit's edge in a plane: a row by the two units, the entry at Q's QP, mapped for chroma, four times.
 -- Assumes nothing: these are definitions.
 use Prim.Native.Nat.{ℕ, _+_, _*_}
-use mathlib.Core.Bool.{Bool, _&&_}
 use mathlib.Core.List.{List}
-use lib.IntN.{ℤ, pos, negsuc, natAbs, _+ℤ_}
+use lib.IntN.{ℤ, pos}
 use lib.ListN.{getD}
-use lib.Signed.{leZ}
-use Rattle.laws.specs.Clip.{clipZ}
 use Rattle.def.specs.Word.{qpOf}
 use Rattle.line.specs.declared.Motion.{Motion}
 use Rattle.line.specs.Row.{rowOf}
@@ -43,14 +40,3 @@ strengthOf m entries at q p = 4 * getD entries (52 * rowAt m q p + at (qpAt m q)
 
 abbrev pub strength : Maps → (entries : List ℕ) → (at : ℕ → ℕ) → Pass → ℕ → Edge → ℕ
 strength m entries at d w e = strengthOf m entries at (unitQ w e) (unitP d w e)
-
--- the table at clip(-12, 57, QP + offset), counted from -12
-unfoldable pub mappedZ : (table : List ℤ) → (offset : ℤ) → ℕ → ℤ
-mappedZ table offset qp = getD table (natAbs (pos 12 +ℤ clipZ (negsuc 11) (pos 57) (pos qp +ℤ offset))) (pos 0)
-
-abbrev pub mapped : (table : List ℤ) → (offset : ℤ) → ℕ → ℕ
-mapped table offset qp = natAbs (mappedZ table offset qp)
-
--- the QPs that have an entry: 0..51
-abbrev pub hasEntry : ℤ → Bool
-hasEntry z = leZ (pos 0) z && leZ z (pos 51)
