@@ -1,7 +1,9 @@
 pub mod Edges
 pub mod Leaves
+pub mod Local
 pub mod Marks
 pub mod Passes
 pub mod Planes
+pub mod Rows
 pub mod Visits
 pub mod Windows
