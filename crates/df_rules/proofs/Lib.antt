@@ -1,4 +1,6 @@
 pub mod Edges
+pub mod Example
+pub mod Finished
 pub mod Leaves
 pub mod Local
 pub mod Marks

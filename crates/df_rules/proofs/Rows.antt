@@ -5,6 +5,7 @@ use Prim.Native.Nat.{ℕ, _+_, _-_, _*_, _/_, _%_, _≤_, _<_}
 use mathlib.Core.Path.{_≡_, refl, sym, ap, _∙_}
 use mathlib.Core.Bool.{Bool}
 use mathlib.Core.List.{List, List·Memᴰ}
+use mathlib.Core.Logic.{_↔_}
 use native.Mathlib.Nat.{add-mul, mul-comm, mul-one}
 use native.Mathlib.Omega.{arith}
 use lib.Arith.{digits-div, digits-mod}
@@ -79,11 +80,14 @@ module _ (short : Bool) (s : List ℕ) (w h : ℕ) (pos : 1 ≤ w) (accepted : p
       (λ e f i j o. record { first = members short s w h pos accepted d e .0 i; second = members short s w h pos accepted d f .0 j; across = o })
       (across-order short s w h pos accepted d)
 
-  row-member : (e : Edge) → List·Memᴰ e (rowList d short s w h) → EdgeOf d short s w h e
-  row-member e i = members short s w h pos accepted d e .0 (same-members short s w h pos accepted d e .1 i)
+  pub row-members : (e : Edge) → List·Memᴰ e (rowList d short s w h) ↔ EdgeOf d short s w h e
+  row-members e =
+      let a = members short s w h pos accepted d e in
+      let b = same-members short s w h pos accepted d e in
+      (λ i. a .0 (b .1 i), λ o. b .0 (a .1 o))
 
   by-rows : Pairwise Follows (rowList d short s w h)
-  by-rows = pairwise-imp (rowList d short s w h) (λ e f i j o. record { first = row-member e i; second = row-member f j; across = o }) (rows-across short s w h pos accepted d)
+  by-rows = pairwise-imp (rowList d short s w h) (λ e f i j o. record { first = row-members e .0 i; second = row-members f .0 j; across = o }) (rows-across short s w h pos accepted d)
 
   -- two edges of one place along follow each other in one way only, so the two lists differ in pairs that commute
   module _ (key : ℕ → ℕ) (step : Edge → List ℕ → List ℕ) (near : (e : Edge) → EdgeOf d short s w h e → Local (Keyed key (alongOf d e)) (step e)) where
