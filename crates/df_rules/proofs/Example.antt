@@ -9,23 +9,33 @@ use native.Mathlib.Omega.{arith}
 use lib.IntN.{pos}
 use lib.ListN.{getD, set, replicate}
 use Rattle.def.specs.Word.{flagAt}
+use Rattle.def.specs.declared.Answer.the-variants.{Done}
 use Rattle.def.specs.declared.Component.the-variants.{Chroma}
 use Rattle.laws.specs.Bits.{fieldOf}
 use Rattle.laws.specs.Clip.{maxZ, minZ, clipZ, absZ, withSign, sampleZ}
 use Rattle.laws.specs.Orders.{each, run}
 use Rattle.line.specs.Line.{stepOf, limitOf, farOf, movedBy, lineZ, lineOf}
 use Rattle.line.specs.Row.{eqZ, far, countedAs, sameRefs, anyFar, motionRow, rowOf as strengthRow}
-use Rattle.split.specs.Edges.{Pass, vertical, horizontal, Edge, edge, edgeNumbers, visitOf, stretch, edgeList}
-use Rattle.split.specs.Picture.{leavesOf}
+use Rattle.split.specs.Edges.{Pass, vertical, horizontal, Edge, edge, visitOf, stretch, edgeList}
+use Rattle.split.specs.Picture.{leavesOf, pictureWalk}
 use Rattle.split.specs.Rows.{isEdge, rowOf, rowsOf, rowList}
 use Rattle.split.specs.Tiling.{leafAt, leafOf}
 use Rattle.split.specs.Walk.{onward, inTurn, leafWalk, byByte, walk}
+use Rattle.df_rules.specs.Demand3.{Demand3}
 use Rattle.df_rules.specs.Filter.{filtered, finished}
 use Rattle.df_rules.specs.Strength.{Maps, rowAt, strengthOf}
 use Rattle.df_rules.specs.Window.{lineAt, linesAt, windowAt}
+use Rattle.df_rules.proofs.Finished.{demand-3}
 
 bytes : List ℕ
 bytes = set (set (set (set (replicate 1024 0) 136 1) 324 1) 546 1) 785 1
+
+accepted : pictureWalk bytes 4 2 .answer ≡ Done
+unfolding bytes walk leafWalk byByte onward inTurn
+accepted = refl
+
+whole : Demand3 false bytes 4 2
+whole = demand-3 false bytes 4 2 (omega arith) accepted
 
 -- ---- the lists of the vertical pass
 
