@@ -45,13 +45,13 @@ module _ (w h : ℕ) where
 
 module _ (m w h : ℕ) (two : 2 ≤ m) where
   -- a unit's last sample, and the one past its first
-  last-in : (x n : ℕ) → x < n → m * x + (m - 1) < m * n
+  pub last-in : (x n : ℕ) → x < n → m * x + (m - 1) < m * n
   last-in x n p = omega (arith, mul-le-mul-left {m = suc x} {n = n} m p, mul-suc m x)
 
-  next-in : (x n : ℕ) → x < n → m * x + 1 < m * n
+  pub next-in : (x n : ℕ) → x < n → m * x + 1 < m * n
   next-in x n p = omega (arith, last-in x n p)
 
-  starts : (c : ℕ) → 1 ≤ c → 2 ≤ m * c
+  pub starts : (c : ℕ) → 1 ≤ c → 2 ≤ m * c
   starts c p = omega (arith, mul-le-mul-left {m = 1} {n = c} m p, mul-one m)
 
   pub inside : (d : Pass) (c a : ℕ) → 1 ≤ c → c < unitsAcross d w h → a < unitsAlong d w h → lineStart d (m * w) (m * c) (m * a) + (m - 1) * stepAlong d (m * w) + 3 * stepAcross d (m * w) < m * h * (m * w)

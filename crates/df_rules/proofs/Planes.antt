@@ -1,14 +1,13 @@
 -- What the filter leaves of a plane: its length, and that its samples are at most 1023; and three planes filtered together, one by one.
 --     filter-planes    the three planes of `filterAll`, each a run of its own
---     window-long, filtered-long, run-long, filter-long    lengths stay
---     window-small, filtered-small, run-small, filter-small    samples stay at most 1023
+--     window-long, filtered-long, run-long, finished-long, filter-long    lengths stay
+--     window-small, filtered-small, run-small, finished-small, filter-small    samples stay at most 1023
 --     run-same    edges of the same strengths filter alike; planes-finished    so do both passes, in all three planes
 -- Assumes nothing.
 use Prim.Native.Nat.{ℕ, zero, suc, _+_, _*_, _≤_}
 use mathlib.Core.Path.{_≡_, refl, sym, ap, _∙_, subst}
 use mathlib.Core.Bool.{Bool, true, false}
 use mathlib.Core.List.{List, [], _∷_, List·Memᴰ, List·Memᴰ·head, List·Memᴰ·tail}
-use native.Mathlib.Omega.{arith}
 use borrow.Author.Tests.{eqb-true, eqb-false, ltb-true, ltb-false}
 use lib.Dec.{eqb, ltb}
 use lib.ListN.{length, getD, set, length-set}
@@ -117,6 +116,14 @@ module _ (m : Maps) (t : List ℕ) (at : ℕ → ℕ) (d : Pass) (c : Component)
   run-same m₁ t₁ at₁ (e ∷ l) h xs =
       run-same m₁ t₁ at₁ l (λ f i. h f (List·Memᴰ·tail i)) (filtered m t at d c w e xs)
       ∙ ap (λ (st : ℕ). run (filtered m₁ t₁ at₁ d c w) l (window d c w st e xs)) (h e (List·Memᴰ·head refl))
+
+-- both passes
+module _ (m : Maps) (t : List ℕ) (at : Pass → ℕ → ℕ) (c : Component) (w : ℕ) (ups levels : List Edge) (xs : List ℕ) where
+  pub finished-long : length (finished m t at c w ups levels xs) ≡ length xs
+  finished-long = run-long m t (at horizontal) horizontal c w levels _ ∙ run-long m t (at vertical) vertical c w ups xs
+
+  pub finished-small : Small xs → Small (finished m t at c w ups levels xs)
+  finished-small g = run-small m t (at horizontal) horizontal c w levels _ (run-small m t (at vertical) vertical c w ups xs g)
 
 -- ---- and in all three
 

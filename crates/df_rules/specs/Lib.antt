@@ -1,3 +1,4 @@
+pub mod Demand3
 pub mod Filter
 pub mod Frame
 pub mod Leaves
