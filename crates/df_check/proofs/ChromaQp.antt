@@ -2,21 +2,27 @@
 --     offset-fits, sum-fits, machine-terms, machine-sum    the sum of a QP and an offset, in 16 bits
 --     index-low, index-high, index-within    its clip: a sum below -12, over 57, and between
 --     entry-told    what `hasEntry` tells
+--     v-across    V's table on horizontal edges
 -- Assumes nothing.
-use Prim.Native.Nat.{ℕ, zero, suc, _+_, _-_, _≤_, _<_}
-use mathlib.Core.Path.{_≡_, refl, sym, ap, _∙_}
-use mathlib.Core.Bool.{Bool, true, false, cond, _&&_}
+use Prim.Native.Nat.{ℕ, suc, _+_, _-_, _≤_, _<_}
+use mathlib.Core.Path.{_≡_, refl, ap, _∙_}
+use mathlib.Core.Bool.{true, false, cond}
+use mathlib.Core.List.{List, [], _∷_}
 use native.Mathlib.Omega.{arith}
-use borrow.Author.Tests.{leb-true, ltb-true, ltb-false, lt-ltb, le-ltb}
-use lib.Dec.{T, leb, ltb}
+use borrow.Author.Tests.{leb-true, ltb-true, ltb-false, le-ltb}
+use lib.Dec.{leb}
 use lib.IntN.{ℤ, pos, negsuc, natAbs, _+ℤ_}
-use lib.Signed.{ltZ, mag, nonNeg}
+use lib.Signed.{ltZ, mag}
 use mir.Syntax.{w8, w16}
 use mir.Val.{SFits, toZ, ofZ}
 use Rattle.laws.specs.Clip.{maxZ, minZ, clipZ}
+use Rattle.laws.proofs.Calls.{all-at}
 use Rattle.laws.proofs.Signs.{by-lt}
 use Rattle.laws.proofs.Widths.{mag-add, sfits, back}
-use Rattle.df_check.specs.ChromaQp.{hasEntry}
+use Rattle.split.specs.Edges.{horizontal}
+use Rattle.df_check.specs.ChromaQp.{hasEntry, vTable}
+use Rattle.df_check.specs.declared.VEdge.{VEdge}
+use Rattle.df_check.specs.declared.VEdge.the-variants.{Source, Own}
 
 -- ---- the sum of a QP and an offset
 
@@ -82,10 +88,11 @@ pub record Entry (z : ℤ) : Type 0 where
   pub is : z ≡ pos n
   pub few : n ≤ 51
 
-and-right : (a b : Bool) → (a && b) ≡ true → b ≡ true
-and-right true b e = e
-and-right false b e = cc
-
 pub entry-told : (z : ℤ) → hasEntry z ≡ true → Entry z
-entry-told (pos n) e = record { n = n; is = refl; few = leb-true n 51 (and-right (leb 0 n) (leb n 51) e) }
+entry-told (pos n) e = record { n = n; is = refl; few = leb-true n 51 (all-at (leb 0 n ∷ leb n 51 ∷ []) 1 e) }
 entry-told (negsuc n) e = absurd (let z : _≡_ {A = ℕ} 0 1 = cc in omega arith)
+
+-- V looks into its own table on horizontal edges, whatever the setting
+pub v-across : (e : VEdge) (table0 table1 : List ℤ) → vTable e horizontal table0 table1 ≡ table1
+v-across Source table0 table1 = refl
+v-across Own table0 table1 = refl

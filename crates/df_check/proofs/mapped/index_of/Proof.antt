@@ -1,9 +1,8 @@
 -- `df_check::mapped::index_of` meets its contract: the sum in 16 bits is the whole numbers', and the comparisons clip it. Assumes nothing.
-use Prim.Native.Nat.{_+_, _≤_}
-use mathlib.Core.Path.{_≡_, ap, _∙_}
+use mathlib.Core.Path.{_≡_}
 use native.Mathlib.Omega.{arith}
 use borrow.Author.Needs.{needs}
-use lib.IntN.{ℤ, pos, natAbs, _+ℤ_}
+use lib.IntN.{ℤ, pos, _+ℤ_}
 use mir.Syntax.{w8, w16}
 use mir.Val.{SFits, toZ, ofZ}
 use Rattle.laws.proofs.Widths.{sfits, back}

@@ -1,5 +1,5 @@
 -- `df_check::strength::entry_at` meets its contract: by the plane that has the place. Assumes nothing.
-use Prim.Native.Nat.{ℕ, _/_, _%_}
+use Prim.Native.Nat.{_/_, _%_}
 use mathlib.Core.Path.{sym, ap, _∙_}
 use borrow.Author.Needs.{needs}
 use denote.Ref.{now}
