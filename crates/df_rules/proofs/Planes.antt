@@ -22,7 +22,7 @@ use Rattle.split.proofs.Induct.{test}
 use Rattle.split.specs.Edges.{Pass, vertical, horizontal, Edge}
 use Rattle.df_rules.specs.Filter.{window, filtered, inY, inU, inV, Planes, filterAll, finished}
 use Rattle.df_rules.specs.Strength.{Maps, strength}
-use Rattle.df_rules.specs.Window.{putIf, lineAt, linesAt, windowAt}
+use Rattle.df_rules.specs.Window.{putIf, lineAt, linesAt, windowAt, Samples}
 
 -- ---- three planes together
 
@@ -78,11 +78,7 @@ window-long m st step next at n xs = window-keeps (λ ys. length ys ≡ length x
 
 -- ---- samples
 
--- every sample is at most 1023
-abbrev pub Small : List ℕ → Type 0
-Small xs = (k : ℕ) → getD xs k 0 ≤ 1023
-
-small-stored : (xs : List ℕ) (i v : ℕ) → v ≤ 1023 → Small xs → Small (set xs i v)
+small-stored : (xs : List ℕ) (i v : ℕ) → v ≤ 1023 → Samples xs → Samples (set xs i v)
 small-stored xs i v h g k =
     test (eqb k i)
     (λ t. let e = eqb-true k i t in rw e (test (ltb i (length xs))
@@ -90,8 +86,8 @@ small-stored xs i v h g k =
     (λ u. rw (set-out xs i v (ltb-false _ _ u)) (g i))))
     (λ t. rw (getD-set-other xs i k v 0 (eqb-false k i t)) (g k))
 
-pub window-small : (m : Mask) (st step next at n : ℕ) (xs : List ℕ) → Small xs → Small (windowAt m st step next at n xs)
-window-small m st step next at n xs g = window-keeps Small small-stored m st step next at n xs g
+pub window-small : (m : Mask) (st step next at n : ℕ) (xs : List ℕ) → Samples xs → Samples (windowAt m st step next at n xs)
+window-small m st step next at n xs g = window-keeps Samples small-stored m st step next at n xs g
 
 -- ---- a list of edges in a plane
 
@@ -99,14 +95,14 @@ module _ (m : Maps) (t : List ℕ) (at : ℕ → ℕ) (d : Pass) (c : Component)
   pub filtered-long : (e : Edge) (xs : List ℕ) → length (filtered m t at d c w e xs) ≡ length xs
   filtered-long e xs = window-long _ _ _ _ _ _ xs
 
-  pub filtered-small : (e : Edge) (xs : List ℕ) → Small xs → Small (filtered m t at d c w e xs)
+  pub filtered-small : (e : Edge) (xs : List ℕ) → Samples xs → Samples (filtered m t at d c w e xs)
   filtered-small e xs g = window-small _ _ _ _ _ _ xs g
 
   pub run-long : (l : List Edge) (xs : List ℕ) → length (run (filtered m t at d c w) l xs) ≡ length xs
   run-long l xs = run-keeps (λ ys. length ys ≡ length xs) (filtered m t at d c w) (λ e ys g. filtered-long e ys ∙ g) l xs refl
 
-  pub run-small : (l : List Edge) (xs : List ℕ) → Small xs → Small (run (filtered m t at d c w) l xs)
-  run-small l xs g = run-keeps Small (filtered m t at d c w) filtered-small l xs g
+  pub run-small : (l : List Edge) (xs : List ℕ) → Samples xs → Samples (run (filtered m t at d c w) l xs)
+  run-small l xs g = run-keeps Samples (filtered m t at d c w) filtered-small l xs g
 
   -- by other strengths that are the same
   pub run-same : (m₁ : Maps) (t₁ : List ℕ) (at₁ : ℕ → ℕ) (l : List Edge) → ((e : Edge) → List·Memᴰ e l → strength m t at d w e ≡ strength m₁ t₁ at₁ d w e)
@@ -122,7 +118,7 @@ module _ (m : Maps) (t : List ℕ) (at : Pass → ℕ → ℕ) (c : Component) (
   pub finished-long : length (finished m t at c w ups levels xs) ≡ length xs
   finished-long = run-long m t (at horizontal) horizontal c w levels _ ∙ run-long m t (at vertical) vertical c w ups xs
 
-  pub finished-small : Small xs → Small (finished m t at c w ups levels xs)
+  pub finished-small : Samples xs → Samples (finished m t at c w ups levels xs)
   finished-small g = run-small m t (at horizontal) horizontal c w levels _ (run-small m t (at vertical) vertical c w ups xs g)
 
 -- ---- and in all three
@@ -132,18 +128,18 @@ pub record SameLengths (p q : Planes) : Type 0 where
   pub u : length (p .u) ≡ length (q .u)
   pub v : length (p .v) ≡ length (q .v)
 
-pub record SmallPlanes (p : Planes) : Type 0 where
-  pub y : Small (p .y)
-  pub u : Small (p .u)
-  pub v : Small (p .v)
+pub record SamplePlanes (p : Planes) : Type 0 where
+  pub y : Samples (p .y)
+  pub u : Samples (p .u)
+  pub v : Samples (p .v)
 
 module _ (m : Maps) (t : List ℕ) (d : Pass) (w : ℕ) (l : List Edge) (p : Planes) where
   pub filter-long : SameLengths (filterAll m t d w l p) p
   filter-long = subst (λ (q : Planes). SameLengths q p) (sym (filter-planes m t d w l p))
       (record { y = run-long m t inY d Luma w l (p .y); u = run-long m t inU d Chroma w l (p .u); v = run-long m t inV d Chroma w l (p .v) })
 
-  pub filter-small : SmallPlanes p → SmallPlanes (filterAll m t d w l p)
-  filter-small g = subst SmallPlanes (sym (filter-planes m t d w l p))
+  pub filter-small : SamplePlanes p → SamplePlanes (filterAll m t d w l p)
+  filter-small g = subst SamplePlanes (sym (filter-planes m t d w l p))
       (record { y = run-small m t inY d Luma w l (p .y) (g .y); u = run-small m t inU d Chroma w l (p .u) (g .u); v = run-small m t inV d Chroma w l (p .v) (g .v) })
 
 -- ---- both passes, each by maps and entries of its own that give the same strengths
