@@ -60,10 +60,10 @@ module _ (i : Input) (fine : check i ≡ Fine) where
   framed t e =
       let n = told .lengths in
       let z = size in
-      let a : 4 * (i .w / 4) ≡ i .w = omega (arith, z .whole-w) in
-      let b : 4 * (i .h / 4) ≡ i .h = omega (arith, z .whole-h) in
-      let c : 2 * (i .w / 4) ≡ i .w / 2 = omega (arith, z .whole-w) in
-      let d : 2 * (i .h / 4) ≡ i .h / 2 = omega (arith, z .whole-h) in
+      let a : 4 * (i .w / 4) ≡ i .w = omega (arith, z .by-four) in
+      let b : 4 * (i .h / 4) ≡ i .h = omega (arith, z .by-four-down) in
+      let c : 2 * (i .w / 4) ≡ i .w / 2 = omega (arith, z .by-four) in
+      let d : 2 * (i .h / 4) ≡ i .h / 2 = omega (arith, z .by-four-down) in
       record {
         wide = omega (arith, z .wide);
         high = omega (arith, z .high);
@@ -118,8 +118,8 @@ module _ (i : Input) (fine : check i ≡ Fine) where
   deblock-done ver hor y u v words m n ev eh b =
       let start : Planes = record { y = i .y; u = i .u; v = i .v } in
       let planes = b .planes
-            ∙ (λ k. filterAll (mapsOf i) (eh k) horizontal (i .w / 4) (passEdges horizontal i) (filterAll (mapsOf i) (ev k) vertical (i .w / 4) (passEdges vertical i) start))
-            ∙ planes-finished (λ d. mapsOf i) (entriesIn i) (i .w / 4) (λ d. passEdges d i) (mapsOf i) (i .strengths) (qpY i) (qpU i) (qpV i) same-y same-u same-v start in
+      ∙ (λ k. filterAll (mapsOf i) (eh k) horizontal (i .w / 4) (passEdges horizontal i) (filterAll (mapsOf i) (ev k) vertical (i .w / 4) (passEdges vertical i) start))
+      ∙ planes-finished (λ d. mapsOf i) (entriesIn i) (i .w / 4) (λ d. passEdges d i) (mapsOf i) (i .strengths) (qpY i) (qpU i) (qpV i) same-y same-u same-v start in
       rw fine
       (λ k. record {
         reading = readingOf (Done (b .ups-counted k) (b .levels-counted k));

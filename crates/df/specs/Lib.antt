@@ -1,2 +1,3 @@
 pub mod Deblock
+pub mod Demand3
 pub mod Edges

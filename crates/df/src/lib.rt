@@ -128,8 +128,21 @@ pub fn deblock(
     settings: Settings,
 ) -> Deblocked
     ensures { λ r. ⌜ Gives Deblock.outcome
-        (record { w = w; h = h; y = now (y .entry); u = now (u .entry); v = now (v .entry); words = now (words .entry); splits = now (splits .entry); motion = now (motion .entry); refs = now (refs .entry);
-                  table0 = now (table0 .entry); table1 = now (table1 .entry); strengths = now (strengths .entry); settings = settings })
+        (record {
+          w = w;
+          h = h;
+          y = now (y .entry);
+          u = now (u .entry);
+          v = now (v .entry);
+          words = now (words .entry);
+          splits = now (splits .entry);
+          motion = now (motion .entry);
+          refs = now (refs .entry);
+          table0 = now (table0 .entry);
+          table1 = now (table1 .entry);
+          strengths = now (strengths .entry);
+          settings = settings;
+        })
         (record { reading = Deblock.readingOf r; y = now (y .exit); u = now (u .exit); v = now (v .exit); words = now (words .exit) }) ⌝ }
 {
     let found = checked(
