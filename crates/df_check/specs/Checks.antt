@@ -99,6 +99,7 @@ lengthsOf i =
       strengths = i .strengths;
     }
 
+-- 4 and 5 are what the walk of the picture answers
 unfoldable pub checkOf : Input → Answer
 checkOf i =
     unless (sizeOk (i .w) (i .h)) (Refused Size)

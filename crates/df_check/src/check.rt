@@ -1,4 +1,4 @@
-// What deblocking refuses, in the order of the numbers' table. Nothing is written here: the Rust takes all of it to be right.
+// What deblocking refuses, and in which order: 1, 2, 3, then 4 or 5 as the walk meets them, 6, 7. The Rust takes all of it to be right.
 ghost use mathlib.Core.Path.{_≡_};
 ghost use Prim.Native.Nat.{ℕ, _≤_};
 ghost use mathlib.Core.Bool.{false};
@@ -18,7 +18,7 @@ use crate::mapped::mapped;
 use def::Answer;
 use def::Refusal;
 
-// ---- 2
+// ---- 2: lengths
 
 // How long each lent slice is.
 struct Lengths {
@@ -53,7 +53,7 @@ fn lengths_ok(w: usize, h: usize, n: Lengths) -> bool
         & (n.strengths == 208)
 }
 
-// ---- 3
+// ---- 3: settings
 
 fn offset_ok(offset: i8) -> bool
     ensures { λ r. ⌜ r ≡ offsetOk offset ⌝ }
@@ -67,7 +67,7 @@ fn settings_ok(s: Settings) -> bool
     ((s.limit == 5) | (s.limit == 6)) & offset_ok(s.u_offset) & offset_ok(s.v_offset)
 }
 
-// ---- 6
+// ---- 6: QPs
 
 fn mapped_ok(table: &[i8], offset: i8, qp: usize) -> bool
     requires { ⌜ qp ≤ 127 ⌝ }
@@ -133,7 +133,7 @@ fn qps_ok(words: &[u32], table0: &[i8], table1: &[i8], s: Settings) -> bool
     words_ok(words, &good)
 }
 
-// ---- 7
+// ---- 7: samples
 
 fn planes_ok(y: &[u16], u: &[u16], v: &[u16]) -> bool
     ensures { λ r. ⌜ r ≡ planesOk (now (y .entry)) (now (u .entry)) (now (v .entry)) ⌝ }
@@ -141,7 +141,7 @@ fn planes_ok(y: &[u16], u: &[u16], v: &[u16]) -> bool
     samples::samples_ok(y) & samples::samples_ok(u) & samples::samples_ok(v)
 }
 
-// ---- all of them
+// ---- all, in their order
 
 // Of motion, references and strengths only the lengths are looked at.
 pub fn checked(

@@ -18,7 +18,7 @@ fn index_of(offset: i8, qp: usize) -> usize
     }
 }
 
-// What the table maps a QP to.
+// What the table maps a QP to, and 0 past its end.
 pub(crate) fn mapped(table: &[i8], offset: i8, qp: usize) -> i8
     requires { ⌜ qp ≤ 127 ⌝ }
     ensures { λ r. ⌜ r ≡ mappedZ (now (table .entry)) offset qp ⌝ }
