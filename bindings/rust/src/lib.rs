@@ -39,13 +39,17 @@
 
 mod blocks;
 mod chroma;
+#[cfg(feature = "deblock")]
+mod deblock;
 mod neighbours;
 mod refusal;
-mod sys;
+pub mod sys;
 mod tree;
 
 pub use blocks::{get_nbr, ipred_b, recon, recon_plane, Component};
 pub use chroma::{derived_chroma_qp_mapping_tables, Points};
+#[cfg(feature = "deblock")]
+pub use deblock::{deblock, lomsakeun_deblock, Maps, Picture, Settings};
 pub use neighbours::{get_avail_inter, get_avail_intra, get_mpm, Neighbours};
 pub use refusal::Refusal;
 pub use tree::{check, leaves, list_edges, listing, visiting_rank, LEAVES_LENGTH, LISTING_LENGTH};

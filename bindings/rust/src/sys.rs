@@ -1,4 +1,5 @@
-//! The archive's calls as include/decoder.h declares them: a slice is a pointer and a length.
+//! The archive's calls as include/decoder.h declares and explains them: a slice is a pointer and a length, which the caller answers for.
+#![allow(missing_docs)]
 extern "C" {
     pub fn lomsakeun_derived_chroma_qp_mapping_tables(
         global_offset: bool,

@@ -1,20 +1,7 @@
 //! Makes the recorded cases that the gate replays.
-mod avail;
-mod chroma_qp;
-mod data;
-mod deblock;
-mod deblock_cases;
-mod deblock_refusals;
-mod gather;
-mod predict;
-mod ranks;
-mod recon;
-mod sheet;
-mod tape;
-mod trees;
-
+use crate::cases::tape::Tape;
+use crate::cases::*;
 use std::path::Path;
-use tape::Tape;
 
 type Recorder = fn(&mut Tape);
 

@@ -2,6 +2,8 @@
 use super::data::*;
 use super::tape::{Case, Line, Tape};
 use crate::model::avail as model;
+#[cfg(feature = "archive")]
+use crate::product::{sys, Answer, Lending, Lent};
 use crate::rng::Rng;
 use oracle::avail as rust;
 
@@ -38,6 +40,17 @@ impl Case for Avail {
 
     fn in_domain(&self) -> bool {
         true
+    }
+
+    #[cfg(feature = "archive")]
+    fn product(&self, lending: Lending) -> Answer {
+        let words = Lent::new(lending, &self.words);
+        let call = if self.inter { sys::lomsakeun_get_avail_inter } else { sys::lomsakeun_get_avail_intra };
+        let mut mask = 0xa5;
+        let (w, h, x, y, side) = (self.w, self.h, self.x, self.y, self.side);
+        let number = unsafe { call(w, h, words.ptr(), words.len(), x, y, side, &mut mask) };
+        words.kept(&self.words)?;
+        Ok(line(number as u32, [0, 1, 2, 3, 4, 5, 6, 7].map(|bit| mask >> bit & 1 == 1)))
     }
 }
 
@@ -107,4 +120,24 @@ fn refusals(tape: &mut Tape, rng: &mut Rng) {
             tape.record(&Avail { x: 0, y: 0, side, ..good.clone() });
         }
     }
+}
+
+pub fn draw(rng: &mut Rng) -> Box<dyn Case> {
+    let most = rng.pick(&[8, 16, 32, 64, 200]);
+    Box::new(accepted(rng, most))
+}
+
+pub fn damaged(rng: &mut Rng) -> Box<dyn Case> {
+    let mut case = accepted(rng, 24);
+    for _ in 0..1 + rng.below(2) {
+        match rng.below(6) {
+            0 => spoil(rng, &mut case.w),
+            1 => spoil(rng, &mut case.h),
+            2 => stretch(rng, &mut case.words),
+            3 => spoil(rng, &mut case.x),
+            4 => spoil(rng, &mut case.y),
+            _ => spoil(rng, &mut case.side),
+        }
+    }
+    Box::new(case)
 }

@@ -2,6 +2,8 @@
 use super::data::*;
 use super::tape::{Case, Line, Tape};
 use crate::model::predict as model;
+#[cfg(feature = "archive")]
+use crate::product::{sys, Answer, Lending, Lent};
 use crate::rng::Rng;
 use oracle::predict as rust;
 
@@ -27,11 +29,22 @@ impl Case for Predict {
     fn rust(&self) -> Option<Line> {
         let mut block = self.block.clone();
         rust::predict(self.mode as u8, self.side, &self.run, &mut block)?;
-        Some(Line::new().num(0).all(&block))
+        Some(Line::new().num(0u8).all(&block))
     }
 
     fn in_domain(&self) -> bool {
         true
+    }
+
+    #[cfg(feature = "archive")]
+    fn product(&self, lending: Lending) -> Answer {
+        let run = Lent::new(lending, &self.run);
+        let mut block = Lent::new(lending, &self.block);
+        let (mode, side) = (self.mode as u8, self.side);
+        let number =
+            unsafe { sys::lomsakeun_ipred_b(mode, side, run.ptr(), run.len(), block.mut_ptr(), block.len()) };
+        run.kept(&self.run)?;
+        Ok(Line::new().num(number).all(block.after()?))
     }
 }
 
@@ -108,4 +121,24 @@ fn refusals(tape: &mut Tape, rng: &mut Rng) {
             }
         }
     }
+}
+
+pub fn draw(rng: &mut Rng) -> Box<dyn Case> {
+    let (mode, side) = (rng.below(5), rng.pick(&[2, 4, 4, 8, 8, 16, 16, 32, 64]));
+    Box::new(accepted(rng, mode, side))
+}
+
+pub fn damaged(rng: &mut Rng) -> Box<dyn Case> {
+    let (mode, side) = (rng.below(5), rng.pick(&[2, 4, 8]));
+    let mut case = accepted(rng, mode, side);
+    for _ in 0..1 + rng.below(2) {
+        match rng.below(5) {
+            0 => case.mode = rng.next() as u8 as usize,
+            1 => spoil(rng, &mut case.side),
+            2 => stretch(rng, &mut case.run),
+            3 => stretch(rng, &mut case.block),
+            _ => overdo(rng, &mut case.run),
+        }
+    }
+    Box::new(case)
 }

@@ -3,6 +3,10 @@ use super::data::*;
 use super::tape::{Case, Line};
 use super::trees::{self, Taste};
 use crate::model::deblock::{self as model, Given};
+#[cfg(feature = "deblock")]
+use crate::product::Lent;
+#[cfg(feature = "archive")]
+use crate::product::{Answer, Lending};
 use crate::rng::Rng;
 use oracle::deblock as rust;
 
@@ -79,6 +83,62 @@ impl Case for Picture {
 
     fn in_domain(&self) -> bool {
         !self.own && self.strengths == rust::strengths() && model::fits(&self.given(), &self.words)
+    }
+
+    /// The archive has no deblocking yet.
+    #[cfg(all(feature = "archive", not(feature = "deblock")))]
+    fn product(&self, _: Lending) -> Answer {
+        Ok(self.model())
+    }
+
+    #[cfg(feature = "deblock")]
+    fn product(&self, lending: Lending) -> Answer {
+        let [mut y, mut u, mut v] = self.planes.each_ref().map(|plane| Lent::new(lending, plane));
+        let mut words = Lent::new(lending, &self.words);
+        let (splits, motion) = (Lent::new(lending, &self.splits), Lent::new(lending, &self.motion));
+        let (refs, strengths) = (Lent::new(lending, &self.refs), Lent::new(lending, &self.strengths));
+        let [t0, t1] = self.tables.each_ref().map(|table| Lent::new(lending, table));
+        let (mut vertical, mut horizontal) = (77, 78);
+        let number = unsafe {
+            lomsakeun::lomsakeun_deblock(
+                self.w,
+                self.h,
+                y.mut_ptr(),
+                y.len(),
+                u.mut_ptr(),
+                u.len(),
+                v.mut_ptr(),
+                v.len(),
+                words.mut_ptr(),
+                words.len(),
+                splits.ptr(),
+                splits.len(),
+                motion.ptr(),
+                motion.len(),
+                refs.ptr(),
+                refs.len(),
+                t0.ptr(),
+                t0.len(),
+                t1.ptr(),
+                t1.len(),
+                strengths.ptr(),
+                strengths.len(),
+                self.limit as u8,
+                self.own,
+                self.offsets[0] as i8,
+                self.offsets[1] as i8,
+                &mut vertical,
+                &mut horizontal,
+            )
+        };
+        splits.kept(&self.splits)?;
+        motion.kept(&self.motion)?;
+        refs.kept(&self.refs)?;
+        t0.kept(&self.tables[0])?;
+        t1.kept(&self.tables[1])?;
+        strengths.kept(&self.strengths)?;
+        let line = Line::new().num(number).num(vertical).num(horizontal);
+        Ok(line.all(y.after()?).all(u.after()?).all(v.after()?).all(words.after()?))
     }
 }
 

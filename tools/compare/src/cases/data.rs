@@ -61,3 +61,37 @@ pub fn wrong_lengths<T: Copy>(good: &[T]) -> Vec<Vec<T>> {
     let longer = good.iter().copied().chain([good[0]]).collect();
     vec![good[..good.len() - 1].to_vec(), longer, vec![]]
 }
+
+// ---- damage, for inputs outside the domain
+
+/// A number of a size, a place or a side, moved or replaced.
+pub fn spoil(rng: &mut Rng, number: &mut usize) {
+    *number = match rng.below(6) {
+        0 => number.wrapping_add(1),
+        1 => number.saturating_sub(1),
+        2 => number.wrapping_add(4),
+        3 => rng.pick(&[0, 1, 2, 3, 4, 5, 6, 8, 12, 16, 32, 63, 64, 65, 128, 4096, 4097, 4098, 4100]),
+        4 => *number + (1 << 32),
+        _ => rng.below(300),
+    };
+}
+
+/// A slice with another length, or, once in a while, with its own.
+pub fn stretch<T: Copy + Default>(rng: &mut Rng, values: &mut Vec<T>) {
+    let n = match rng.below(5) {
+        0 => values.len() + 1,
+        1 => values.len().saturating_sub(1),
+        2 => 0,
+        3 => 2 * values.len(),
+        _ => rng.below(300),
+    };
+    values.resize(n, T::default());
+}
+
+/// A sample over 1023, or at the bound.
+pub fn overdo(rng: &mut Rng, samples: &mut [u16]) {
+    if !samples.is_empty() {
+        let at = rng.below(samples.len());
+        samples[at] = rng.pick(&[1023, 1024, 1025, 2047, 32768, 65535]);
+    }
+}

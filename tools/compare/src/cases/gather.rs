@@ -2,6 +2,8 @@
 use super::data::*;
 use super::tape::{Case, Line, Tape};
 use crate::model::{self, gather as model_gather};
+#[cfg(feature = "archive")]
+use crate::product::{sys, Answer, Lending, Lent};
 use crate::rng::Rng;
 use oracle::gather as rust;
 
@@ -38,11 +40,37 @@ impl Case for Gather {
         let mut run = self.run.clone();
         let (size, block) = ((self.w, self.h), (self.x, self.y, self.side));
         rust::gather(self.chroma, size, &self.plane, &self.words, block, self.constrained, &mut run)?;
-        Some(Line::new().num(0).all(&run))
+        Some(Line::new().num(0u8).all(&run))
     }
 
     fn in_domain(&self) -> bool {
         true
+    }
+
+    #[cfg(feature = "archive")]
+    fn product(&self, lending: Lending) -> Answer {
+        let (plane, words) = (Lent::new(lending, &self.plane), Lent::new(lending, &self.words));
+        let mut run = Lent::new(lending, &self.run);
+        let number = unsafe {
+            sys::lomsakeun_get_nbr(
+                self.chroma,
+                self.w,
+                self.h,
+                plane.ptr(),
+                plane.len(),
+                words.ptr(),
+                words.len(),
+                self.x,
+                self.y,
+                self.side,
+                self.constrained,
+                run.mut_ptr(),
+                run.len(),
+            )
+        };
+        plane.kept(&self.plane)?;
+        words.kept(&self.words)?;
+        Ok(Line::new().num(number).all(run.after()?))
     }
 }
 
@@ -157,4 +185,28 @@ fn over(tape: &mut Tape, rng: &mut Rng) {
         }
         tape.record(&case);
     }
+}
+
+pub fn draw(rng: &mut Rng) -> Box<dyn Case> {
+    let most = if rng.one_in(50) { 200 } else { rng.pick(&[8, 16, 40]) };
+    Box::new(accepted(rng, most))
+}
+
+pub fn damaged(rng: &mut Rng) -> Box<dyn Case> {
+    let mut case = accepted(rng, 24);
+    for _ in 0..1 + rng.below(2) {
+        match rng.below(10) {
+            0 => spoil(rng, &mut case.w),
+            1 => spoil(rng, &mut case.h),
+            2 => stretch(rng, &mut case.plane),
+            3 => stretch(rng, &mut case.words),
+            4 => spoil(rng, &mut case.x),
+            5 => spoil(rng, &mut case.y),
+            6 => spoil(rng, &mut case.side),
+            7 => stretch(rng, &mut case.run),
+            8 => case.chroma = !case.chroma,
+            _ => overdo(rng, &mut case.plane),
+        }
+    }
+    Box::new(case)
 }

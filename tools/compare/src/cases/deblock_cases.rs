@@ -4,6 +4,8 @@ use super::deblock::{picture, split_bytes, Picture};
 use super::tape::{Case, Line, Tape};
 use super::trees;
 use crate::model::{deblock as model, walk};
+#[cfg(feature = "archive")]
+use crate::product::{Answer, Lending};
 use crate::rng::Rng;
 use oracle::deblock as rust;
 
@@ -140,7 +142,7 @@ fn edges_line(lists: [Vec<(usize, usize)>; 2]) -> Line {
     let each = |line: Line, list: &Vec<(usize, usize)>| {
         list.iter().fold(line.num(list.len()), |line, (x, y)| line.num(x).num(y))
     };
-    lists.iter().fold(Line::new().num(0), each)
+    lists.iter().fold(Line::new().num(0u8), each)
 }
 
 impl Case for Edges {
@@ -168,6 +170,12 @@ impl Case for Edges {
     fn in_domain(&self) -> bool {
         true
     }
+
+    /// A part of a call, which the product does not export by itself.
+    #[cfg(feature = "archive")]
+    fn product(&self, _: Lending) -> Answer {
+        Ok(self.model())
+    }
 }
 
 /// One window alone, with any strength entry.
@@ -192,16 +200,59 @@ impl Case for Window {
             let filtered = model::line(places.map(|place| samples[place]), self.entry as i64, !self.chroma);
             places.into_iter().zip(filtered).for_each(|(place, sample)| samples[place] = sample);
         }
-        Line::new().num(0).all(&samples)
+        Line::new().num(0u8).all(&samples)
     }
 
     fn rust(&self) -> Option<Line> {
         let mut samples = self.samples.clone();
         rust::window(self.chroma, self.along, self.entry, &mut samples)?;
-        Some(Line::new().num(0).all(&samples))
+        Some(Line::new().num(0u8).all(&samples))
     }
 
     fn in_domain(&self) -> bool {
         true
     }
+
+    /// A part of a call, which the product does not export by itself.
+    #[cfg(feature = "archive")]
+    fn product(&self, _: Lending) -> Answer {
+        Ok(self.model())
+    }
+}
+
+#[cfg(feature = "deblock")]
+pub fn draw(rng: &mut Rng) -> Box<dyn Case> {
+    let most = rng.pick(&[8, 16, 36, 72, 140]);
+    let i = 1 + rng.below(64);
+    Box::new(varied(rng, most, i))
+}
+
+#[cfg(feature = "deblock")]
+pub fn damaged(rng: &mut Rng) -> Box<dyn Case> {
+    let mut case = varied(rng, 24, 1);
+    for _ in 0..1 + rng.below(2) {
+        let plane = rng.below(3);
+        let table = rng.below(2);
+        match rng.below(14) {
+            0 => spoil(rng, &mut case.w),
+            1 => spoil(rng, &mut case.h),
+            2 => stretch(rng, &mut case.planes[plane]),
+            3 => stretch(rng, &mut case.words),
+            4 => stretch(rng, &mut case.splits),
+            5 => stretch(rng, &mut case.motion),
+            6 => stretch(rng, &mut case.refs),
+            7 => stretch(rng, &mut case.tables[table]),
+            8 => stretch(rng, &mut case.strengths),
+            9 => case.limit = rng.below(256),
+            10 => case.offsets[table] = rng.range(-128, 127),
+            11 => case.words.iter_mut().for_each(|word| *word ^= (rng.one_in(9) as u32) << rng.range(16, 22)),
+            12 => case.tables[table].iter_mut().for_each(|value| *value = rng.range(-8, 58) as i8),
+            _ => overdo(rng, &mut case.planes[plane]),
+        }
+    }
+    if rng.one_in(3) {
+        case.splits.iter_mut().for_each(|byte| *byte = rng.pick(&[0, 1, 1, 1, 1, 1, 1, 2]));
+    }
+    case.own = rng.one_in(2);
+    Box::new(case)
 }

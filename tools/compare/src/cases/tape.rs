@@ -1,24 +1,55 @@
 //! A recording: the lines of inputs and of expected answers, and where each answer came from.
-use std::fmt::{Display, Write as _};
+#[cfg(feature = "archive")]
+use crate::product::{Answer, Lending};
+use std::fmt::{self, Display};
 use std::{fs, io, path::Path};
 
 /// The record separator, which ends each sheet among the cases.
 const SHEET_END: u8 = 30;
 
-/// Numbers separated by single spaces.
+/// A number that a line may hold.
+pub trait Wide {
+    fn wide(self) -> i64;
+}
+
+/// An element of a lent slice.
+pub trait Number: Wide + Copy + PartialEq {
+    /// What stands beside a lent slice, i places from where it begins.
+    fn mark(i: usize) -> Self;
+}
+
+macro_rules! numbers {
+    ($($type:ty)*) => {$(
+        impl Wide for $type {
+            fn wide(self) -> i64 {
+                self as i64
+            }
+        }
+        impl Wide for &$type {
+            fn wide(self) -> i64 {
+                *self as i64
+            }
+        }
+        impl Number for $type {
+            fn mark(i: usize) -> $type {
+                (0x5a5a_5a5a_a5a5_a5a5_u64 ^ (i as u64).wrapping_mul(0x0101_0101_0101_0101)) as $type
+            }
+        }
+    )*};
+}
+numbers!(u8 i8 u16 i16 u32 usize i64);
+
+/// Numbers; written with single spaces between them.
 #[derive(Default, Clone, PartialEq)]
-pub struct Line(pub String);
+pub struct Line(pub Vec<i64>);
 
 impl Line {
     pub fn new() -> Line {
         Line::default()
     }
 
-    pub fn num(mut self, v: impl Display) -> Line {
-        if !self.0.is_empty() {
-            self.0.push(' ');
-        }
-        write!(self.0, "{v}").unwrap();
+    pub fn num(mut self, v: impl Wide) -> Line {
+        self.0.push(v.wide());
         self
     }
 
@@ -27,13 +58,26 @@ impl Line {
     }
 
     /// The elements alone.
-    pub fn all<T: Display>(self, values: &[T]) -> Line {
-        values.iter().fold(self, |line, v| line.num(v))
+    pub fn all<T: Number>(mut self, values: &[T]) -> Line {
+        self.0.extend(values.iter().map(|v| v.wide()));
+        self
     }
 
     /// The length and then the elements.
-    pub fn slice<T: Display>(self, values: &[T]) -> Line {
+    pub fn slice<T: Number>(self, values: &[T]) -> Line {
         self.num(values.len()).all(values)
+    }
+
+    /// Whether the number, which comes first, is 0.
+    pub fn accepted(&self) -> bool {
+        self.0[0] == 0
+    }
+}
+
+impl Display for Line {
+    fn fmt(&self, f: &mut fmt::Formatter<'_>) -> fmt::Result {
+        let numbers: Vec<String> = self.0.iter().map(i64::to_string).collect();
+        f.write_str(&numbers.join(" "))
     }
 }
 
@@ -46,6 +90,9 @@ pub trait Case {
     fn rust(&self) -> Option<Line>;
     /// Whether an accepted input lies in the Rust's domain.
     fn in_domain(&self) -> bool;
+    /// The product's answer in the same form, or what was written that must not be.
+    #[cfg(feature = "archive")]
+    fn product(&self, lending: Lending) -> Answer;
 }
 
 #[derive(Default)]
@@ -78,9 +125,9 @@ impl Tape {
     /// Records a case: the Rust answers in its domain, else the model does.
     pub fn record(&mut self, case: &dyn Case) {
         let answer = self.answer(case);
-        self.cases.extend(case.input().0.bytes());
+        self.cases.extend(case.input().to_string().bytes());
         self.cases.push(b'\n');
-        self.stdout += &answer.0;
+        self.stdout += &answer.to_string();
         self.stdout.push('\n');
     }
 
@@ -101,9 +148,9 @@ impl Tape {
     /// Compares the Rust and the model on a case without recording it.
     pub fn compare(&mut self, case: &dyn Case) {
         let model = case.model();
-        if accepted(&model) && case.in_domain() {
+        if model.accepted() && case.in_domain() {
             self.agree(case, &model);
-        } else if accepted(&model) {
+        } else if model.accepted() {
             self.outside(case, &model);
         }
     }
@@ -116,7 +163,7 @@ impl Tape {
 
     fn answer(&mut self, case: &dyn Case) -> Line {
         let model = case.model();
-        if !accepted(&model) {
+        if !model.accepted() {
             self.refused += 1;
         } else if case.in_domain() {
             self.from_rust += 1;
@@ -143,12 +190,12 @@ impl Tape {
         if rust.as_ref() != Some(model) {
             self.differences += 1;
             if self.differences <= 3 {
-                let said = rust.as_ref().map_or("a panic", |line| &line.0);
+                let said = rust.as_ref().map_or("a panic".into(), Line::to_string);
                 println!(
                     "{}: DIFFERENCE\n  input {}\n  model {}\n  Rust  {}",
                     self.name,
-                    case.input().0,
-                    model.0,
+                    case.input(),
+                    model,
                     said
                 );
             }
@@ -185,8 +232,4 @@ impl Tape {
         fs::write(dir.join("data/cases"), &self.cases)?;
         fs::write(dir.join("stdout"), &self.stdout)
     }
-}
-
-fn accepted(answer: &Line) -> bool {
-    answer.0.split(' ').next() == Some("0")
 }

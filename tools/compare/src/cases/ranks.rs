@@ -2,6 +2,8 @@
 use super::data::*;
 use super::tape::{Case, Line, Tape};
 use crate::model::ranks as model;
+#[cfg(feature = "archive")]
+use crate::product::{sys, Answer, Lending, Lent};
 use crate::rng::Rng;
 use oracle::ranks as rust;
 
@@ -30,12 +32,44 @@ impl Case for Ranks {
 
     fn rust(&self) -> Option<Line> {
         let ranks = rust::ranks(self.w, self.h, &self.words, &self.modes, self.sx, self.sy)?;
-        Some(Line::new().num(0).all(&ranks))
+        Some(Line::new().num(0u8).all(&ranks))
     }
 
     /// The Rust reads its own table.
     fn in_domain(&self) -> bool {
         self.table == rust::table()
+    }
+
+    #[cfg(feature = "archive")]
+    fn product(&self, lending: Lending) -> Answer {
+        let (words, modes) = (Lent::new(lending, &self.words), Lent::new(lending, &self.modes));
+        let table = Lent::new(lending, &self.table);
+        let stale = [201, 202, 203, 204, 205];
+        let mut ranks = Lent::new(lending, &stale);
+        let number = unsafe {
+            sys::lomsakeun_get_mpm(
+                self.w,
+                self.h,
+                words.ptr(),
+                words.len(),
+                modes.ptr(),
+                modes.len(),
+                table.ptr(),
+                table.len(),
+                self.sx,
+                self.sy,
+                ranks.mut_ptr(),
+                ranks.len(),
+            )
+        };
+        words.kept(&self.words)?;
+        modes.kept(&self.modes)?;
+        table.kept(&self.table)?;
+        if number != 0 {
+            ranks.kept(&stale)?;
+            return Ok(Line::new().num(number));
+        }
+        Ok(Line::new().num(number).all(ranks.after()?))
     }
 }
 
@@ -123,4 +157,26 @@ fn modes(tape: &mut Tape, rng: &mut Rng) {
             }
         }
     }
+}
+
+pub fn draw(rng: &mut Rng) -> Box<dyn Case> {
+    let (most, rusts) = (rng.pick(&[8, 16, 40]), !rng.one_in(16));
+    Box::new(accepted(rng, most, rusts))
+}
+
+pub fn damaged(rng: &mut Rng) -> Box<dyn Case> {
+    let mut case = accepted(rng, 24, true);
+    for _ in 0..1 + rng.below(2) {
+        match rng.below(8) {
+            0 => spoil(rng, &mut case.w),
+            1 => spoil(rng, &mut case.h),
+            2 => stretch(rng, &mut case.words),
+            3 => stretch(rng, &mut case.modes),
+            4 => stretch(rng, &mut case.table),
+            5 => spoil(rng, &mut case.sx),
+            6 => spoil(rng, &mut case.sy),
+            _ => case.modes.iter_mut().for_each(|mode| *mode = rng.next() as u8),
+        }
+    }
+    Box::new(case)
 }

@@ -2,6 +2,8 @@
 use super::data::*;
 use super::tape::{Case, Line, Tape};
 use crate::model::{self, residual as model_residual};
+#[cfg(feature = "archive")]
+use crate::product::{sys, Answer, Lending, Lent};
 use crate::rng::Rng;
 use oracle::residual as rust;
 
@@ -29,11 +31,32 @@ impl Case for Block {
     fn rust(&self) -> Option<Line> {
         let mut block = self.block.clone();
         rust::block(self.coded, self.side, &self.prediction, &self.residual, &mut block)?;
-        Some(Line::new().num(0).all(&block))
+        Some(Line::new().num(0u8).all(&block))
     }
 
     fn in_domain(&self) -> bool {
         true
+    }
+
+    #[cfg(feature = "archive")]
+    fn product(&self, lending: Lending) -> Answer {
+        let (pred, coef) = (Lent::new(lending, &self.prediction), Lent::new(lending, &self.residual));
+        let mut rec = Lent::new(lending, &self.block);
+        let number = unsafe {
+            sys::lomsakeun_recon(
+                self.coded,
+                self.side,
+                pred.ptr(),
+                pred.len(),
+                coef.ptr(),
+                coef.len(),
+                rec.mut_ptr(),
+                rec.len(),
+            )
+        };
+        pred.kept(&self.prediction)?;
+        coef.kept(&self.residual)?;
+        Ok(Line::new().num(number).all(rec.after()?))
     }
 }
 
@@ -108,6 +131,26 @@ fn block_refusals(tape: &mut Tape, rng: &mut Rng) {
     }
 }
 
+pub fn draw_block(rng: &mut Rng) -> Box<dyn Case> {
+    let side = rng.pick(&[2, 4, 4, 8, 8, 16, 16, 32, 64]);
+    Box::new(accepted_block(rng, side))
+}
+
+pub fn damaged_block(rng: &mut Rng) -> Box<dyn Case> {
+    let side = rng.pick(&[2, 4, 8]);
+    let mut case = accepted_block(rng, side);
+    for _ in 0..1 + rng.below(2) {
+        match rng.below(5) {
+            0 => spoil(rng, &mut case.side),
+            1 => stretch(rng, &mut case.prediction),
+            2 => stretch(rng, &mut case.residual),
+            3 => stretch(rng, &mut case.block),
+            _ => overdo(rng, &mut case.prediction),
+        }
+    }
+    Box::new(case)
+}
+
 #[derive(Clone)]
 struct Plane {
     chroma: bool,
@@ -140,11 +183,37 @@ impl Case for Plane {
         let mut plane = self.plane.clone();
         let (size, block) = ((self.w, self.h), (self.x, self.y, self.side));
         rust::plane(self.chroma, size, block, self.coded, &self.prediction, &self.residual, &mut plane)?;
-        Some(Line::new().num(0).all(&plane))
+        Some(Line::new().num(0u8).all(&plane))
     }
 
     fn in_domain(&self) -> bool {
         true
+    }
+
+    #[cfg(feature = "archive")]
+    fn product(&self, lending: Lending) -> Answer {
+        let (pred, coef) = (Lent::new(lending, &self.prediction), Lent::new(lending, &self.residual));
+        let mut rec = Lent::new(lending, &self.plane);
+        let number = unsafe {
+            sys::lomsakeun_recon_plane(
+                self.chroma,
+                self.w,
+                self.h,
+                self.x,
+                self.y,
+                self.side,
+                self.coded,
+                pred.ptr(),
+                pred.len(),
+                coef.ptr(),
+                coef.len(),
+                rec.mut_ptr(),
+                rec.len(),
+            )
+        };
+        pred.kept(&self.prediction)?;
+        coef.kept(&self.residual)?;
+        Ok(Line::new().num(number).all(rec.after()?))
     }
 }
 
@@ -230,4 +299,28 @@ fn plane_inner_refusals(tape: &mut Tape, rng: &mut Rng, good: &Plane) {
             tape.record(&bad);
         }
     }
+}
+
+pub fn draw_plane(rng: &mut Rng) -> Box<dyn Case> {
+    let most = if rng.one_in(50) { 200 } else { rng.pick(&[8, 16, 40]) };
+    Box::new(accepted_plane(rng, most))
+}
+
+pub fn damaged_plane(rng: &mut Rng) -> Box<dyn Case> {
+    let mut case = accepted_plane(rng, 24);
+    for _ in 0..1 + rng.below(2) {
+        match rng.below(10) {
+            0 => spoil(rng, &mut case.w),
+            1 => spoil(rng, &mut case.h),
+            2 => spoil(rng, &mut case.x),
+            3 => spoil(rng, &mut case.y),
+            4 => spoil(rng, &mut case.side),
+            5 => stretch(rng, &mut case.prediction),
+            6 => stretch(rng, &mut case.residual),
+            7 => stretch(rng, &mut case.plane),
+            8 => case.chroma = !case.chroma,
+            _ => overdo(rng, &mut case.prediction),
+        }
+    }
+    Box::new(case)
 }

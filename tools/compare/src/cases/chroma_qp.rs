@@ -1,7 +1,9 @@
 //! Recorded cases of the derived chroma QP tables.
-use super::data::wrong_lengths;
+use super::data::{spoil, stretch, wrong_lengths};
 use super::tape::{Case, Line, Tape};
 use crate::model::chroma as model;
+#[cfg(feature = "archive")]
+use crate::product::{sys, Answer, Lending, Lent};
 use crate::rng::Rng;
 use oracle::chroma as rust;
 
@@ -42,11 +44,44 @@ impl Case for Derive {
     fn rust(&self) -> Option<Line> {
         let [mut t0, mut t1] = self.tables.clone();
         rust::derive(self.global, self.same, self.points(0), self.points(1), &mut t0, &mut t1)?;
-        Some(Line::new().num(0).all(&t0).all(&t1))
+        Some(Line::new().num(0u8).all(&t0).all(&t1))
     }
 
     fn in_domain(&self) -> bool {
         model::fits(self.global, self.same, self.points(0), self.points(1))
+    }
+
+    #[cfg(feature = "archive")]
+    fn product(&self, lending: Lending) -> Answer {
+        let [p0, p1] = &self.points;
+        let (a0, b0) = (Lent::new(lending, &p0.a), Lent::new(lending, &p0.b));
+        let (a1, b1) = (Lent::new(lending, &p1.a), Lent::new(lending, &p1.b));
+        let [mut t0, mut t1] = self.tables.each_ref().map(|table| Lent::new(lending, table));
+        let number = unsafe {
+            sys::lomsakeun_derived_chroma_qp_mapping_tables(
+                self.global,
+                self.same,
+                p0.count,
+                a0.ptr(),
+                a0.len(),
+                b0.ptr(),
+                b0.len(),
+                p1.count,
+                a1.ptr(),
+                a1.len(),
+                b1.ptr(),
+                b1.len(),
+                t0.mut_ptr(),
+                t0.len(),
+                t1.mut_ptr(),
+                t1.len(),
+            )
+        };
+        a0.kept(&p0.a)?;
+        b0.kept(&p0.b)?;
+        a1.kept(&p1.a)?;
+        b1.kept(&p1.b)?;
+        Ok(Line::new().num(number).all(t0.after()?).all(t1.after()?))
     }
 }
 
@@ -239,4 +274,34 @@ fn record_at(tape: &mut Tape, rng: &mut Rng, (global, same, i): (bool, bool, usi
     let mut bad = case(rng, global, same, fine.clone(), fine.clone());
     bad.points[i] = p;
     tape.record(&bad);
+}
+
+pub fn draw(rng: &mut Rng) -> Box<dyn Case> {
+    let near = !rng.one_in(8);
+    Box::new(accepted(rng, near))
+}
+
+pub fn damaged(rng: &mut Rng) -> Box<dyn Case> {
+    let mut case = accepted(rng, true);
+    for _ in 0..1 + rng.below(2) {
+        let i = rng.below(2);
+        match rng.below(7) {
+            0 => spoil(rng, &mut case.points[i].count),
+            1 => stretch(rng, &mut case.points[i].a),
+            2 => stretch(rng, &mut case.points[i].b),
+            3 => stretch(rng, &mut case.tables[i]),
+            4 => case.points[i] = wild_points(rng),
+            5 => change(rng, &mut case.points[i].a),
+            _ => change(rng, &mut case.points[i].b),
+        }
+    }
+    Box::new(case)
+}
+
+/// One of the first few bytes is anything.
+fn change(rng: &mut Rng, values: &mut [i8]) {
+    if !values.is_empty() {
+        let at = rng.below(values.len().min(4));
+        values[at] = byte(rng);
+    }
 }

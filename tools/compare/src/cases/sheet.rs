@@ -7,7 +7,7 @@ use crate::rng::Rng;
 
 /// The values of the five lines, as they are written.
 #[derive(Clone)]
-struct Sheet {
+pub struct Sheet {
     width: String,
     height: String,
     tr_log2: String,
@@ -26,7 +26,7 @@ impl Sheet {
         ]
     }
 
-    fn bytes(&self) -> Vec<u8> {
+    pub fn bytes(&self) -> Vec<u8> {
         self.lines().concat().into_bytes()
     }
 }
@@ -54,7 +54,7 @@ fn put(tape: &mut Tape, sheet: &[u8]) {
     tape.record_sheet(sheet, &model::listing(sheet));
 }
 
-fn accepted(rng: &mut Rng, most: usize) -> Sheet {
+pub fn accepted(rng: &mut Rng, most: usize) -> Sheet {
     let (w, h) = (size(rng, most), size(rng, most));
     let taste = trees::taste(rng);
     sheet(rng, w, h, taste)
@@ -202,7 +202,7 @@ fn long(tape: &mut Tape, rng: &mut Rng) {
 }
 
 /// A sheet with one byte changed, dropped or put in.
-fn damaged(rng: &mut Rng, mut sheet: Vec<u8>) -> Vec<u8> {
+pub fn damaged(rng: &mut Rng, mut sheet: Vec<u8>) -> Vec<u8> {
     let at = rng.below(sheet.len());
     let byte = if rng.one_in(3) { rng.next() as u8 } else { rng.pick(b"0123456789=\n ownsurcehlit_dgp") };
     let byte = if byte == 30 { b'0' } else { byte };
