@@ -1,15 +1,13 @@
-// The calls for C and Rust to link: numbers and slices alone, the number as the answer. Each is one call of the crate that it names, and its
-// contract is that call's own. A slice is passed as a pointer and a length.
+// The calls for C and Rust to link: numbers and slices alone, the number as the answer, values by `&mut`. Each is one call of the crate that it
+// names, and its contract is that call's own. A slice is passed as a pointer and a length. On a refusal a value is 0, and no slice is written.
 ghost use mathlib.Core.Path.{_≡_};
-ghost use Rattle.laws.specs.Call.{Gives};
-ghost use Rattle.chroma_qp.specs.Derived as derived;
-ghost use Rattle.ipred.specs.Predict as predict;
-ghost use Rattle.nbr.specs.Gather as gather;
-ghost use Rattle.recon.specs.Recon as recon;
-ghost use Rattle.recon.specs.Plane as plane;
 ghost use Rattle.decoder_c.specs.Flags.{componentOf};
 use def::Component;
-use def::Pel;
+
+mod blocks;
+mod chroma;
+mod neighbours;
+mod tree;
 
 // A component by its flag.
 fn component(chroma: bool) -> Component
@@ -20,128 +18,4 @@ fn component(chroma: bool) -> Component
     } else {
         Component::Luma
     }
-}
-
-#[no_mangle]
-pub extern "C" fn lomsakeun_derived_chroma_qp_mapping_tables(
-    global_offset: bool,
-    same_table: bool,
-    count0: usize,
-    a0: &[i8],
-    b0: &[i8],
-    count1: usize,
-    a1: &[i8],
-    b1: &[i8],
-    t0: &mut [i8],
-    t1: &mut [i8],
-) -> u8
-    ensures { λ n. ⌜ Gives derived.outcome
-        (record {
-          global-offset = «global_offset»;
-          same-table = «same_table»;
-          first = record { count = count0; a = now (a0 .entry); b = now (b0 .entry) };
-          second = record { count = count1; a = now (a1 .entry); b = now (b1 .entry) };
-          t0 = now (t0 .entry);
-          t1 = now (t1 .entry);
-        })
-        (record { number = n; t0 = now (t0 .exit); t1 = now (t1 .exit) }) ⌝ }
-{
-    def::answer_number(chroma_qp::derived_chroma_qp_mapping_tables(
-        global_offset,
-        same_table,
-        count0,
-        a0,
-        b0,
-        count1,
-        a1,
-        b1,
-        t0,
-        t1,
-    ))
-}
-
-#[no_mangle]
-pub extern "C" fn lomsakeun_get_nbr(
-    chroma: bool,
-    w: usize,
-    h: usize,
-    plane: &[u16],
-    map_scu: &[u32],
-    x: usize,
-    y: usize,
-    side: usize,
-    constrained: bool,
-    run: &mut [u16],
-) -> u8
-    ensures { λ n. ⌜ Gives gather.outcome
-        (record { around = record { component = componentOf chroma; w = w; h = h; plane = now (plane .entry); words = now («map_scu» .entry); x = x; y = y; side = side; constrained = constrained }; run = now (run .entry) })
-        (record { number = n; run = now (run .exit) }) ⌝ }
-{
-    def::answer_number(nbr::get_nbr(
-        component(chroma),
-        w,
-        h,
-        plane,
-        map_scu,
-        Pel(x),
-        Pel(y),
-        side,
-        constrained,
-        run,
-    ))
-}
-
-#[no_mangle]
-pub extern "C" fn lomsakeun_ipred_b(mode: u8, side: usize, run: &[u16], block: &mut [u16]) -> u8
-    ensures { λ n. ⌜ Gives predict.outcome
-        (record { mode = mode; side = side; run = now (run .entry); block = now (block .entry) })
-        (record { number = n; block = now (block .exit) }) ⌝ }
-{
-    def::answer_number(ipred::ipred_b(mode, side, run, block))
-}
-
-#[no_mangle]
-pub extern "C" fn lomsakeun_recon(
-    coded: bool,
-    side: usize,
-    pred: &[u16],
-    coef: &[i16],
-    rec: &mut [u16],
-) -> u8
-    ensures { λ n. ⌜ Gives recon.outcome
-        (record { coded = coded; side = side; pred = now (pred .entry); coef = now (coef .entry); rec = now (rec .entry) })
-        (record { number = n; rec = now (rec .exit) }) ⌝ }
-{
-    def::answer_number(recon::recon(coded, side, pred, coef, rec))
-}
-
-#[no_mangle]
-pub extern "C" fn lomsakeun_recon_plane(
-    chroma: bool,
-    w: usize,
-    h: usize,
-    x: usize,
-    y: usize,
-    side: usize,
-    coded: bool,
-    pred: &[u16],
-    coef: &[i16],
-    rec: &mut [u16],
-) -> u8
-    ensures { λ n. ⌜ Gives plane.outcome
-        (record { component = componentOf chroma; w = w; h = h; x = x; y = y; side = side; coded = coded; pred = now (pred .entry); coef = now (coef .entry); rec = now (rec .entry) })
-        (record { number = n; rec = now (rec .exit) }) ⌝ }
-{
-    def::answer_number(recon::recon_plane(
-        component(chroma),
-        w,
-        h,
-        Pel(x),
-        Pel(y),
-        side,
-        coded,
-        pred,
-        coef,
-        rec,
-    ))
 }

@@ -1,62 +1,270 @@
-//! Speed of both sides in one run, on the same blocks: the best of many rounds, in nanoseconds a call. Refusal scans are the product's own
-//! and are counted; the Rust has none.
-use crate::archive;
+//! Speed of both sides in one run, on the same inputs: the best of many rounds. The product's refusal scans are counted; the Rust has none.
+#[cfg(feature = "deblock")]
+use crate::cases::deblock::{picture, Picture};
+use crate::chart::{self, Series};
 use crate::rng::Rng;
-use oracle::{predict, residual};
+use lomsakeun::Component;
+use oracle::{chroma, gather, predict, residual};
+use std::fmt::Write as _;
 use std::hint::black_box;
-use std::time::Instant;
+use std::path::Path;
+use std::time::{Duration, Instant};
+use std::{fs, io};
 
-const ROUNDS: usize = 200;
-const CALLS: usize = 2000;
+/// Square pictures of these sides.
+const SIZES: [usize; 5] = [256, 512, 1024, 2048, 4096];
+/// A measurement goes on for at least so many rounds and so long.
+const ROUNDS: usize = 5;
+const LONG: Duration = Duration::from_millis(400);
 
-/// The best round of a call, in nanoseconds a call.
-fn best(mut call: impl FnMut()) -> f64 {
-    (0..ROUNDS)
-        .map(|_| {
-            let start = Instant::now();
-            (0..CALLS).for_each(|_| call());
-            start.elapsed().as_nanos() as f64 / CALLS as f64
-        })
-        .fold(f64::INFINITY, f64::min)
-}
-
-fn line(what: &str, side: usize, rust: f64, ours: f64) {
-    println!("{what:24} {side:4} {rust:10.1} {ours:10.1} {:6.2}", rust / ours);
-}
-
-fn modes(rng: &mut Rng, side: usize) {
-    let run: Vec<u16> = (0..4 * side + 1).map(|_| rng.below(1024) as u16).collect();
-    let mut block = vec![0u16; side * side];
-    for (mode, name) in ["DC", "horizontal", "vertical", "UL", "UR"].iter().enumerate() {
-        let rust = best(|| predict::bare(mode as u8, side, black_box(&run), black_box(&mut block)));
-        let ours = best(|| {
-            black_box(archive::ipred_b(mode as u8, side, black_box(&run), black_box(&mut block)));
-        });
-        line(&format!("mode {mode}, {name}"), side, rust, ours);
+/// The best round of a call, in nanoseconds; what comes before each call is not counted.
+fn best<T>(state: &mut T, mut before: impl FnMut(&mut T), mut call: impl FnMut(&mut T)) -> f64 {
+    let (begun, mut rounds, mut least) = (Instant::now(), 0, f64::INFINITY);
+    while rounds < ROUNDS || begun.elapsed() < LONG {
+        before(state);
+        let start = Instant::now();
+        call(state);
+        least = least.min(start.elapsed().as_nanos() as f64);
+        rounds += 1;
     }
+    least
 }
 
-fn residuals(rng: &mut Rng, side: usize) {
-    let n = side * side;
-    let pred: Vec<u16> = (0..n).map(|_| rng.below(1024) as u16).collect();
-    let coef: Vec<i16> = (0..n).map(|_| rng.below(65536) as u16 as i16).collect();
-    let mut rec = vec![0u16; n];
-    for coded in [false, true] {
-        let rust = best(|| residual::bare(coded, side, black_box(&pred), black_box(&coef), black_box(&mut rec)));
-        let ours = best(|| {
-            black_box(archive::recon(coded, side, black_box(&pred), black_box(&coef), black_box(&mut rec)));
-        });
-        line(if coded { "residual, coded" } else { "residual, not coded" }, side, rust, ours);
-    }
+fn samples(rng: &mut Rng, count: usize) -> Vec<u16> {
+    (0..count).map(|_| rng.below(1024) as u16).collect()
 }
 
-pub fn bench() -> bool {
-    println!("best of {ROUNDS} rounds of {CALLS} calls, ns a call");
-    println!("{:24} {:>4} {:>10} {:>10} {:>6}", "call", "side", "Rust", "ours", "times");
-    let mut rng = Rng::new(1);
-    for side in [4, 8, 16, 32, 64] {
-        modes(&mut rng, side);
-        residuals(&mut rng, side);
+/// The places of a picture's blocks of this side.
+fn blocks(size: usize, side: usize) -> impl Iterator<Item = (usize, usize)> {
+    let across = size / side;
+    (0..across * across).map(move |i| (i % across * side, i / across * side))
+}
+
+/// Gathering and prediction of every luma block of a picture, the five modes by turns.
+fn predicted(rng: &mut Rng, size: usize, side: usize) -> (f64, f64) {
+    let plane = samples(rng, size * size);
+    let words = vec![1u32 << 31 | 1 << 15; (size / 4) * (size / 4)];
+    let mode = |x: usize, y: usize| ((x + y) / side % 5) as u8;
+    let mut room = (vec![0u16; 4 * side + 1], vec![0u16; side * side]);
+    let rust = gather::Prepared::new((size, size), &plane, &words);
+    let theirs = best(
+        &mut room,
+        |_| {},
+        |(run, block)| {
+            for (x, y) in blocks(size, side) {
+                rust.gather(x, y, side, run);
+                predict::bare(mode(x, y), side, run, block);
+                black_box(&mut *block);
+            }
+        },
+    );
+    let ours = best(
+        &mut room,
+        |_| {},
+        |(run, block)| {
+            for (x, y) in blocks(size, side) {
+                let component = Component::Luma;
+                let gathered = lomsakeun::get_nbr(component, size, size, &plane, &words, x, y, side, false, run);
+                gathered.and_then(|_| lomsakeun::ipred_b(mode(x, y), side, run, block)).unwrap();
+                black_box(&mut *block);
+            }
+        },
+    );
+    let count = (size * size) as f64;
+    (theirs / count, ours / count)
+}
+
+/// The residual of every block of a picture, added into its three planes.
+fn added(rng: &mut Rng, size: usize, side: usize) -> (f64, f64) {
+    let count = side * side;
+    let pred = samples(rng, count);
+    let coef: Vec<i16> = (0..count).map(|_| rng.range(-300, 300) as i16).collect();
+    let mut rust = residual::Prepared::new((size, size), &pred, &coef);
+    let theirs = best(
+        &mut rust,
+        |_| {},
+        |rust| {
+            for (x, y) in blocks(size, side) {
+                rust.add(x, y, side);
+            }
+        },
+    );
+    let mut planes = [size * size, size * size / 4, size * size / 4].map(|n| vec![0u16; n]);
+    let ours = best(
+        &mut planes,
+        |_| {},
+        |planes| {
+            for (x, y) in blocks(size, side) {
+                for (i, plane) in planes.iter_mut().enumerate() {
+                    let (component, n) =
+                        if i == 0 { (Component::Luma, count) } else { (Component::Chroma, count / 4) };
+                    lomsakeun::recon_plane(component, size, size, x, y, side, true, &pred[..n], &coef[..n], plane)
+                        .unwrap();
+                }
+            }
+        },
+    );
+    let count = 1.5 * (size * size) as f64;
+    (theirs / count, ours / count)
+}
+
+/// A copy of the three planes: what any pass over them costs at least.
+fn copied(rng: &mut Rng, size: usize) -> f64 {
+    let from = samples(rng, size * size * 3 / 2);
+    let mut to = vec![0u16; from.len()];
+    best(&mut to, |_| {}, |to| to.copy_from_slice(black_box(&from))) / from.len() as f64
+}
+
+#[cfg(feature = "deblock")]
+fn deblocked(given: &Picture) -> (f64, f64) {
+    let size = (given.w, given.h);
+    let count = 1.5 * (given.w * given.h) as f64;
+    let tables = given.tables.to_vec();
+    let offsets = given.offsets.map(|offset| offset as i8);
+    let fresh = oracle::deblock::Picture::new(size, &given.words, &given.splits, &given.motion, &given.refs);
+    let mut rust = fresh;
+    let fill = |rust: &mut oracle::deblock::Picture| rust.fill(given.planes.each_ref().map(|plane| &plane[..]));
+    let theirs = best(&mut rust, fill, |rust| rust.run(&tables, offsets));
+    let mut ours = (given.planes.clone(), given.words.clone());
+    let refill = |(planes, words): &mut ([Vec<u16>; 3], Vec<u32>)| {
+        planes.iter_mut().zip(&given.planes).for_each(|(plane, from)| plane.copy_from_slice(from));
+        words.copy_from_slice(&given.words);
+    };
+    let ours = best(&mut ours, refill, |(planes, words)| {
+        let [y, u, v] = planes;
+        let maps = lomsakeun::Maps {
+            splits: &given.splits,
+            motion: &given.motion,
+            refs: &given.refs,
+            tables: given.tables.each_ref().map(|table| &table[..]),
+            strengths: &given.strengths,
+        };
+        let settings = lomsakeun::Settings { limit: 6, own: false, u_offset: offsets[0], v_offset: offsets[1] };
+        lomsakeun::deblock(lomsakeun::Picture { w: given.w, h: given.h, y, u, v, words }, maps, settings).unwrap();
+    });
+    (theirs / count, ours / count)
+}
+
+/// Deblocking of pictures of these leaves, all units intra or all inter.
+#[cfg(feature = "deblock")]
+fn deblocking(rng: &mut Rng) -> Vec<Series> {
+    use crate::cases::trees::{FINEST, SIXTEENS, UNCUT};
+    let mut all = Vec::new();
+    for (leaves, taste) in [("16 and 8", SIXTEENS), ("all 4", FINEST), ("all 64", UNCUT)] {
+        for intra in [true, false] {
+            let what = format!("deblocking, {}, leaves {leaves}", if intra { "intra" } else { "inter" });
+            all.push(series(&what, |size| {
+                let mut given = Picture { limit: 6, ..picture(rng, size, size, taste) };
+                let mark = |word: u32| word & !(1 << 15 | 1 << 24) | (intra as u32) << 15;
+                given.words.iter_mut().for_each(|word| *word = mark(*word) & !(127 << 16) | 37 << 16);
+                deblocked(&given)
+            }));
+        }
     }
-    true
+    all
+}
+
+#[cfg(not(feature = "deblock"))]
+fn deblocking(_: &mut Rng) -> Vec<Series> {
+    Vec::new()
+}
+
+fn series(what: &str, mut measure: impl FnMut(usize) -> (f64, f64)) -> Series {
+    eprintln!("{what}");
+    let points = SIZES.map(|size| {
+        let (rust, ours) = measure(size);
+        (size, rust, ours)
+    });
+    Series { what: what.into(), points: points.to_vec() }
+}
+
+/// Both sides' nanoseconds for one derivation of both chroma tables, of few points and of many.
+fn tables(points: usize) -> (f64, f64) {
+    let (a, b) = ([0i8; 58], [0i8; 58]);
+    let rust = chroma::Prepared::new(false, false, (points, &a, &b), (points, &a, &b));
+    const TIMES: usize = 1000;
+    let mut sum = 0;
+    let theirs = best(&mut sum, |_| {}, |sum| (0..TIMES).for_each(|_| *sum ^= black_box(&rust).derive()));
+    let given = lomsakeun::Points { count: points, a: &a, b: &b };
+    let mut room = ([0i8; 70], [0i8; 70]);
+    let ours = best(
+        &mut room,
+        |_| {},
+        |(t0, t1)| {
+            for _ in 0..TIMES {
+                lomsakeun::derived_chroma_qp_mapping_tables(false, false, black_box(given), given, t0, t1).unwrap();
+            }
+        },
+    );
+    (theirs / TIMES as f64, ours / TIMES as f64)
+}
+
+/// Measures everything, and writes OUTDIR/SPEED.md and OUTDIR/speed.svg.
+pub fn bench(dir: &Path) -> io::Result<bool> {
+    let rng = &mut Rng::new(1);
+    let mut all = deblocking(rng);
+    for side in [4, 16, 64] {
+        all.push(series(&format!("gathering and prediction, blocks of {side}"), |size| predicted(rng, size, side)));
+    }
+    for side in [4, 16, 64] {
+        all.push(series(&format!("residual addition, blocks of {side}"), |size| added(rng, size, side)));
+    }
+    let floor: Vec<f64> = SIZES.map(|size| copied(rng, size)).to_vec();
+    let derived = [1, 8, 58].map(|points| (points, tables(points)));
+    fs::write(dir.join("speed.svg"), chart::draw(&all, &SIZES, &floor))?;
+    fs::write(dir.join("SPEED.md"), page(&all, &floor, &derived))?;
+    Ok(true)
+}
+
+const TEXT: &str = "# Speed
+
+Written by `tools/compare/run FOLDER bench docs`, where FOLDER holds revc's `src/`: both sides in one run, on the same inputs, each built for release, the Rust without overflow checks. A number is the best of at least 5 rounds and 0.4 seconds. What the Rust needs to take its own shapes is made before and not counted. The product's tests for refusals are counted; the Rust has none.
+
+";
+
+const LARGE: &str = "Deblocking over 1024 by 1024 the Rust's 16-bit unit index wraps, so it does about as much work, but not on the right units; its numbers there only show the growth.
+
+";
+
+fn machine() -> String {
+    let info = fs::read_to_string("/proc/cpuinfo").unwrap_or_default();
+    let name = info
+        .lines()
+        .find_map(|line| line.strip_prefix("model name"))
+        .map_or("", |rest| rest.trim_start_matches([' ', '\t', ':']));
+    let output = |program: &str, args: &[&str]| {
+        let run = std::process::Command::new(program).args(args).output();
+        run.map_or(String::new(), |run| String::from_utf8_lossy(&run.stdout).trim().into())
+    };
+    let processors = info.matches("processor\t").count();
+    format!(
+        "Run on {} ({name}, {processors} processors, {}).\n\n",
+        output("date", &["-u", "+%F"]),
+        output("rustc", &["--version"])
+    )
+}
+
+fn page(all: &[Series], floor: &[f64], derived: &[(usize, (f64, f64))]) -> String {
+    let mut text = TEXT.to_string() + &machine() + "Nanoseconds a sample, square pictures of these sides: the Rust, the product, and how many times as fast the product is. Deblocking and residual addition count the samples of all three planes, gathering and prediction those of luma.\n\n";
+    if all.iter().any(|series| series.what.starts_with("deblocking")) {
+        text += LARGE;
+    }
+    text += "|";
+    SIZES.iter().for_each(|size| write!(text, " | {size}").unwrap());
+    text += " |\n|---|";
+    text += &"---|".repeat(SIZES.len());
+    for series in all {
+        write!(text, "\n| {}", series.what).unwrap();
+        for &(_, rust, ours) in &series.points {
+            write!(text, " | {rust:.2}, {ours:.2}: {:.1}", rust / ours).unwrap();
+        }
+        text += " |";
+    }
+    text += "\n| a copy of the three planes";
+    floor.iter().for_each(|ns| write!(text, " | {ns:.2}").unwrap());
+    text += " |\n\n![nanoseconds a sample over the sizes](speed.svg)\n\nBoth chroma QP tables, nanoseconds a derivation:\n\n| points | Rust | product | times |\n|---|---|---|---|\n";
+    for &(points, (rust, ours)) in derived {
+        writeln!(text, "| {points} | {rust:.0} | {ours:.0} | {:.1} |", rust / ours).unwrap();
+    }
+    text
 }

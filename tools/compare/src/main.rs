@@ -1,14 +1,27 @@
-//! The comparison tool's commands.
+//! The comparison tool's commands. Without the product's archive `record` alone is built.
+#![cfg_attr(not(feature = "archive"), allow(dead_code))]
 #[cfg(feature = "archive")]
-mod archive;
+mod all;
 #[cfg(feature = "archive")]
 mod bench;
+mod cases;
+#[cfg(feature = "archive")]
+mod chart;
+#[cfg(feature = "archive")]
+mod fuzz;
 mod model;
+#[cfg(feature = "archive")]
+mod product;
 mod record;
 mod rng;
+#[cfg(feature = "archive")]
+mod small;
 
 use std::path::Path;
 use std::process::exit;
+
+const USAGE: &str =
+    "usage: record NAME OUTDIR | record all CRATESDIR | all CALLS PICTURES SEED | fuzz CALLS SEED | bench OUTDIR";
 
 fn main() {
     // A panic of the Rust is an answer here, not a message: one of revc's files, or of the library below them.
@@ -23,11 +36,23 @@ fn main() {
     let good = match args[..] {
         ["record", name, dir] => record::record(name, Path::new(dir)).expect("writing the recording"),
         #[cfg(feature = "archive")]
-        ["bench"] => bench::bench(),
+        ["all", calls, pictures, seed] => all::all(number(calls), number(pictures), number(seed) as u64),
+        #[cfg(feature = "archive")]
+        ["fuzz", calls, seed] => fuzz::fuzz(number(calls), number(seed) as u64),
+        #[cfg(feature = "archive")]
+        ["bench", dir] => bench::bench(Path::new(dir)).expect("writing the table"),
         _ => {
-            eprintln!("usage: record NAME OUTDIR | record all CRATESDIR | bench");
+            eprintln!("{USAGE}");
             exit(2);
         }
     };
     exit(!good as i32);
+}
+
+#[cfg(feature = "archive")]
+fn number(text: &str) -> usize {
+    text.parse().unwrap_or_else(|_| {
+        eprintln!("{USAGE}");
+        exit(2);
+    })
 }

@@ -52,11 +52,7 @@ fn check(given: &Given, planes: [&[u16]; 3], words: &[u32]) -> Result<Vec<Leaf>,
     if ![5, 6].contains(&given.limit) || !offsets_ok {
         return Err(SETTING);
     }
-    let leaves = walk::leaves(given.w, given.h, |x, y, side| match split_byte(given, x, y, side) {
-        0 => Ok(false),
-        1 => Ok(true),
-        _ => Err(SPLIT),
-    })?;
+    let leaves = walk::leaves(given.w, given.h, walk::cut_by(given.splits, given.w))?;
     if !words.iter().all(|&word| qp_ok(given, word)) {
         return Err(QP);
     }
@@ -77,14 +73,6 @@ fn lengths_ok(given: &Given, planes: [&[u16]; 3], words: &[u32]) -> bool {
         && given.refs.len() == 2 * units
         && given.tables.iter().all(|table| table.len() == 70)
         && given.strengths.len() == 208
-}
-
-/// The byte of a block: 256*level + p, p the unit at its centre, 16*row + column in the root.
-fn split_byte(given: &Given, x: usize, y: usize, side: usize) -> u8 {
-    let root = (y / 64) * given.w.div_ceil(64) + x / 64;
-    let level = 6 - side.ilog2() as usize;
-    let (row, column) = ((y % 64 + side / 2) / 4, (x % 64 + side / 2) / 4);
-    given.splits[1024 * root + 256 * level + 16 * row + column]
 }
 
 fn qp_of(word: u32) -> i64 {
@@ -184,7 +172,7 @@ fn differences(given: &Given, q: usize, p: usize) -> Option<[i64; 4]> {
 /// the differences that it takes, up to the first of 4 or more at each visited edge, inside -32767..32767.
 pub fn fits(given: &Given, words: &[u32]) -> bool {
     let wide = given.w / 4;
-    let leaves = walk::leaves(given.w, given.h, |x, y, side| Ok(split_byte(given, x, y, side) == 1)).unwrap();
+    let leaves = walk::leaves(given.w, given.h, walk::cut_by(given.splits, given.w)).unwrap();
     let vertical = walk::vertical(given.w, given.h, &leaves, given.limit);
     let horizontal = walk::horizontal(&leaves, given.limit);
     let unit = |(x, y): (usize, usize)| (y / 4) * wide + x / 4;

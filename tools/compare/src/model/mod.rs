@@ -9,6 +9,7 @@ pub mod predict;
 pub mod ranks;
 pub mod residual;
 pub mod sheet;
+pub mod tree;
 pub mod walk;
 
 pub const DONE: u32 = 0;

@@ -1,5 +1,5 @@
 //! The split walk, and the edges that each pass visits.
-use super::PAST;
+use super::{PAST, SPLIT};
 
 /// A leaf, or a half of one: its first luma sample, its width and its height.
 #[derive(Clone, Copy)]
@@ -24,6 +24,32 @@ pub fn leaves(
         }
     }
     Ok(met)
+}
+
+/// The leaves of the root at (x, y) alone.
+pub fn root(
+    w: usize,
+    h: usize,
+    (x, y): (usize, usize),
+    mut cut: impl FnMut(usize, usize, usize) -> Result<bool, u32>,
+) -> Result<Vec<Leaf>, u32> {
+    let mut met = Vec::new();
+    block((w, h), (x, y, 64), &mut cut, &mut met)?;
+    Ok(met)
+}
+
+/// Whether a block is cut, by its byte: that at 256*level + p of its root, p the unit at its centre, 16*row + column in the root.
+pub fn cut_by(splits: &[u8], w: usize) -> impl Fn(usize, usize, usize) -> Result<bool, u32> + '_ {
+    move |x, y, side| {
+        let root = (y / 64) * w.div_ceil(64) + x / 64;
+        let level = 6 - side.ilog2() as usize;
+        let (row, column) = ((y % 64 + side / 2) / 4, (x % 64 + side / 2) / 4);
+        match splits[1024 * root + 256 * level + 16 * row + column] {
+            0 => Ok(false),
+            1 => Ok(true),
+            _ => Err(SPLIT),
+        }
+    }
 }
 
 fn block(

@@ -42,3 +42,28 @@ pub fn plane(
     planes::read(&frame.planes[component], w >> shift, plane);
     Some(())
 }
+
+/// Three planes, a prediction and a residual in the Rust's own shapes, so that calls can be measured without the conversion.
+pub struct Prepared {
+    frame: Frame<pel>,
+    pred: Vec<pel>,
+    coef: Vec<i16>,
+}
+
+impl Prepared {
+    pub fn new((w, h): (usize, usize), pred: &[u16], coef: &[i16]) -> Prepared {
+        let whole = MAX_CU_DIM + (MAX_CU_DIM >> 1);
+        let cycled = |i: usize| i % pred.len();
+        Prepared {
+            frame: Frame::<pel>::new(w, h, ChromaSampling::Cs420),
+            pred: (0..whole).map(|i| pred[cycled(i)]).collect(),
+            coef: (0..whole).map(|i| coef[cycled(i)]).collect(),
+        }
+    }
+
+    /// The residual of all three components of one block, each coded.
+    pub fn add(&mut self, x: usize, y: usize, side: usize) {
+        let planes = &mut self.frame.planes;
+        recon::evc_recon_yuv(&mut None, x, y, side, side, &self.coef, &self.pred, &[true; N_C], planes);
+    }
+}

@@ -1,0 +1,113 @@
+//! A block's samples: gathering, the five modes and residual addition.
+use crate::refusal::{answer, Refusal};
+use crate::sys;
+
+/// A component of a 4:2:0 picture. The two chroma planes have one form.
+#[derive(Clone, Copy, Debug, PartialEq, Eq)]
+pub enum Component {
+    /// Y.
+    Luma,
+    /// U or V.
+    Chroma,
+}
+
+/// Gathers the neighbour samples of the luma block of `side` at (x, y), in the component: left downwards, the corner, up rightwards. `run` has
+/// four times the side in the component, and one. Refusals: [`Size`](Refusal::Size), [`Length`](Refusal::Length), [`Block`](Refusal::Block),
+/// [`Sample`](Refusal::Sample).
+#[allow(clippy::too_many_arguments)]
+pub fn get_nbr(
+    component: Component,
+    w: usize,
+    h: usize,
+    plane: &[u16],
+    map_scu: &[u32],
+    x: usize,
+    y: usize,
+    side: usize,
+    constrained: bool,
+    run: &mut [u16],
+) -> Result<(), Refusal> {
+    // Each pointer comes from a slice that lives through the call, with its own length.
+    let number = unsafe {
+        sys::lomsakeun_get_nbr(
+            component == Component::Chroma,
+            w,
+            h,
+            plane.as_ptr(),
+            plane.len(),
+            map_scu.as_ptr(),
+            map_scu.len(),
+            x,
+            y,
+            side,
+            constrained,
+            run.as_mut_ptr(),
+            run.len(),
+        )
+    };
+    answer(number, ())
+}
+
+/// Predicts a block of `side` from its run: mode 0 DC, 1 horizontal, 2 vertical, 3 UL, 4 UR. Refusals: [`Block`](Refusal::Block),
+/// [`Length`](Refusal::Length), [`Mode`](Refusal::Mode), [`Sample`](Refusal::Sample).
+pub fn ipred_b(mode: u8, side: usize, run: &[u16], block: &mut [u16]) -> Result<(), Refusal> {
+    // As above.
+    let number =
+        unsafe { sys::lomsakeun_ipred_b(mode, side, run.as_ptr(), run.len(), block.as_mut_ptr(), block.len()) };
+    answer(number, ())
+}
+
+/// Writes a block: the prediction, or, where `coded`, prediction and residual clipped to 0..=1023. Refusals: [`Block`](Refusal::Block),
+/// [`Length`](Refusal::Length), [`Sample`](Refusal::Sample).
+pub fn recon(coded: bool, side: usize, pred: &[u16], coef: &[i16], rec: &mut [u16]) -> Result<(), Refusal> {
+    // As above.
+    let number = unsafe {
+        sys::lomsakeun_recon(
+            coded,
+            side,
+            pred.as_ptr(),
+            pred.len(),
+            coef.as_ptr(),
+            coef.len(),
+            rec.as_mut_ptr(),
+            rec.len(),
+        )
+    };
+    answer(number, ())
+}
+
+/// The same into the plane of a component, at the luma block of `side` at (x, y). Refusals: [`Size`](Refusal::Size),
+/// [`Length`](Refusal::Length), [`Block`](Refusal::Block), [`Sample`](Refusal::Sample).
+#[allow(clippy::too_many_arguments)]
+pub fn recon_plane(
+    component: Component,
+    w: usize,
+    h: usize,
+    x: usize,
+    y: usize,
+    side: usize,
+    coded: bool,
+    pred: &[u16],
+    coef: &[i16],
+    rec: &mut [u16],
+) -> Result<(), Refusal> {
+    // As above.
+    let number = unsafe {
+        sys::lomsakeun_recon_plane(
+            component == Component::Chroma,
+            w,
+            h,
+            x,
+            y,
+            side,
+            coded,
+            pred.as_ptr(),
+            pred.len(),
+            coef.as_ptr(),
+            coef.len(),
+            rec.as_mut_ptr(),
+            rec.len(),
+        )
+    };
+    answer(number, ())
+}

@@ -1,0 +1,123 @@
+//! Deblocking. Behind the feature `deblock`, until the archive exports it.
+use crate::refusal::{answer, Refusal};
+
+extern "C" {
+    /// The archive's own call.
+    pub fn lomsakeun_deblock(
+        w: usize,
+        h: usize,
+        y: *mut u16,
+        y_len: usize,
+        u: *mut u16,
+        u_len: usize,
+        v: *mut u16,
+        v_len: usize,
+        words: *mut u32,
+        words_len: usize,
+        splits: *const u8,
+        splits_len: usize,
+        motion: *const i16,
+        motion_len: usize,
+        refs: *const i8,
+        refs_len: usize,
+        table0: *const i8,
+        table0_len: usize,
+        table1: *const i8,
+        table1_len: usize,
+        strengths: *const u8,
+        strengths_len: usize,
+        limit: u8,
+        own: bool,
+        u_offset: i8,
+        v_offset: i8,
+        vertical_count: *mut usize,
+        horizontal_count: *mut usize,
+    ) -> u8;
+}
+
+/// A picture to be deblocked: its sides, its planes and its unit words, of which done is set in every unit.
+#[derive(Debug)]
+pub struct Picture<'a> {
+    /// The luma plane's width.
+    pub w: usize,
+    /// The luma plane's height.
+    pub h: usize,
+    /// Y, w*h samples.
+    pub y: &'a mut [u16],
+    /// U, (w/2)*(h/2) samples.
+    pub u: &'a mut [u16],
+    /// V, (w/2)*(h/2) samples.
+    pub v: &'a mut [u16],
+    /// A word a unit.
+    pub words: &'a mut [u32],
+}
+
+/// What deblocking reads of each unit and root.
+#[derive(Clone, Copy, Debug)]
+pub struct Maps<'a> {
+    /// 1,024 bytes a root.
+    pub splits: &'a [u8],
+    /// Four numbers a unit: list 0 x, y, list 1 x, y.
+    pub motion: &'a [i16],
+    /// Two a unit.
+    pub refs: &'a [i8],
+    /// The chroma QP tables, 70 entries each.
+    pub tables: [&'a [i8]; 2],
+    /// The strengths: four rows of 52.
+    pub strengths: &'a [u8],
+}
+
+/// The settings of deblocking.
+#[derive(Clone, Copy, Debug)]
+pub struct Settings {
+    /// The transform limit, 5 or 6.
+    pub limit: u8,
+    /// Whether V's vertical edges read V's own table.
+    pub own: bool,
+    /// U's offset, -12 to 12.
+    pub u_offset: i8,
+    /// V's offset, -12 to 12.
+    pub v_offset: i8,
+}
+
+/// Deblocks a picture, and answers how many edges each pass visited. Refusals: [`Size`](Refusal::Size), [`Length`](Refusal::Length),
+/// [`Setting`](Refusal::Setting), [`Split`](Refusal::Split), [`Leaf`](Refusal::Leaf), [`Qp`](Refusal::Qp), [`Sample`](Refusal::Sample).
+pub fn deblock(picture: Picture, maps: Maps, settings: Settings) -> Result<(usize, usize), Refusal> {
+    let Picture { w, h, y, u, v, words } = picture;
+    let Maps { splits, motion, refs, tables: [table0, table1], strengths } = maps;
+    let (mut vertical, mut horizontal) = (0, 0);
+    // Each pointer comes from a slice that lives through the call, with its own length, or from a local.
+    let number = unsafe {
+        lomsakeun_deblock(
+            w,
+            h,
+            y.as_mut_ptr(),
+            y.len(),
+            u.as_mut_ptr(),
+            u.len(),
+            v.as_mut_ptr(),
+            v.len(),
+            words.as_mut_ptr(),
+            words.len(),
+            splits.as_ptr(),
+            splits.len(),
+            motion.as_ptr(),
+            motion.len(),
+            refs.as_ptr(),
+            refs.len(),
+            table0.as_ptr(),
+            table0.len(),
+            table1.as_ptr(),
+            table1.len(),
+            strengths.as_ptr(),
+            strengths.len(),
+            settings.limit,
+            settings.own,
+            settings.u_offset,
+            settings.v_offset,
+            &mut vertical,
+            &mut horizontal,
+        )
+    };
+    answer(number, (vertical, horizontal))
+}

@@ -1,0 +1,55 @@
+//! Safe calls of the Lomsakeun decoder, whose proved archive this crate links: chroma QP tables, neighbour availability, mode ranks,
+//! gathering, intra prediction, residual addition, and the split tree with the edges that deblocking visits.
+//!
+//! Every call accepts every input. A bad one answers a [`Refusal`] and leaves every lent slice as it was; nothing is trusted, and each
+//! slice's length goes with it. Places and sizes are in luma samples unless a call says units (4x4 luma samples); planes and maps are flat,
+//! row by row.
+//!
+//! ```
+//! use lomsakeun::{ipred_b, list_edges, recon, Refusal};
+//!
+//! // A block of 4x4: predicted from its neighbours (left downwards, the corner, up rightwards), then its residual added.
+//! let mut run = [100u16; 17];
+//! run[9..].fill(101);
+//! let mut block = [0u16; 16];
+//! ipred_b(0, 4, &run, &mut block)?;
+//! assert_eq!(block, [101; 16]);
+//! let mut rec = [0u16; 16];
+//! recon(true, 4, &block, &[-1; 16], &mut rec)?;
+//! assert_eq!(rec, [100; 16]);
+//!
+//! // A sample over 1023 is refused, and nothing is written.
+//! run[0] = 1024;
+//! assert_eq!(ipred_b(0, 4, &run, &mut block), Err(Refusal::Sample));
+//! assert_eq!(block, [101; 16]);
+//!
+//! // The edges of a picture of 16 by 8: its 64 block, the two 32 and 16 blocks in it and the left 8 block are cut.
+//! let mut splits = [0u8; 1024];
+//! splits[136] = 1;
+//! splits[256 + 68] = 1;
+//! splits[512 + 34] = 1;
+//! splits[768 + 17] = 1;
+//! let (mut vertical, mut horizontal) = ([0u16; 16], [0u16; 16]);
+//! assert_eq!(list_edges(16, 8, &splits, 6, &mut vertical, &mut horizontal), Ok((4, 2)));
+//! assert_eq!(vertical[..8], [4, 0, 4, 4, 8, 0, 8, 4]);
+//! assert_eq!(horizontal[..4], [0, 4, 4, 4]);
+//! # Ok::<(), Refusal>(())
+//! ```
+#![deny(missing_docs)]
+
+mod blocks;
+mod chroma;
+#[cfg(feature = "deblock")]
+mod deblock;
+mod neighbours;
+mod refusal;
+pub mod sys;
+mod tree;
+
+pub use blocks::{get_nbr, ipred_b, recon, recon_plane, Component};
+pub use chroma::{derived_chroma_qp_mapping_tables, Points};
+#[cfg(feature = "deblock")]
+pub use deblock::{deblock, lomsakeun_deblock, Maps, Picture, Settings};
+pub use neighbours::{get_avail_inter, get_avail_intra, get_mpm, Neighbours};
+pub use refusal::Refusal;
+pub use tree::{check, leaves, list_edges, listing, visiting_rank, LEAVES_LENGTH, LISTING_LENGTH};

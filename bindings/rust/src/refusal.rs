@@ -1,0 +1,97 @@
+//! Why a call was refused.
+use std::fmt;
+
+/// Why a call was refused: the numbers that the archive answers. A refused call wrote nothing.
+#[derive(Clone, Copy, Debug, PartialEq, Eq, Hash, PartialOrd, Ord)]
+#[repr(u8)]
+pub enum Refusal {
+    /// A side of the picture is not a multiple of 4 from 4 to 4096.
+    Size = 1,
+    /// A lent slice has the wrong length.
+    Length = 2,
+    /// The transform limit is not 5 or 6, or an offset lies outside -12..=12.
+    Setting = 3,
+    /// A split byte reached by the walk is not 0 or 1.
+    Split = 4,
+    /// A leaf reaches past the picture.
+    Leaf = 5,
+    /// A QP, or a mapped chroma QP, outside 0..=51.
+    Qp = 6,
+    /// A sample over 1023.
+    Sample = 7,
+    /// A block's or a unit's place, or a side.
+    Block = 8,
+    /// A mode, or a consulted mode byte.
+    Mode = 9,
+    /// The count of chroma points outside 1..=58, or an a below 0 among them.
+    Points = 10,
+    /// A pivot outside -12..=57.
+    Pivot = 11,
+    /// A malformed sheet.
+    Sheet = 12,
+    /// The leaf or residual list's length, a mask or a spare byte.
+    Record = 13,
+}
+
+impl Refusal {
+    /// Every refusal, that of number n at n - 1.
+    pub const ALL: [Refusal; 13] = [
+        Refusal::Size,
+        Refusal::Length,
+        Refusal::Setting,
+        Refusal::Split,
+        Refusal::Leaf,
+        Refusal::Qp,
+        Refusal::Sample,
+        Refusal::Block,
+        Refusal::Mode,
+        Refusal::Points,
+        Refusal::Pivot,
+        Refusal::Sheet,
+        Refusal::Record,
+    ];
+
+    /// The refusal's number, 1 to 13.
+    pub fn number(self) -> u8 {
+        self as u8
+    }
+
+    /// The refusal of a number, and none of 0 or of a number past 13.
+    pub fn from_number(number: u8) -> Option<Refusal> {
+        Refusal::ALL.into_iter().find(|refusal| refusal.number() == number)
+    }
+}
+
+impl fmt::Display for Refusal {
+    fn fmt(&self, f: &mut fmt::Formatter<'_>) -> fmt::Result {
+        let what = match self {
+            Refusal::Size => "a side of the picture",
+            Refusal::Length => "a lent slice's length",
+            Refusal::Setting => "the transform limit, or an offset",
+            Refusal::Split => "a split byte",
+            Refusal::Leaf => "a leaf that reaches past the picture",
+            Refusal::Qp => "a QP",
+            Refusal::Sample => "a sample over 1023",
+            Refusal::Block => "a block's or a unit's place, or a side",
+            Refusal::Mode => "a mode",
+            Refusal::Points => "the chroma points",
+            Refusal::Pivot => "a pivot outside -12..57",
+            Refusal::Sheet => "a malformed sheet",
+            Refusal::Record => "the leaf or residual list",
+        };
+        write!(f, "refused={}: {what}", self.number())
+    }
+}
+
+impl std::error::Error for Refusal {}
+
+/// What a call that answers `number` gives: `values` where it is done.
+///
+/// # Panics
+/// On a number past 13, which no call answers: the archive is then another one than this crate was written for.
+pub(crate) fn answer<T>(number: u8, values: T) -> Result<T, Refusal> {
+    match number {
+        0 => Ok(values),
+        _ => Err(Refusal::from_number(number).expect("a number that the archive answers")),
+    }
+}

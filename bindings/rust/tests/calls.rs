@@ -1,0 +1,205 @@
+//! Each call on inputs that it accepts, with what it must answer.
+use lomsakeun::*;
+
+const DONE: u32 = 1 << 31;
+const INTRA: u32 = 1 << 15;
+
+/// 58 numbers that start with these.
+fn points(first: &[i8]) -> [i8; 58] {
+    let mut all = [0; 58];
+    all[..first.len()].copy_from_slice(first);
+    all
+}
+
+#[test]
+fn chroma_tables() {
+    let none = points(&[]);
+    let (a, b) = (points(&[0, 5]), points(&[0, -2]));
+    let (mut t0, mut t1) = ([0; 70], [0; 70]);
+    let first = Points { count: 2, a: &a, b: &b };
+    let second = Points { count: 1, a: &none, b: &none };
+    derived_chroma_qp_mapping_tables(true, false, first, second, &mut t0, &mut t1).unwrap();
+    assert_eq!(t0[29..35], [17, 17, 18, 19, 19, 20]);
+    assert!((0..70).all(|i| t1[i] == i as i8 - 12));
+    // the second points are not read under the flag, and count for nothing
+    let second = Points { count: 99, a: &none, b: &none };
+    derived_chroma_qp_mapping_tables(true, true, first, second, &mut t0, &mut t1).unwrap();
+    assert_eq!(t0, t1);
+}
+
+#[test]
+fn chroma_tables_fall() {
+    let none = points(&[]);
+    let (a, b) = (points(&[0, 3]), points(&[0, -6]));
+    let (mut t0, mut t1) = ([0; 70], [0; 70]);
+    let second = Points { count: 1, a: &none, b: &none };
+    let first = Points { count: 2, a: &a, b: &b };
+    derived_chroma_qp_mapping_tables(true, false, first, second, &mut t0, &mut t1).unwrap();
+    assert_eq!(t0[29..33], [16, 16, 15, 15]);
+}
+
+/// A picture of 12 by 12, the middle block of 4: each neighbour in turn is done alone.
+#[test]
+fn availability_intra() {
+    let only = |at: usize| {
+        let mut words = [0; 9];
+        words[at] = DONE;
+        get_avail_intra(12, 12, &words, 4, 4, 4).unwrap()
+    };
+    let above = Neighbours { up: true, right_up: true, ..Neighbours::default() };
+    assert_eq!(only(4), above);
+    assert_eq!(only(0), Neighbours { up_left: true, ..above });
+    assert_eq!(only(2), Neighbours { up_right: true, ..above });
+    assert_eq!(only(3), Neighbours { left: true, ..above });
+    assert_eq!(only(5), Neighbours { right: true, ..above });
+    // the low ones are asked only where that side is there
+    assert_eq!(only(6), above);
+    let words = [0, 0, 0, DONE, 0, DONE, DONE, 0, DONE];
+    let low = Neighbours { left: true, right: true, low_left: true, low_right: true, ..above };
+    assert_eq!(get_avail_intra(12, 12, &words, 4, 4, 4), Ok(low));
+    assert_eq!(get_avail_intra(12, 12, &[DONE; 9], 0, 0, 4).map(|n| (n.up, n.left, n.right)), Ok((false, false, true)));
+}
+
+#[test]
+fn availability_inter() {
+    let words = [DONE; 9];
+    let all = get_avail_inter(12, 12, &words, 4, 4, 4).unwrap();
+    let every = [all.up, all.left, all.right, all.up_left, all.up_right, all.low_left, all.low_right, all.right_up];
+    assert_eq!(every, [true; 8]);
+    assert_eq!(get_avail_inter(12, 12, &[DONE | INTRA; 9], 4, 4, 4), Ok(Neighbours::default()));
+    // above need not be done
+    let above = get_avail_inter(12, 12, &[0; 9], 4, 4, 4).unwrap();
+    assert_eq!(above, Neighbours { up: true, right_up: true, ..Neighbours::default() });
+}
+
+#[test]
+fn ranks() {
+    let table: Vec<u8> = (0..180).collect();
+    // left is mode 2, above none: l = 3, u = 0
+    let (words, modes) = ([DONE | INTRA; 4], [9, 255, 2, 9]);
+    assert_eq!(get_mpm(8, 8, &words, &modes, &table, 1, 1), Ok([90, 91, 92, 93, 94]));
+    // a unit that is not intra and done has none
+    assert_eq!(get_mpm(8, 8, &[INTRA; 4], &modes, &table, 1, 1), Ok([0, 1, 2, 3, 4]));
+    assert_eq!(get_mpm(8, 8, &words, &modes, &table, 0, 0), Ok([0, 1, 2, 3, 4]));
+}
+
+#[test]
+fn gathering() {
+    let plane: Vec<u16> = (0..64).collect();
+    let mut run = [0; 17];
+    get_nbr(Component::Luma, 8, 8, &plane, &[DONE, 0, DONE, 0], 4, 4, 4, false, &mut run).unwrap();
+    let (here, none) = ([35, 43, 51, 59], [512; 4]);
+    assert_eq!(run[..4], here);
+    assert_eq!(run[4..8], none);
+    assert_eq!(run[8], 27);
+    assert_eq!(run[9..], [512; 8]);
+    // constrained: a unit that is not intra is not there
+    get_nbr(Component::Luma, 8, 8, &plane, &[DONE, DONE | INTRA, DONE, 0], 4, 4, 4, true, &mut run).unwrap();
+    assert_eq!((run[0], run[8], run[9]), (512, 512, 28));
+    let mut run = [0; 9];
+    get_nbr(Component::Chroma, 8, 8, &plane[..16], &[DONE; 4], 4, 4, 4, false, &mut run).unwrap();
+    assert_eq!(run, [9, 13, 512, 512, 5, 6, 7, 512, 512]);
+}
+
+#[test]
+fn modes() {
+    let run: Vec<u16> = (1..=9).collect();
+    let predicted = |mode| {
+        let mut block = [0; 4];
+        ipred_b(mode, 2, &run, &mut block).unwrap();
+        block
+    };
+    // left 1 2 3 4, the corner 5, up 6 7 8 9
+    assert_eq!(predicted(0), [4; 4]);
+    assert_eq!(predicted(1), [1, 1, 2, 2]);
+    assert_eq!(predicted(2), [6, 7, 6, 7]);
+    assert_eq!(predicted(3), [5, 6, 1, 5]);
+    assert_eq!(predicted(4), [4, 5, 5, 6]);
+}
+
+#[test]
+fn dc_rounds() {
+    let mut block = [0; 4];
+    ipred_b(0, 2, &[10, 11, 0, 0, 0, 12, 12, 0, 0], &mut block).unwrap();
+    assert_eq!(block, [11; 4]);
+}
+
+#[test]
+fn residuals() {
+    let mut rec = [9; 4];
+    recon(true, 2, &[0, 1023, 500, 7], &[-1, 1, 32767, -7], &mut rec).unwrap();
+    assert_eq!(rec, [0, 1023, 1023, 0]);
+    recon(false, 2, &[0, 1023, 500, 7], &[-1, 1, 32767, -7], &mut rec).unwrap();
+    assert_eq!(rec, [0, 1023, 500, 7]);
+}
+
+#[test]
+fn residuals_into_a_plane() {
+    let mut plane = [1000; 16];
+    recon_plane(Component::Chroma, 8, 8, 4, 4, 4, true, &[1, 2, 3, 4], &[1, 0, 0, -4], &mut plane).unwrap();
+    let mut expected = [1000; 16];
+    (expected[10], expected[11], expected[14], expected[15]) = (2, 2, 3, 0);
+    assert_eq!(plane, expected);
+    let mut plane = [0; 32];
+    recon_plane(Component::Luma, 8, 4, 4, 0, 4, false, &[5; 16], &[1; 16], &mut plane).unwrap();
+    assert!((0..32).all(|i| plane[i] == if i % 8 < 4 { 0 } else { 5 }));
+}
+
+/// The split bytes of 16 by 8 with a left block of 8 cut and a right one whole.
+fn splits() -> Vec<u8> {
+    // what the walk does not reach is never read
+    let mut splits = vec![9; 1024];
+    for (at, cut) in [(136, 1), (256 + 68, 1), (512 + 34, 1), (768 + 17, 1), (768 + 19, 0)] {
+        splits[at] = cut;
+    }
+    splits
+}
+
+#[test]
+fn split_trees() {
+    assert_eq!(check(16, 8, &splits()), Ok(()));
+    let mut out = [7; LEAVES_LENGTH];
+    assert_eq!(leaves(16, 8, &splits(), 0, 0, &mut out), Ok(5));
+    assert_eq!(out[..15], [0, 0, 4, 4, 0, 4, 0, 4, 4, 4, 4, 4, 8, 0, 8]);
+    assert!(out[15..].iter().all(|&n| n == 7));
+}
+
+#[test]
+fn visiting_ranks() {
+    assert_eq!(visiting_rank(0, 0), Ok(0));
+    assert_eq!(visiting_rank(1, 0), Ok(1));
+    assert_eq!(visiting_rank(0, 1), Ok(2));
+    assert_eq!(visiting_rank(15, 15), Ok(255));
+    let mut all: Vec<u8> = (0..256).map(|i| visiting_rank(i % 16, i / 16).unwrap()).collect();
+    all.sort();
+    assert!(all.iter().enumerate().all(|(i, &rank)| i == rank as usize));
+}
+
+#[test]
+fn edges() {
+    let (mut vertical, mut horizontal) = ([7; 16], [7; 16]);
+    assert_eq!(list_edges(16, 8, &splits(), 6, &mut vertical, &mut horizontal), Ok((4, 2)));
+    assert_eq!(vertical, [4, 0, 4, 4, 8, 0, 8, 4, 7, 7, 7, 7, 7, 7, 7, 7]);
+    assert_eq!(horizontal, [0, 4, 4, 4, 7, 7, 7, 7, 7, 7, 7, 7, 7, 7, 7, 7]);
+    // limit 5 cuts a leaf of 64 in two
+    let (mut vertical, mut horizontal) = ([0; 512], [0; 512]);
+    assert_eq!(list_edges(64, 64, &[0; 1024], 6, &mut vertical, &mut horizontal), Ok((0, 0)));
+    assert_eq!(list_edges(64, 64, &[0; 1024], 5, &mut vertical, &mut horizontal), Ok((16, 16)));
+    assert_eq!((vertical[..4].to_vec(), horizontal[..4].to_vec()), (vec![32, 0, 32, 4], vec![0, 32, 4, 32]));
+}
+
+#[test]
+fn sheets() {
+    let mut out = [7; LISTING_LENGTH];
+    let mut text = |sheet: &[u8]| {
+        out.fill(7);
+        let length = listing(sheet, &mut out).unwrap();
+        assert!(out[length..].iter().all(|&byte| byte == 7));
+        String::from_utf8(out[..length].to_vec()).unwrap()
+    };
+    let good = b"width=16\nheight=8\ntr_log2=6\nv_edge=own\nsplits=11110\n";
+    assert_eq!(text(good), "v 4 0\nv 4 4\nv 8 0\nv 8 4\nh 0 4\nh 4 4\nv_count=4\nh_count=2\n");
+    assert_eq!(text(b"width=16\nheight=08\n"), "refused=12 line=2\n");
+    assert_eq!(text(b""), "refused=12 line=1\n");
+    assert_eq!(text(b"width=260\nheight=8\ntr_log2=6\nv_edge=own\nsplits=\n"), "refused=1\n");
+}

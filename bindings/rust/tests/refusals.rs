@@ -1,0 +1,284 @@
+//! Each refusal of each call: its number, and that nothing was written, in the lent slices or beside them.
+use lomsakeun::Points as Given;
+use lomsakeun::Refusal::{self, *};
+use lomsakeun::{
+    check, derived_chroma_qp_mapping_tables, get_avail_inter, get_avail_intra, get_mpm, get_nbr, ipred_b, leaves,
+    list_edges, listing, recon, recon_plane, visiting_rank, Component, LISTING_LENGTH,
+};
+use std::fmt::Debug;
+
+const DONE: u32 = 1 << 31;
+const INTRA: u32 = 1 << 15;
+/// How many elements stand on each side of a slice that must not be written.
+const PAD: usize = 64;
+
+/// Lends a slice of n elements out of a longer buffer, and requires that the call is refused so and that the buffer is as it was.
+fn refused<T, V>(refusal: Refusal, n: usize, call: impl FnOnce(&mut [T]) -> Result<V, Refusal>)
+where
+    T: Copy + PartialEq + Debug + From<u8>,
+    V: PartialEq + Debug,
+{
+    let before: Vec<T> = (0..n + 2 * PAD).map(|i| T::from((i % 101) as u8)).collect();
+    let mut buffer = before.clone();
+    assert_eq!(call(&mut buffer[PAD..PAD + n]), Err(refusal));
+    assert_eq!(buffer, before);
+}
+
+/// The same with two slices.
+fn both_refused<V>(
+    refusal: Refusal,
+    (m, n): (usize, usize),
+    call: impl FnOnce(&mut [u16], &mut [u16]) -> Result<V, Refusal>,
+) where
+    V: PartialEq + Debug,
+{
+    let before: Vec<u16> = (0..m.max(n) + 2 * PAD).map(|i| i as u16).collect();
+    let (mut first, mut second) = (before.clone(), before.clone());
+    assert_eq!(call(&mut first[PAD..PAD + m], &mut second[PAD..PAD + n]), Err(refusal));
+    assert_eq!(first, before);
+    assert_eq!(second, before);
+}
+
+const BAD_SIZES: [(usize, usize); 8] =
+    [(0, 8), (8, 0), (6, 8), (8, 6), (4100, 8), (8, 4100), (1 << 32, 8), (8, usize::MAX)];
+
+#[test]
+fn numbers() {
+    for (i, refusal) in Refusal::ALL.into_iter().enumerate() {
+        assert_eq!(refusal.number() as usize, i + 1);
+        assert_eq!(Refusal::from_number(refusal.number()), Some(refusal));
+        assert!(refusal.to_string().starts_with(&format!("refused={}: ", i + 1)));
+    }
+    assert_eq!([0, 14, 255].map(Refusal::from_number), [None; 3]);
+}
+
+/// Derives tables of these lengths from these points.
+fn derive(
+    refusal: Refusal,
+    same: bool,
+    first: (usize, &[i8], &[i8]),
+    second: (usize, &[i8], &[i8]),
+    n: (usize, usize),
+) {
+    let of = |(count, a, b)| Given { count, a, b };
+    let before: Vec<i8> = (0..n.0.max(n.1) + 2 * PAD).map(|i| (i % 101) as i8).collect();
+    let (mut t0, mut t1) = (before.clone(), before.clone());
+    let (lent0, lent1) = (&mut t0[PAD..PAD + n.0], &mut t1[PAD..PAD + n.1]);
+    let answer = derived_chroma_qp_mapping_tables(false, same, of(first), of(second), lent0, lent1);
+    assert_eq!(answer, Err(refusal));
+    assert_eq!(t0, before);
+    assert_eq!(t1, before);
+}
+
+#[test]
+fn chroma_tables() {
+    let zeros = [0i8; 59];
+    let good: (usize, &[i8], &[i8]) = (2, &zeros[..58], &zeros[..58]);
+    for wrong in [&zeros[..0], &zeros[..57], &zeros[..59]] {
+        derive(Length, false, (2, wrong, good.2), good, (70, 70));
+        derive(Length, false, (2, good.1, wrong), good, (70, 70));
+        derive(Length, true, good, (2, wrong, good.2), (70, 70));
+        derive(Length, true, good, (2, good.1, wrong), (70, 70));
+    }
+    for wrong in [0, 69, 71] {
+        derive(Length, false, good, good, (wrong, 70));
+        derive(Length, false, good, good, (70, wrong));
+    }
+    for count in [0, 59, usize::MAX] {
+        derive(Points, false, (count, good.1, good.2), good, (70, 70));
+        derive(Points, false, good, (count, good.1, good.2), (70, 70));
+    }
+    let mut below = [0i8; 58];
+    below[1] = -1;
+    derive(Points, false, (2, &below, good.2), good, (70, 70));
+    derive(Points, false, good, (2, &below, good.2), (70, 70));
+    let mut far = [0i8; 58];
+    far[0] = 70;
+    derive(Pivot, false, (1, &far, good.2), good, (70, 70));
+    derive(Pivot, false, good, (1, good.1, &far), (70, 70));
+    far[0] = -1;
+    derive(Pivot, true, (1, good.1, &far), good, (70, 70));
+}
+
+#[test]
+fn availability() {
+    let words = [DONE; 6];
+    for call in [get_avail_intra, get_avail_inter] {
+        for (w, h) in BAD_SIZES {
+            assert_eq!(call(w, h, &words, 0, 0, 4), Err(Size));
+        }
+        for wrong in [0, 5] {
+            assert_eq!(call(12, 8, &words[..wrong], 0, 0, 3), Err(Length));
+        }
+        for (x, y, side) in
+            [(0, 0, 0), (0, 0, 2), (2, 0, 4), (0, 2, 4), (12, 0, 4), (0, 8, 4), (8, 0, 8), (1 << 32, 0, 4)]
+        {
+            assert_eq!(call(12, 8, &words, x, y, side), Err(Block));
+        }
+    }
+}
+
+#[test]
+fn ranks() {
+    let (words, modes, table) = ([DONE | INTRA; 4], [0u8; 4], [0u8; 180]);
+    for (w, h) in BAD_SIZES {
+        assert_eq!(get_mpm(w, h, &words, &modes, &table, 0, 0), Err(Size));
+    }
+    assert_eq!(get_mpm(8, 8, &words[..3], &modes, &table, 9, 0), Err(Length));
+    assert_eq!(get_mpm(8, 8, &words, &modes[..3], &table, 9, 0), Err(Length));
+    assert_eq!(get_mpm(8, 8, &words, &modes, &table[..179], 9, 0), Err(Length));
+    assert_eq!(get_mpm(8, 8, &words, &modes, &table, 2, 0), Err(Block));
+    assert_eq!(get_mpm(8, 8, &words, &modes, &table, 0, 1 << 32), Err(Block));
+    assert_eq!(get_mpm(8, 8, &words, &[9, 9, 5, 9], &table, 1, 1), Err(Mode));
+    assert_eq!(get_mpm(8, 8, &words, &[9, 254, 0, 9], &table, 1, 1), Err(Mode));
+}
+
+#[test]
+fn gathering() {
+    let (plane, words) = ([0u16; 65], [DONE; 4]);
+    let gather = |refusal, (w, h), plane: &[u16], words: &[u32], (x, y, side), n| {
+        refused(refusal, n, |run| get_nbr(Component::Luma, w, h, plane, words, x, y, side, false, run));
+    };
+    for size in BAD_SIZES {
+        gather(Size, size, &plane[..64], &words, (4, 4, 4), 17);
+    }
+    for wrong in [0, 63, 65] {
+        gather(Length, (8, 8), &plane[..wrong], &words, (4, 4, 4), 17);
+    }
+    gather(Length, (8, 8), &plane[..64], &words[..3], (4, 4, 4), 17);
+    for wrong in [0, 16, 18] {
+        gather(Length, (8, 8), &plane[..64], &words, (4, 4, 4), wrong);
+    }
+    for place in [(0, 0, 3), (0, 0, 16), (4, 4, 8), (2, 0, 4), (8, 0, 4), (0, usize::MAX - 3, 4)] {
+        gather(Block, (8, 8), &plane[..64], &words, place, 17);
+    }
+    let mut over = [0u16; 64];
+    over[35] = 1024;
+    gather(Sample, (8, 8), &over, &words, (4, 4, 4), 17);
+    refused(Length, 17, |run| get_nbr(Component::Chroma, 8, 8, &plane[..16], &words, 4, 4, 4, false, run));
+}
+
+#[test]
+fn modes() {
+    let run = [0u16; 18];
+    for side in [0, 1, 3, 5, 128, usize::MAX] {
+        refused(Block, 16, |block| ipred_b(9, side, &run[..17], block));
+    }
+    for wrong in [0, 16, 18] {
+        refused(Length, 16, |block| ipred_b(9, 4, &run[..wrong], block));
+    }
+    for wrong in [0, 15, 17] {
+        refused(Length, wrong, |block| ipred_b(9, 4, &run[..17], block));
+    }
+    for mode in [5, 255] {
+        refused(Mode, 16, |block| ipred_b(mode, 4, &[1024; 17], block));
+    }
+    for at in [0, 8, 16] {
+        let mut over = [0u16; 17];
+        over[at] = 1024;
+        (0..5).for_each(|mode| refused(Sample, 16, |block| ipred_b(mode, 4, &over, block)));
+    }
+}
+
+#[test]
+fn residuals() {
+    let (pred, coef) = ([0u16; 17], [0i16; 17]);
+    for coded in [false, true] {
+        for side in [0, 3, 128, 1 << 33] {
+            refused(Block, 16, |rec| recon(coded, side, &pred[..16], &coef[..16], rec));
+        }
+        for wrong in [0, 15, 17] {
+            refused(Length, 16, |rec| recon(coded, 4, &pred[..wrong], &coef[..16], rec));
+            refused(Length, 16, |rec| recon(coded, 4, &pred[..16], &coef[..wrong], rec));
+            refused(Length, wrong, |rec| recon(coded, 4, &pred[..16], &coef[..16], rec));
+        }
+        let mut over = [0u16; 16];
+        over[15] = 1024;
+        refused(Sample, 16, |rec| recon(coded, 4, &over, &coef[..16], rec));
+    }
+}
+
+#[test]
+fn residuals_into_a_plane() {
+    let (pred, coef) = ([0u16; 17], [0i16; 17]);
+    let add = |refusal, (w, h), (x, y, side), pred: &[u16], coef: &[i16], n| {
+        refused(refusal, n, |rec| recon_plane(Component::Luma, w, h, x, y, side, true, pred, coef, rec));
+    };
+    for size in BAD_SIZES {
+        add(Size, size, (4, 4, 4), &pred[..16], &coef[..16], 64);
+    }
+    for wrong in [0, 63, 65] {
+        add(Length, (8, 8), (4, 4, 3), &pred[..16], &coef[..16], wrong);
+    }
+    for wrong in [0, 15, 17] {
+        add(Length, (8, 8), (4, 4, 4), &pred[..wrong], &coef[..16], 64);
+        add(Length, (8, 8), (4, 4, 4), &pred[..16], &coef[..wrong], 64);
+    }
+    for place in [(4, 4, 3), (4, 4, 8), (2, 4, 4), (8, 0, 4), (0, 0, 16)] {
+        add(Block, (8, 8), place, &pred[..16], &coef[..16], 64);
+    }
+    add(Sample, (8, 8), (4, 4, 4), &[1024; 16], &coef[..16], 64);
+}
+
+/// The bytes of one root with these bytes set.
+fn root(set: &[(usize, u8)]) -> Vec<u8> {
+    let mut splits = vec![0; 1024];
+    set.iter().for_each(|&(at, byte)| splits[at] = byte);
+    splits
+}
+
+#[test]
+fn split_trees() {
+    for (w, h) in BAD_SIZES {
+        assert_eq!(check(w, h, &root(&[])), Err(Size));
+        refused(Size, 768, |out| leaves(w, h, &root(&[]), 0, 0, out));
+    }
+    for wrong in [0, 1023, 1025] {
+        assert_eq!(check(64, 64, &vec![0; wrong]), Err(Length));
+        refused(Length, 768, |out| leaves(64, 64, &vec![0; wrong], 0, 0, out));
+    }
+    for wrong in [0, 767, 769] {
+        refused(Length, wrong, |out| leaves(64, 64, &root(&[]), 1, 0, out));
+    }
+    for (x, y) in [(1, 0), (0, 32), (64, 0), (0, 64), (1 << 32, 0)] {
+        refused(Block, 768, |out| leaves(64, 64, &root(&[]), x, y, out));
+    }
+    for byte in [2, 255] {
+        assert_eq!(check(64, 64, &root(&[(136, byte)])), Err(Split));
+        refused(Split, 768, |out| leaves(64, 64, &root(&[(136, 1), (256 + 204, byte)]), 0, 0, out));
+    }
+    assert_eq!(check(60, 64, &root(&[])), Err(Leaf));
+    refused(Leaf, 768, |out| leaves(64, 60, &root(&[]), 0, 0, out));
+    // at one block the byte comes first
+    assert_eq!(check(60, 64, &root(&[(136, 2)])), Err(Split));
+    for (x, y) in [(16, 0), (0, 16), (usize::MAX, 0), (0, 1 << 32)] {
+        assert_eq!(visiting_rank(x, y), Err(Block));
+    }
+}
+
+#[test]
+fn edges() {
+    let list = |refusal, (w, h), splits: &[u8], limit, n| {
+        both_refused(refusal, n, |vertical, horizontal| list_edges(w, h, splits, limit, vertical, horizontal));
+    };
+    for size in BAD_SIZES {
+        list(Size, size, &root(&[]), 9, (512, 512));
+    }
+    for wrong in [0, 511, 513] {
+        list(Length, (64, 64), &root(&[]), 9, (wrong, 512));
+        list(Length, (64, 64), &root(&[]), 9, (512, wrong));
+    }
+    list(Length, (64, 64), &[0; 1023], 9, (512, 512));
+    for limit in [0, 4, 7, 255] {
+        list(Setting, (64, 64), &root(&[(136, 2)]), limit, (512, 512));
+    }
+    list(Split, (64, 64), &root(&[(136, 2)]), 6, (512, 512));
+    list(Leaf, (64, 60), &root(&[]), 5, (480, 480));
+}
+
+#[test]
+fn sheets() {
+    for wrong in [0, 1, LISTING_LENGTH - 1, LISTING_LENGTH + 1] {
+        refused(Length, wrong, |out: &mut [u8]| listing(b"width=16\n", out));
+    }
+}

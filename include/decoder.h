@@ -1,0 +1,128 @@
+/* The decoder's calls for C. `rt staticlib decoder_c` writes the archive to link, target/staticlib/libdecoder_c.a.
+ *
+ * Every call answers a number: 0 is done, any other a refusal. Every input is accepted, and a refused call writes to no lent slice;
+ * the values that it hands back through a pointer are then 0.
+ *
+ * A slice is a pointer to its first element and its length in elements. The caller sees to these, which no call can test:
+ * a pointer is not NULL, also where the length is 0, and that many elements lie behind it; a slice that is written overlaps no other
+ * argument; a bool is true or false.
+ *
+ * Sizes, lengths and their order are in specs/ of the crate that each call names; w and h are the picture's sides in luma samples. */
+#ifndef LOMSAKEUN_DECODER_H
+#define LOMSAKEUN_DECODER_H
+
+#include <stdbool.h>
+#include <stddef.h>
+#include <stdint.h>
+
+#ifdef __cplusplus
+extern "C" {
+#endif
+
+/* What a call answers. */
+enum {
+    LOMSAKEUN_DONE = 0,
+    LOMSAKEUN_SIZE = 1,     /* w or h is not a multiple of 4 from 4 to 4096 */
+    LOMSAKEUN_LENGTH = 2,   /* a lent slice has the wrong length */
+    LOMSAKEUN_SETTING = 3,  /* the transform limit is not 5 or 6, or an offset lies outside -12..12 */
+    LOMSAKEUN_SPLIT = 4,    /* a split byte reached by the walk is not 0 or 1 */
+    LOMSAKEUN_LEAF = 5,     /* a leaf reaches past the picture */
+    LOMSAKEUN_QP = 6,       /* a QP, or a mapped chroma QP, outside 0..51 */
+    LOMSAKEUN_SAMPLE = 7,   /* a sample over 1023 */
+    LOMSAKEUN_BLOCK = 8,    /* a block's or a unit's place, or a side */
+    LOMSAKEUN_MODE = 9,     /* a mode, or a consulted mode byte */
+    LOMSAKEUN_POINTS = 10,  /* the count of chroma points outside 1..58, or an a below 0 among them */
+    LOMSAKEUN_PIVOT = 11,   /* a pivot outside -12..57 */
+    LOMSAKEUN_SHEET = 12,   /* a malformed sheet */
+    LOMSAKEUN_RECORD = 13   /* the leaf or residual list's length, a mask or a spare byte */
+};
+
+/* The bits of availability's answer. RIGHT_UP is the unit above the block's last column. */
+enum {
+    LOMSAKEUN_UP = 1,
+    LOMSAKEUN_LEFT = 2,
+    LOMSAKEUN_RIGHT = 4,
+    LOMSAKEUN_UP_LEFT = 8,
+    LOMSAKEUN_UP_RIGHT = 16,
+    LOMSAKEUN_LOW_LEFT = 32,
+    LOMSAKEUN_LOW_RIGHT = 64,
+    LOMSAKEUN_RIGHT_UP = 128
+};
+
+/* The lengths that no picture or block decides. */
+enum {
+    LOMSAKEUN_POINTS_LENGTH = 58,
+    LOMSAKEUN_TABLE_LENGTH = 70,
+    LOMSAKEUN_RANK_TABLE_LENGTH = 180,
+    LOMSAKEUN_RANKS_LENGTH = 5,
+    LOMSAKEUN_SPLITS_PER_ROOT = 1024,
+    LOMSAKEUN_LEAVES_LENGTH = 768,
+    LOMSAKEUN_LISTING_LENGTH = 81920
+};
+
+/* The two chroma QP tables from their points (chroma_qp). Under same_table the second points are not read. */
+uint8_t lomsakeun_derived_chroma_qp_mapping_tables(
+    bool global_offset, bool same_table,
+    size_t count0, const int8_t *a0, size_t a0_len, const int8_t *b0, size_t b0_len,
+    size_t count1, const int8_t *a1, size_t a1_len, const int8_t *b1, size_t b1_len,
+    int8_t *t0, size_t t0_len, int8_t *t1, size_t t1_len);
+
+/* Which neighbours of the luma block of side at (x, y) are there, for intra prediction (avail): a bit a neighbour. */
+uint8_t lomsakeun_get_avail_intra(
+    size_t w, size_t h, const uint32_t *map_scu, size_t map_scu_len,
+    size_t x, size_t y, size_t side, uint8_t *neighbours);
+
+/* The same for inter prediction. */
+uint8_t lomsakeun_get_avail_inter(
+    size_t w, size_t h, const uint32_t *map_scu, size_t map_scu_len,
+    size_t x, size_t y, size_t side, uint8_t *neighbours);
+
+/* The five mode ranks for the unit of column x and row y, copied from the lent table (nbr). */
+uint8_t lomsakeun_get_mpm(
+    size_t w, size_t h, const uint32_t *map_scu, size_t map_scu_len, const uint8_t *map_ipm, size_t map_ipm_len,
+    const uint8_t *table, size_t table_len, size_t x, size_t y, uint8_t *ranks, size_t ranks_len);
+
+/* A block's neighbour samples: left downwards, the corner, up rightwards (nbr). The block is named in luma samples. */
+uint8_t lomsakeun_get_nbr(
+    bool chroma, size_t w, size_t h, const uint16_t *plane, size_t plane_len, const uint32_t *map_scu, size_t map_scu_len,
+    size_t x, size_t y, size_t side, bool constrained, uint16_t *run, size_t run_len);
+
+/* A block's prediction from its run (ipred): 0 DC, 1 horizontal, 2 vertical, 3 UL, 4 UR. */
+uint8_t lomsakeun_ipred_b(
+    uint8_t mode, size_t side, const uint16_t *run, size_t run_len, uint16_t *block, size_t block_len);
+
+/* Prediction and residual into a block (recon). */
+uint8_t lomsakeun_recon(
+    bool coded, size_t side, const uint16_t *pred, size_t pred_len, const int16_t *coef, size_t coef_len,
+    uint16_t *rec, size_t rec_len);
+
+/* Prediction and residual into a plane (recon). The block is named in luma samples. */
+uint8_t lomsakeun_recon_plane(
+    bool chroma, size_t w, size_t h, size_t x, size_t y, size_t side, bool coded,
+    const uint16_t *pred, size_t pred_len, const int16_t *coef, size_t coef_len, uint16_t *rec, size_t rec_len);
+
+/* Whether the walk over a picture's split bytes is refused (split). */
+uint8_t lomsakeun_check(size_t w, size_t h, const uint8_t *splits, size_t splits_len);
+
+/* The leaves of the root at (x, y), in the order of the walk (split): x, y and side of each, in luma samples. */
+uint8_t lomsakeun_leaves(
+    size_t w, size_t h, const uint8_t *splits, size_t splits_len, size_t x, size_t y,
+    uint16_t *out, size_t out_len, size_t *count);
+
+/* The visiting rank of the unit of column x and row y of a root (split). */
+uint8_t lomsakeun_visiting_rank(size_t x, size_t y, uint8_t *rank);
+
+/* The edges that each pass of deblocking visits, in order (split): x and y of each, and how many edges. */
+uint8_t lomsakeun_list_edges(
+    size_t w, size_t h, const uint8_t *splits, size_t splits_len, uint8_t limit,
+    uint16_t *vertical, size_t vertical_len, uint16_t *horizontal, size_t horizontal_len,
+    size_t *vertical_count, size_t *horizontal_count);
+
+/* The text that `edgelist` prints for a sheet (sheet), and its length. */
+uint8_t lomsakeun_listing(const uint8_t *input, size_t input_len, uint8_t *out, size_t out_len, size_t *length);
+
+#ifdef __cplusplus
+}
+#endif
+
+#endif

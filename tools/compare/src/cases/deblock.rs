@@ -1,0 +1,221 @@
+//! Recorded cases of deblocking: whole pictures.
+use super::data::*;
+use super::tape::{Case, Line};
+use super::trees::{self, Taste};
+use crate::model::deblock::{self as model, Given};
+#[cfg(feature = "deblock")]
+use crate::product::Lent;
+#[cfg(feature = "archive")]
+use crate::product::{Answer, Lending};
+use crate::rng::Rng;
+use oracle::deblock as rust;
+
+#[derive(Clone)]
+pub struct Picture {
+    pub w: usize,
+    pub h: usize,
+    pub planes: [Vec<u16>; 3],
+    pub words: Vec<u32>,
+    pub splits: Vec<u8>,
+    pub motion: Vec<i16>,
+    pub refs: Vec<i8>,
+    pub tables: [Vec<i8>; 2],
+    pub strengths: Vec<u8>,
+    pub limit: usize,
+    pub own: bool,
+    pub offsets: [i64; 2],
+}
+
+impl Picture {
+    fn given(&self) -> Given<'_> {
+        Given {
+            w: self.w,
+            h: self.h,
+            splits: &self.splits,
+            motion: &self.motion,
+            refs: &self.refs,
+            tables: [&self.tables[0], &self.tables[1]],
+            strengths: &self.strengths,
+            limit: self.limit,
+            own: self.own,
+            offsets: self.offsets,
+        }
+    }
+
+    fn answer(number: u32, counts: (usize, usize), planes: &[Vec<u16>; 3], words: &[u32]) -> Line {
+        let line = Line::new().num(number).num(counts.0).num(counts.1);
+        planes.iter().fold(line, |line, plane| line.all(plane)).all(words)
+    }
+}
+
+impl Case for Picture {
+    fn input(&self) -> Line {
+        let line = Line::new().num(self.w).num(self.h);
+        let line = self.planes.iter().fold(line, |line, plane| line.slice(plane));
+        let line = line.slice(&self.words).slice(&self.splits).slice(&self.motion).slice(&self.refs);
+        let line = line.slice(&self.tables[0]).slice(&self.tables[1]).slice(&self.strengths);
+        line.num(self.limit).flag(self.own).num(self.offsets[0]).num(self.offsets[1])
+    }
+
+    fn model(&self) -> Line {
+        let (mut planes, mut words) = (self.planes.clone(), self.words.clone());
+        let (number, v, h) = model::deblock(&self.given(), planes.each_mut().map(|p| &mut p[..]), &mut words);
+        Picture::answer(number, (v, h), &planes, &words)
+    }
+
+    /// The planes and words are evc_deblock's; the counts are the lengths of the lists of windows that it is
+    /// seen to filter.
+    fn rust(&self) -> Option<Line> {
+        let (mut planes, mut words) = (self.planes.clone(), self.words.clone());
+        let size = (self.w, self.h);
+        let maps = (&self.splits[..], &self.motion[..], &self.refs[..]);
+        let tables = [&self.tables[0][..], &self.tables[1][..]];
+        let offsets = self.offsets.map(|offset| offset as i8);
+        let (deblock, edges): (_, fn((usize, usize), &[u8]) -> _) = if self.limit == 6 {
+            (rust::deblock as Deblock, oracle_visits::visits::edges)
+        } else {
+            (oracle_tr5::deblock::deblock as Deblock, oracle_visits_tr5::visits::edges)
+        };
+        deblock(size, planes.each_mut().map(|p| &mut p[..]), &mut words, maps, tables, offsets)?;
+        let [vertical, horizontal] = edges(size, &self.splits)?;
+        Some(Picture::answer(0, (vertical.len(), horizontal.len()), &planes, &words))
+    }
+
+    fn in_domain(&self) -> bool {
+        !self.own && self.strengths == rust::strengths() && model::fits(&self.given(), &self.words)
+    }
+
+    /// The archive has no deblocking yet.
+    #[cfg(all(feature = "archive", not(feature = "deblock")))]
+    fn product(&self, _: Lending) -> Answer {
+        Ok(self.model())
+    }
+
+    #[cfg(feature = "deblock")]
+    fn product(&self, lending: Lending) -> Answer {
+        let [mut y, mut u, mut v] = self.planes.each_ref().map(|plane| Lent::new(lending, plane));
+        let mut words = Lent::new(lending, &self.words);
+        let (splits, motion) = (Lent::new(lending, &self.splits), Lent::new(lending, &self.motion));
+        let (refs, strengths) = (Lent::new(lending, &self.refs), Lent::new(lending, &self.strengths));
+        let [t0, t1] = self.tables.each_ref().map(|table| Lent::new(lending, table));
+        let (mut vertical, mut horizontal) = (77, 78);
+        let number = unsafe {
+            lomsakeun::lomsakeun_deblock(
+                self.w,
+                self.h,
+                y.mut_ptr(),
+                y.len(),
+                u.mut_ptr(),
+                u.len(),
+                v.mut_ptr(),
+                v.len(),
+                words.mut_ptr(),
+                words.len(),
+                splits.ptr(),
+                splits.len(),
+                motion.ptr(),
+                motion.len(),
+                refs.ptr(),
+                refs.len(),
+                t0.ptr(),
+                t0.len(),
+                t1.ptr(),
+                t1.len(),
+                strengths.ptr(),
+                strengths.len(),
+                self.limit as u8,
+                self.own,
+                self.offsets[0] as i8,
+                self.offsets[1] as i8,
+                &mut vertical,
+                &mut horizontal,
+            )
+        };
+        splits.kept(&self.splits)?;
+        motion.kept(&self.motion)?;
+        refs.kept(&self.refs)?;
+        t0.kept(&self.tables[0])?;
+        t1.kept(&self.tables[1])?;
+        strengths.kept(&self.strengths)?;
+        let line = Line::new().num(number).num(vertical).num(horizontal);
+        Ok(line.all(y.after()?).all(u.after()?).all(v.after()?).all(words.after()?))
+    }
+}
+
+type Deblock =
+    fn((usize, usize), [&mut [u16]; 3], &mut [u32], (&[u8], &[i16], &[i8]), [&[i8]; 2], [i8; 2]) -> Option<()>;
+
+/// A tree's bytes, the unreached ones being anything.
+pub fn split_bytes(rng: &mut Rng, w: usize, h: usize, tree: &[(usize, usize, usize, bool)]) -> Vec<u8> {
+    let wide = w.div_ceil(64);
+    let other = rng.pick(&[9, 9, 0, 1]);
+    let mut bytes = vec![other; 1024 * wide * h.div_ceil(64)];
+    for &(x, y, side, cut) in tree {
+        let level = 6 - side.ilog2() as usize;
+        let centre = 16 * ((y % 64 + side / 2) / 4) + (x % 64 + side / 2) / 4;
+        bytes[1024 * ((y / 64) * wide + x / 64) + 256 * level + centre] = cut as u8;
+    }
+    bytes
+}
+
+/// An accepted picture with the Rust's strengths, in `source`.
+pub fn picture(rng: &mut Rng, w: usize, h: usize, taste: Taste) -> Picture {
+    let units = (w / 4) * (h / 4);
+    let tree = trees::tree(rng, w, h, taste);
+    let (low, high) = rng.pick(&[(0, 51), (20, 51), (30, 51), (45, 51), (37, 37)]);
+    Picture {
+        w,
+        h,
+        planes: [texture(rng, w, h), texture(rng, w / 2, h / 2), texture(rng, w / 2, h / 2)],
+        words: deblock_words(rng, units, low, high),
+        splits: split_bytes(rng, w, h, &tree),
+        motion: motion(rng, units),
+        refs: refs(rng, units),
+        tables: [table(rng), table(rng)],
+        strengths: rust::strengths(),
+        limit: rng.pick(&[5, 6]),
+        own: false,
+        offsets: [rng.range(-12, 12), rng.range(-12, 12)],
+    }
+}
+
+/// Samples that the filter moves: steps and slopes with a little noise, or anything.
+fn texture(rng: &mut Rng, w: usize, h: usize) -> Vec<u16> {
+    let (base, noise) = (rng.range(0, 1023), rng.pick(&[0, 3, 30, 1023]));
+    let (slope_x, slope_y, step) = (rng.range(-9, 9), rng.range(-9, 9), rng.range(0, 60));
+    let sample = |rng: &mut Rng, x: i64, y: i64| {
+        let steps = step * ((x / 4 + y / 4) % 3);
+        (base + slope_x * x + slope_y * y + steps + rng.range(-noise, noise)).clamp(0, 1023) as u16
+    };
+    (0..w * h).map(|i| sample(rng, (i % w) as i64, (i / w) as i64)).collect()
+}
+
+/// Unit words with a QP of low..=high, intra and luma-coded sometimes, the other bits anything.
+fn deblock_words(rng: &mut Rng, units: usize, low: i64, high: i64) -> Vec<u32> {
+    let (intra, coded) = (rng.pick(&[0, 1, 3, 8]), rng.pick(&[0, 2, 4, 8]));
+    let one = |rng: &mut Rng| {
+        let coded = (rng.below(8) < coded) as u32;
+        let word = word(rng, 4, intra) & !(127 << 16 | 1 << 24);
+        word | (rng.range(low, high) as u32) << 16 | coded << 24
+    };
+    (0..units).map(|_| one(rng)).collect()
+}
+
+/// Motion that mostly differs by less than 4, by 3 or 4 often, and far now and then.
+fn motion(rng: &mut Rng, units: usize) -> Vec<i16> {
+    let spread: &[i16] = rng.pick(&[&[0][..], &[0, 1, 3], &[0, 0, 0, 4], &[-2, 1, 2, 6], &[-300, 0, 16000]]);
+    (0..4 * units).map(|_| rng.pick(spread)).collect()
+}
+
+fn refs(rng: &mut Rng, units: usize) -> Vec<i8> {
+    let spread: &[i8] = rng.pick(&[&[0][..], &[0, 1], &[0, -1], &[-1, -1, 0, 1, 2], &[-1, -2, 127, -128]]);
+    (0..2 * units).map(|_| rng.pick(spread)).collect()
+}
+
+/// A chroma table with every value inside 0..51: rising with the QP, or anything.
+fn table(rng: &mut Rng) -> Vec<i8> {
+    let shift = rng.range(-6, 6);
+    let steady = !rng.one_in(4);
+    let value = |rng: &mut Rng, qp: i64| if steady { (qp + shift).clamp(0, 51) } else { rng.range(0, 51) };
+    (-12..58).map(|qp| value(rng, qp) as i8).collect()
+}

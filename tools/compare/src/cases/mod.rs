@@ -1,0 +1,18 @@
+//! Each call's cases: how its inputs are drawn and damaged, what each side answers, and which of them are recorded.
+pub mod avail;
+pub mod chroma_qp;
+mod data;
+pub mod deblock;
+pub mod deblock_cases;
+mod deblock_refusals;
+pub mod gather;
+#[cfg(feature = "archive")]
+pub mod listing;
+pub mod predict;
+pub mod ranks;
+pub mod recon;
+pub mod sheet;
+pub mod tape;
+#[cfg(feature = "archive")]
+pub mod tree;
+pub mod trees;

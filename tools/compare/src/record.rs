@@ -1,0 +1,44 @@
+//! Makes the recorded cases that the gate replays.
+use crate::cases::tape::Tape;
+use crate::cases::*;
+use std::path::Path;
+
+type Recorder = fn(&mut Tape);
+
+const ALL: [(&str, Recorder); 9] = [
+    ("chroma_qp", chroma_qp::record),
+    ("avail", avail::record),
+    ("ranks", ranks::record),
+    ("gather", gather::record),
+    ("predict", predict::record),
+    ("recon_block", recon::record_block),
+    ("recon_plane", recon::record_plane),
+    ("deblock", deblock_cases::record),
+    ("sheet", sheet::record),
+];
+
+/// Records one name, or all of them, each in its own folder. True if the Rust and the model never differed.
+pub fn record(name: &str, dir: &Path) -> std::io::Result<bool> {
+    let mut agreed = true;
+    let mut known = false;
+    for (each, recorder) in ALL {
+        let dir = match name {
+            "all" => dir.join(format!("replay_{each}")),
+            _ if name == each => dir.to_path_buf(),
+            _ => continue,
+        };
+        known = true;
+        let mut tape = Tape::new(each);
+        recorder(&mut tape);
+        // A recording that the Rust and the model do not agree on is not written.
+        if tape.report() {
+            tape.save(&dir)?;
+        } else {
+            agreed = false;
+        }
+    }
+    if !known {
+        println!("nothing is called {name}");
+    }
+    Ok(known && agreed)
+}
