@@ -1,6 +1,6 @@
 -- Laws of a number's bits by their places: what is put at a place is read there, and every field below or above is as it was.
 -- Assumes nothing.
-use mathlib.Core.Path.{_≡_, refl, sym, ap, _∙_, subst}
+use mathlib.Core.Path.{_≡_, sym, ap, _∙_}
 use Prim.Native.Nat.{ℕ, _+_, _-_, _*_, _/_, _%_, _^_, _<_, _≤_}
 use native.Mathlib.Nat.{mod-lt, mul-add-div-right, mul-add-mod-self-right, mod-eq-of-lt, div-eq-of-lt, lt-of-lt-of-le, zero-add, zero-mul, mul-assoc, add-comm}
 use native.Mathlib.Omega.{arith}

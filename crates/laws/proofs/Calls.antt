@@ -13,6 +13,7 @@ use lib.ListN.{getD}
 use borrow.Author.Tests.{not-true, not-false, eqb-true}
 use lib.Dec.{eqb}
 use Rattle.laws.specs.Call.{Gives, unless, allFrom, allOf, anyFrom, anyOf}
+use Rattle.laws.proofs.Bools.{both-left, both-right, and-false}
 
 pub one-outcome : {I O : Type 0} (f : I → O) (i : I) (a b : O) → Gives f i a → Gives f i b → a ≡ b
 one-outcome f i a b p q = p ∙ sym q
@@ -23,14 +24,6 @@ stops b t r k e n = rw (sym e ∙ not-true b n)
 
 pub goes-on : {A : Type 0} (b t : Bool) (r k x : A) → b ≡ t → not b ≡ false → x ≡ k → x ≡ unless t r k
 goes-on b t r k x e n p = rw (sym e ∙ not-false b n) p
-
-both-left : (a b : Bool) → (a && b) ≡ true → a ≡ true
-both-left true b e = refl
-both-left false b e = e
-
-both-right : (a b : Bool) → (a && b) ≡ true → b ≡ true
-both-right true b e = e
-both-right false b e = cc
 
 from-first : (a : Bool) (bs : List Bool) → allFrom a bs ≡ true → a ≡ true
 from-first a [] e = e
@@ -46,10 +39,6 @@ pub all-at : (bs : List Bool) (i : ℕ) → allOf bs ≡ true → getD bs i true
 all-at [] i e = refl
 all-at (b ∷ bs) zero e = from-first b bs e
 all-at (b ∷ bs) (suc i) e = from-rest b bs i e
-
-and-false : (a b : Bool) → b ≡ false → (a && b) ≡ false
-and-false true b e = e
-and-false false b e = refl
 
 from-false : (a : Bool) (bs : List Bool) → a ≡ false → allFrom a bs ≡ false
 from-false a [] e = e

@@ -1,4 +1,5 @@
 pub mod Bits
+pub mod Bools
 pub mod Calls
 pub mod Counting
 pub mod Differences

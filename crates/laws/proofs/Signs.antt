@@ -1,14 +1,14 @@
 -- Whole numbers by sign and magnitude: what each operation is on `sg s m`, which is -m where s holds and m where not.
 -- Assumes nothing.
-use mathlib.Core.Path.{_≡_, refl, sym, ap, subst, _∙_}
+use mathlib.Core.Path.{_≡_, refl, sym, ap, _∙_}
 use mathlib.Core.Bool.{Bool, true, false, cond, not}
-use Prim.Native.Nat.{ℕ, zero, suc, _+_, _-_, _*_, _/_, _≤_, _<_, min, max}
+use Prim.Native.Nat.{ℕ, zero, suc, _+_, _-_, _*_, _/_, _≤_, _<_, min}
 use native.Mathlib.Nat.{zero-div}
 use native.Mathlib.Omega.{arith}
 use lib.Dec.{T, ltb, ltb→lt, nltb→le}
 use lib.IntN.{ℤ, pos, negsuc, negℤ, negℤ-negℤ, natAbs, subℕ, _+ℤ_, _-ℤ_, _*ℤ_}
-use lib.Signed.{ltZ, quotZ}
-use Rattle.laws.specs.Clip.{maxZ, minZ, clipZ, absZ, withSign, sampleZ}
+use lib.Signed.{quotZ}
+use Rattle.laws.specs.Clip.{maxZ, minZ, clipZ, withSign, sampleZ}
 use Rattle.laws.specs.Sign.{sg, gapN}
 
 -- a test's two cases
@@ -46,12 +46,12 @@ quot-sg true zero k = pos= (zero-div (suc k)) ∙ neg= 0 (0 / suc k) (sym (zero-
 quot-sg true (suc m) k = refl
 quot-sg false m k = refl
 
-abs-sg : (s : Bool) (m : ℕ) → natAbs (sg s m) ≡ m
+pub abs-sg : (s : Bool) (m : ℕ) → natAbs (sg s m) ≡ m
 abs-sg true zero = refl
 abs-sg true (suc m) = refl
 abs-sg false m = refl
 
-twice-sg : (s : Bool) (m : ℕ) → pos 2 *ℤ sg s m ≡ sg s (2 * m)
+pub twice-sg : (s : Bool) (m : ℕ) → pos 2 *ℤ sg s m ≡ sg s (2 * m)
 twice-sg true zero = refl
 twice-sg true (suc m) = refl
 twice-sg false m = refl
@@ -60,18 +60,19 @@ max-pos : (m : ℕ) → maxZ (pos 0) (pos m) ≡ pos m
 unfolding maxZ
 max-pos m = by-lt (λ t. cond t (pos m) (pos 0) ≡ pos m) 0 m (λ h. refl) (λ h. pos= (omega arith))
 
-max-sg : (s : Bool) (m : ℕ) → maxZ (pos 0) (sg s m) ≡ pos (cond s 0 m)
+-- nothing below 0
+pub max-sg : (s : Bool) (m : ℕ) → maxZ (pos 0) (sg s m) ≡ pos (cond s 0 m)
 unfolding maxZ
 max-sg true zero = refl
 max-sg true (suc m) = refl
 max-sg false m = max-pos m
 
-max-sub : (x y : ℕ) → maxZ (pos 0) (pos x -ℤ pos y) ≡ pos (x - y)
+pub max-sub : (x y : ℕ) → maxZ (pos 0) (pos x -ℤ pos y) ≡ pos (x - y)
 max-sub x y =
     ap (maxZ (pos 0)) (pos-sub x y) ∙ max-sg (ltb x y) (gapN x y)
     ∙ by-lt (λ t. pos (cond t 0 (gapN x y)) ≡ pos (x - y)) x y (λ h. pos= (omega arith)) (λ h. pos= (omega arith))
 
-max-twice : (x y : ℕ) → maxZ (pos 0) (pos 2 *ℤ (pos x -ℤ pos y)) ≡ pos (2 * (x - y))
+pub max-twice : (x y : ℕ) → maxZ (pos 0) (pos 2 *ℤ (pos x -ℤ pos y)) ≡ pos (2 * (x - y))
 max-twice x y =
     ap (λ (z : ℤ). maxZ (pos 0) (pos 2 *ℤ z)) (pos-sub x y) ∙ ap (maxZ (pos 0)) (twice-sg (ltb x y) (gapN x y)) ∙ max-sg (ltb x y) (2 * gapN x y)
     ∙ by-lt (λ t. pos (cond t 0 (2 * gapN x y)) ≡ pos (2 * (x - y))) x y (λ h. pos= (omega arith)) (λ h. pos= (omega arith))

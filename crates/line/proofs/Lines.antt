@@ -1,15 +1,15 @@
 -- The line filter by sign and magnitude: `line-is` is what the code computes; strength 0 leaves samples as they are; what a line becomes are samples.
 -- Assumes nothing.
 use mathlib.Core.Path.{_≡_, refl, sym, ap, _∙_}
-use mathlib.Core.Bool.{Bool, true, false, cond, not}
-use Prim.Native.Nat.{ℕ, zero, suc, _+_, _-_, _*_, _/_, _≤_, min}
+use mathlib.Core.Bool.{Bool, true, false, not}
+use Prim.Native.Nat.{ℕ, _+_, _-_, _*_, _/_, _≤_, min}
 use native.Mathlib.Omega.{arith}
 use lib.Dec.{ltb}
-use lib.IntN.{ℤ, pos, negℤ, natAbs, _+ℤ_, _-ℤ_, _*ℤ_, +ℤ-assoc, +ℤ-comm, negℤ-+ℤ}
+use lib.IntN.{ℤ, pos, negℤ, _+ℤ_, _-ℤ_, +ℤ-assoc, +ℤ-comm, negℤ-+ℤ}
 use lib.Signed.{quotZ}
-use Rattle.laws.specs.Clip.{maxZ, clipZ, absZ, withSign, sampleZ}
+use Rattle.laws.specs.Clip.{clipZ, absZ, withSign, sampleZ}
 use Rattle.laws.specs.Sign.{sg, gapN}
-use Rattle.laws.proofs.Signs.{by-lt, pos-sub, neg-sg, quot-sg, with-sg, clip-sg, movedN, sample-sg, sample-le}
+use Rattle.laws.proofs.Signs.{pos-sub, neg-sg, quot-sg, abs-sg, max-sub, max-twice, with-sg, clip-sg, movedN, sample-sg, sample-le}
 use Rattle.line.specs.declared.Quad.{Quad}
 use Rattle.line.specs.Line.{stepOf, limitOf, farOf, movedBy, lineZ, lineOf}
 
@@ -17,33 +17,6 @@ use Rattle.line.specs.Line.{stepOf, limitOf, farOf, movedBy, lineZ, line
 
 abbrev pub limitN : ℕ → ℕ → ℕ
 limitN m st = m - 2 * (m - st)
-
-abs-sg : (s : Bool) (m : ℕ) → natAbs (sg s m) ≡ m
-abs-sg true zero = refl
-abs-sg true (suc m) = refl
-abs-sg false m = refl
-
-twice-sg : (s : Bool) (m : ℕ) → pos 2 *ℤ sg s m ≡ sg s (2 * m)
-twice-sg true zero = refl
-twice-sg true (suc m) = refl
-twice-sg false m = refl
-
--- nothing below 0
-max-sg : (s : Bool) (m : ℕ) → maxZ (pos 0) (sg s m) ≡ pos (cond s 0 m)
-unfolding maxZ
-max-sg true zero = refl
-max-sg true (suc m) = refl
-max-sg false m = by-lt (λ t. cond t (pos m) (pos 0) ≡ pos m) 0 m (λ h. refl) (λ h. ap pos (omega arith))
-
-max-sub : (x y : ℕ) → maxZ (pos 0) (pos x -ℤ pos y) ≡ pos (x - y)
-max-sub x y =
-    ap (maxZ (pos 0)) (pos-sub x y) ∙ max-sg (ltb x y) (gapN x y)
-    ∙ by-lt (λ t. pos (cond t 0 (gapN x y)) ≡ pos (x - y)) x y (λ h. ap pos (omega arith)) (λ h. ap pos (omega arith))
-
-max-twice : (x y : ℕ) → maxZ (pos 0) (pos 2 *ℤ (pos x -ℤ pos y)) ≡ pos (2 * (x - y))
-max-twice x y =
-    ap (λ (z : ℤ). maxZ (pos 0) (pos 2 *ℤ z)) (pos-sub x y) ∙ ap (maxZ (pos 0)) (twice-sg (ltb x y) (gapN x y)) ∙ max-sg (ltb x y) (2 * gapN x y)
-    ∙ by-lt (λ t. pos (cond t 0 (2 * gapN x y)) ≡ pos (2 * (x - y))) x y (λ h. ap pos (omega arith)) (λ h. ap pos (omega arith))
 
 limit-sg : (s : Bool) (m st : ℕ) → limitOf (sg s m) (pos st) ≡ pos (limitN m st)
 unfolding limitOf absZ

@@ -1,8 +1,8 @@
 -- The strength row's numbers in the code's terms: bytes that are the same, and a difference of 4 or more.
 -- Assumes nothing.
-use mathlib.Core.Path.{_≡_, refl, sym, ap, _∙_, subst}
+use mathlib.Core.Path.{_≡_, refl, sym, ap, _∙_}
 use mathlib.Core.Bool.{Bool, true, false, _||_}
-use Prim.Native.Nat.{ℕ, suc, _≤_, _<_}
+use Prim.Native.Nat.{ℕ, _<_}
 use native.Mathlib.Omega.{arith}
 use borrow.Author.Tests.{eqb-true, eqb-false, eq-eqb, ne-eqb}
 use lib.Dec.{eqb, leb, leb·suc-suc}
@@ -12,10 +12,11 @@ use mir.Syntax.{Width, w8, w16, w32}
 use mir.Val.{SFits, toZ, ofZ}
 use Rattle.def.specs.Word.{intraOf, codedOf}
 use Rattle.laws.specs.Clip.{absZ}
+use Rattle.laws.proofs.Bools.{or-false}
 use Rattle.laws.proofs.Widths.{sfits, back, mag-sub}
 use Rattle.laws.specs.Index.{pick}
 use Rattle.line.specs.declared.Motion.{Motion}
-use Rattle.line.specs.Row.{eqZ, far, sameRefs, anyFar, crosswise, motionRow, rowOf}
+use Rattle.line.specs.Row.{eqZ, sameRefs, anyFar, crosswise, motionRow, rowOf}
 
 eqZ-refl : (a : ℤ) → eqZ a a ≡ true
 unfolding eqZ
@@ -53,13 +54,9 @@ plain {z} f = rw (back w16 z f) (back w32 z (small f))
 pub difference : {a b : ℤ} → SFits w16 a → SFits w16 b → SFits w32 (a -ℤ b)
 difference {a} {b} f g = sfits w32 65536 (omega (arith, mag-sub a b, f .sfits, g .sfits)) tt
 
-or-none : (t : Bool) → (t || false) ≡ t
-or-none true = refl
-or-none false = refl
-
 pub either-way : (d : ℤ) → (leZ (pos 4) d || leZ d (negsuc 3)) ≡ leZ (pos 4) (absZ d)
 unfolding absZ
-either-way (pos n) = or-none (leb 4 n)
+either-way (pos n) = or-false (leb 4 n)
 either-way (negsuc n) = sym (leb·suc-suc 3 n)
 
 -- ---- the row by motion, one law for each way through it

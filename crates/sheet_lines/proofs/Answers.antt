@@ -14,6 +14,7 @@ use lib.Dec.{leb, eqb}
 use lib.ListN.{length, take, drop}
 use lib.Seq.{take-nil, drop-drop}
 use Rattle.laws.specs.Call.{Gives, unless}
+use Rattle.laws.proofs.Bools.{both-left, both-right}
 use Rattle.laws.proofs.Calls.{all-at}
 use Rattle.sheet_lines.specs.Lines.{lineFrom, startOf, line, startsWith, binary, splitsLine, lineOk, lineTests, firstBad, widthOf, heightOf, limitOf, digitsOf}
 use Rattle.sheet_lines.specs.ReadCall.{Reading, Outcome, readingOf, after, wholeSheet, readOf, outcome}
@@ -22,7 +23,6 @@ use Rattle.sheet_lines.specs.declared.Kind.the-variants.{Width, Height, 
 use Rattle.sheet_lines.specs.declared.Sheet.{Sheet}
 use Rattle.sheet_lines.specs.declared.Sheet.the-variants.{Read, Malformed}
 use Rattle.sheet_lines.proofs.Forms.{key-fits, line-part}
-use Rattle.sheet_lines.proofs.Reading.{both-left, both-right}
 
 -- ---- the outcome
 

@@ -14,6 +14,7 @@ use lib.Dec.{ltb, eqb}
 use lib.ListN.{length, take, drop, length-drop}
 use lib.Seq.{take-all}
 use Rattle.laws.specs.Index.{pick}
+use Rattle.laws.proofs.Bools.{both-right}
 use Rattle.sheet_lines.specs.Lines.{lineOf, lineFrom, nextLine, startsWith, isNumber, valueFrom, numberLine, numberAfter, sameLine, edgeLine, splitsLine, noValue, binary, formOf, saysOf, lineOk}
 use Rattle.sheet_lines.specs.Words.{ownEdge, sourceEdge, splitsKey}
 use Rattle.sheet_lines.specs.Fields.{valueBy, fieldOf}
@@ -21,7 +22,7 @@ use Rattle.sheet_lines.specs.declared.Kind.{Kind}
 use Rattle.sheet_lines.specs.declared.Value.{Value}
 use Rattle.sheet_lines.specs.declared.Value.the-variants.{Is, Malformed}
 use Rattle.sheet_lines.specs.declared.Field.the-variants.{At, Malformed as MalformedField}
-use Rattle.sheet_lines.proofs.Reading.{both-right, line-short}
+use Rattle.sheet_lines.proofs.Reading.{line-short}
 
 -- ---- what follows a key
 

@@ -4,8 +4,8 @@
 --     Numbered, numbered, digit-at                what the tests of a number tell
 --     value-none, value-on, value-all, value-more, value-small
 -- Assumes nothing.
-use mathlib.Core.Path.{_≡_, refl, sym, ap, _∙_}
-use mathlib.Core.Bool.{Bool, true, false, _&&_}
+use mathlib.Core.Path.{_≡_, sym, ap, _∙_}
+use mathlib.Core.Bool.{Bool, true, false}
 use mathlib.Core.List.{List, [], _∷_}
 use Prim.Native.Nat.{ℕ, suc, _+_, _-_, _*_, _^_, _≤_, _<_}
 use native.Mathlib.Nat.{pow-succ', pow-le-pow-right}
@@ -17,6 +17,7 @@ use lib.Seq.{drop-cons}
 use borrow.Author.Tests.{eq-eqb, ne-eqb, leb-true}
 use Rattle.laws.specs.Index.{pick}
 use Rattle.laws.specs.Scan.{allIn}
+use Rattle.laws.proofs.Bools.{both-left, both-right}
 use Rattle.laws.proofs.Calls.{all-at}
 use Rattle.laws.proofs.Scans.{scan-at}
 use Rattle.sheet_lines.specs.Lines.{lineOf, lineFrom, startsWith, between, isNumber, numberTests, valueFrom}
@@ -67,14 +68,6 @@ module _ (key l : List ℕ) (i : ℕ) where
   key-on h p e = rw (here key i h, here l i p, eq-eqb (getD key i 0) (getD l i 0) e)
 
 -- ---- a number, digit by digit
-
-pub both-left : (a b : Bool) → (a && b) ≡ true → a ≡ true
-both-left true b e = refl
-both-left false b e = e
-
-pub both-right : (a b : Bool) → (a && b) ≡ true → b ≡ true
-both-right true b e = e
-both-right false b e = cc
 
 pub record Between (low high b : ℕ) : Type 0 where
   pub least : low ≤ b

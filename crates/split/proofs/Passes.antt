@@ -1,7 +1,7 @@
 -- The passes come to the lists. In the vertical one the unit left of a visit's top row is done when it is made, and the one right of it is not:
 -- of two visits the later one stands right of the earlier, or below it, and no more is needed.
 -- Assumes nothing.
-use mathlib.Core.Bool.{Bool, true, false, _&&_, _||_}
+use mathlib.Core.Bool.{Bool, true, false, _&&_}
 use mathlib.Core.Logic.{_⊎_, inl, inr, ⊎-elim}
 use mathlib.Core.List.{List, [], _∷_, _++_, append-assoc, append-nil, List·Memᴰ, List·Memᴰ·head, List·Memᴰ·tail, List·Memᴰ·not-nil, List·Memᴰ·cases-cons, List·Memᴰ·append-cases, List·Memᴰ·eq-of-singleton, Memᴰ·append-right}
 use mathlib.Core.Path.{_≡_, refl, sym, ap, _∙_, subst}
@@ -12,6 +12,7 @@ use lib.Dec.{ltb, leb, eqb}
 use Rattle.def.specs.declared.Answer.the-variants.{Done}
 use Rattle.laws.specs.Index.{pick}
 use Rattle.laws.specs.Orders.{Pairwise, each}
+use Rattle.laws.proofs.Bools.{and-false, or-true}
 use Rattle.laws.proofs.Orders.{pairwise-each, pairwise-cross, pairwise-rest, each-mem, mem-each, each-each}
 use Rattle.split.specs.Edges.{Pass, vertical, horizontal, Edge, Visit, visit, halves, visitOf, visits, stretch, nearEdge, edgeList}
 use Rattle.split.specs.Passes.{has, done, verticalPass, horizontalPass}
@@ -45,11 +46,7 @@ has-true p u v e =
 done-in : {p : Visit} {l : List Visit} (u v : ℕ) → List·Memᴰ p l → Bounds p u v → done l u v ≡ true
 unfolding done
 done-in u v (List·Memᴰ·head {xs = l} e) b = rw (has-in _ u v (subst (λ (q : Visit). Bounds q u v) e b))
-done-in u v (List·Memᴰ·tail {x = q} m) b = rw (done-in u v m b) (either (has q u v))
-  where
-    either : (t : Bool) → (t || true) ≡ true
-    either true = refl
-    either false = refl
+done-in u v (List·Memᴰ·tail {x = q} m) b = rw (done-in u v m b) (or-true (has q u v))
 
 done-not : (l : List Visit) (u v : ℕ) → ((p : Visit) → List·Memᴰ p l → Bounds p u v → ⊥) → done l u v ≡ false
 unfolding done
@@ -99,17 +96,13 @@ module _ (w h : ℕ) (all : List Visit) (order : Pairwise Follow all) (covers : 
   and-left : (n : ℕ) (b : Bool) → (0 < n → b ≡ true) → (ltb 0 n && b) ≡ ltb 0 n
   and-left n b f = test (ltb 0 n) (λ t. rw t (f (ltb-true 0 n t))) (λ t. rw t)
 
-  and-none : (t b : Bool) → b ≡ false → (t && b) ≡ false
-  and-none true b e = e
-  and-none false b e = refl
-
   along : (pre post : List Visit) → all ≡ pre ++ post → verticalPass w pre post ≡ each (nearEdge vertical) post
   unfolding verticalPass each
   along pre [] e = refl
   along pre (p ∷ post) e =
       rw (
         and-left (p .x) (done pre (p .x - 1) (p .y)) (left-is-done pre p post e),
-        and-none (ltb (p .x + p .wide) w) (done pre (p .x + p .wide) (p .y)) (right-is-not pre p post e),
+        and-false (ltb (p .x + p .wide) w) (done pre (p .x + p .wide) (p .y)) (right-is-not pre p post e),
         along (pre ++ (p ∷ [])) post (e ∙ sym (append-assoc pre (p ∷ []) post)),
       )
 

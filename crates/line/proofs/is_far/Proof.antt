@@ -1,5 +1,4 @@
 -- `line::is_far` meets its contract: every difference of two 16-bit numbers fits 32 bits. Assumes nothing.
-use mathlib.Core.Path.{_∙_}
 use mir.Syntax.{w32}
 use Rattle.laws.proofs.Widths.{back}
 use Rattle.line.specs.Row.{far}

@@ -1,5 +1,4 @@
 -- `line::motion_row` meets its contract: references equal in place, crosswise, or neither. Assumes nothing.
-use mathlib.Core.Path.{_∙_, ap}
 use native.Mathlib.Omega.{arith}
 use borrow.Author.Needs.{needs}
 use Rattle.line.proofs.Rows.{in-place, across, neither}
