@@ -18,6 +18,7 @@ use Rattle.def.specs.declared.Answer.the-variants.{Done, Refused}
 use Rattle.def.specs.declared.Refusal.{Refusal}
 use Rattle.def.specs.declared.Refusal.the-variants.{Sheet, Leaf as PastPicture}
 use Rattle.split.specs.Walk.{Walk, leafWalk, place}
+use Rattle.split.proofs.Blocks.{at-most-half}
 use Rattle.split.proofs.Walks.{leaf-in, leaf-x, leaf-y}
 use Rattle.sheet_lines.specs.Lines.{binary}
 use Rattle.sheet_lines.proofs.Reading.{byte-at}
@@ -25,7 +26,7 @@ use Rattle.sheet.specs.Descent.{Descent, partBy, descend}
 use Rattle.sheet.specs.Taken.{Block, takenBy, Met, Descended}
 use Rattle.sheet.specs.declared.tree.Taken.{Taken}
 use Rattle.sheet.specs.declared.tree.Taken.the-variants.{Done as Took, Refused as NotTaken}
-use Rattle.sheet.proofs.Descents.{Rooted, one-bit, descend-unit, descend-out, descend-leaf, descend-cut, met-x, met-y, met-unit, met-leaf, met-cut, Parts, parts-none, parts-more, parts-stop}
+use Rattle.sheet.proofs.Descents.{Rooted, descend-unit, descend-out, descend-leaf, descend-cut, met-x, met-y, met-unit, met-leaf, met-cut, Parts, parts-none, parts-more, parts-stop}
 
 -- ---- by a leaf's answer
 
@@ -111,8 +112,8 @@ module _ {w h x y side level : ℕ} (b : Block w h x y side level) where
     part-block i l =
         let u = near (i % 2) in
         let v = near (i / 2) in
-        let c = one-bit (i % 2) (side / 2) (omega arith) in
-        let r = one-bit (i / 2) (side / 2) (omega arith) in
+        let c = at-most-half (i % 2) (side / 2) (omega arith) in
+        let r = at-most-half (i / 2) (side / 2) (omega arith) in
         let d = half-unit in
         let t = twice in
         record {

@@ -8,7 +8,7 @@
 use mathlib.Core.Path.{_≡_, refl, sym, ap, ap₂, _∙_, subst}
 use mathlib.Core.List.{List, _∷_}
 use Prim.Native.Nat.{ℕ, zero, suc, _+_, _-_, _*_, _/_, _%_, _^_, _≤_, _<_}
-use native.Mathlib.Nat.{two-pow-succ, add-suc, add-zero, mul-le-mul-right, one-mul}
+use native.Mathlib.Nat.{two-pow-succ, add-suc, add-zero, one-mul}
 use native.Mathlib.Numerals.{add-one}
 use native.Mathlib.Omega.{arith}
 use borrow.Author.Tests.{le-ltb, lt-ltb}
@@ -18,6 +18,7 @@ use lib.Seq.{drop-cons, getD-set-same, getD-set-other}
 use Rattle.def.specs.declared.Answer.the-variants.{Done, Refused}
 use Rattle.def.specs.declared.Refusal.{Refusal}
 use Rattle.split.specs.Walk.{Walk, nothing, andThen, inTurn, leafWalk, byByte, place, part, walk}
+use Rattle.split.proofs.Blocks.{at-most-half}
 use Rattle.split.proofs.Walks.{onward-done, onward-stop, turn-more, walk-x, walk-y, walk-unit, walk-leaf, walk-cut}
 use Rattle.sheet.specs.Descent.{Descent, after, descents, runOut, byDigit, partBy, descend}
 use Rattle.sheet.specs.Taken.{Owns, Agree, Met}
@@ -84,10 +85,6 @@ cell-row l a b p q = omega arith
 shifted : (x n : ℕ) → x % 16 + n < 16 → (x + n) % 16 ≡ x % 16 + n
 shifted x n h = omega arith
 
--- a place across or down, and one half further
-pub one-bit : (bit n : ℕ) → bit ≤ 1 → bit * n ≤ n
-one-bit bit n h = omega (arith, mul-le-mul-right n h, one-mul n)
-
 -- a stretch of n that holds u starts at one of two multiples of n, and at one only
 same-bit : (a b n u lo : ℕ) → a ≤ 1 → b ≤ 1 → lo + a * n ≤ u → u < lo + a * n + n → lo + b * n ≤ u → u < lo + b * n + n → a ≡ b
 same-bit zero zero n u lo p q f g h k = refl
@@ -135,8 +132,8 @@ module _ (k x y : ℕ) (b : Rooted (suc k) x y) where
       let one = pow-pos k in
       let r = b .right in
       let d = b .bottom in
-      let m = one-bit (i % 2) half (omega arith) in
-      let n = one-bit (i / 2) half (omega arith) in
+      let m = at-most-half (i % 2) half (omega arith) in
+      let n = at-most-half (i / 2) half (omega arith) in
       record {
         deep = omega arith;
         right = omega (arith, shifted x (i % 2 * half) (omega arith));
@@ -144,18 +141,18 @@ module _ (k x y : ℕ) (b : Rooted (suc k) x y) where
       }
 
   pub part-column : (i : ℕ) → i < 4 → partX k x i % 16 ≡ x % 16 + i % 2 * half
-  part-column i l = shifted x (i % 2 * half) (omega (arith, twice, pow-pos k, b .right, one-bit (i % 2) half (omega arith)))
+  part-column i l = shifted x (i % 2 * half) (omega (arith, twice, pow-pos k, b .right, at-most-half (i % 2) half (omega arith)))
 
   pub part-row : (i : ℕ) → i < 4 → partY k y i % 16 ≡ y % 16 + i / 2 * half
-  part-row i l = shifted y (i / 2 * half) (omega (arith, twice, pow-pos k, b .bottom, one-bit (i / 2) half (omega arith)))
+  part-row i l = shifted y (i / 2 * half) (omega (arith, twice, pow-pos k, b .bottom, at-most-half (i / 2) half (omega arith)))
 
   pub owns-part : (i : ℕ) → i < 4 → (p : ℕ) → Owns k (partX k x i) (partY k y i) p → Owns (suc k) x y p
   owns-part i l p o =
       let e = twice in
       let c = part-column i l in
       let r = part-row i l in
-      let m = one-bit (i % 2) half (omega arith) in
-      let n = one-bit (i / 2) half (omega arith) in
+      let m = at-most-half (i % 2) half (omega arith) in
+      let n = at-most-half (i / 2) half (omega arith) in
       record { level = omega arith; left = omega arith; right = omega arith; top = omega arith; bottom = omega arith }
 
   pub centre-no-part : (u v : ℕ) → Owns k u v (place k x y) → ⊥

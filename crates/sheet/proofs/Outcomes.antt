@@ -32,7 +32,7 @@ unfolding outcome check
 printed-whole input out out′ r n p =
     let text = textOf input in
     let c : r ≡ length text = p .put .count ∙ zero-add (length text) in
-    let s : out′ ≡ text ++ drop (length text) out = p .put .stored ∙ sets-eq text out 0 (omega (arith, p .put .count, p .fits)) ∙ ap (λ (k : ℕ). text ++ drop k out) (zero-add (length text)) in
+    let s : out′ ≡ text ++ drop (length text) out = p .put .put ∙ sets-eq text out 0 (omega (arith, p .put .count, p .fits)) ∙ ap (λ (k : ℕ). text ++ drop k out) (zero-add (length text)) in
     rw (eq-eqb (length out) 81920 n) (λ i. record { reading = record { number = 0; length = c i }; out = s i })
 
 pub reading-apart : (a b : Printed) → readingOf a ≡ readingOf b → a ≡ b

@@ -1,61 +1,44 @@
 -- Laws of writing: one text after another, byte by byte, and decimal numbers.
---     put-none, put-then, put-byte, put-as, starts-as, put-length, put-start, put-more
+--     put-byte, starts-as, put-length, put-start, put-more
 --     decimal-one, decimal-more, decimal-three, decimal-four    a number's digits, and how many
 --     place-put, place-short, count-put, count-short, line-put, line-none, line-length, refused-put, number-small    lines
 --     places-none, places-more, listing-put    the places of a list, and a whole listing
 -- Assumes nothing.
-use mathlib.Core.Path.{_≡_, refl, sym, ap, ap₂, _∙_, subst}
+use mathlib.Core.Path.{_≡_, refl, sym, ap, _∙_, subst}
 use mathlib.Core.Bool.{Bool, true, false}
 use mathlib.Core.List.{List, [], _∷_, _++_}
 use Prim.Native.Nat.{ℕ, zero, suc, _+_, _*_, _/_, _%_, _^_, _≤_, _<_}
-use native.Mathlib.Nat.{add-zero, pow-succ'}
+use native.Mathlib.Nat.{pow-succ'}
 use native.Mathlib.Numerals.{add-one}
 use native.Mathlib.Decide.{decLt}
 use native.Mathlib.Omega.{arith}
 use borrow.Author.Tests.{lt-ltb, le-ltb, eq-eqb, ne-eqb}
 use lib.Dec.{ltb, eqb}
 use lib.ListN.{length, getD, take, set, length-append}
-use lib.Seq.{sets, length-sets, take-suc}
+use lib.Seq.{length-sets, take-suc}
 use Rattle.laws.specs.Index.{pick}
 use Rattle.def.specs.Refusals.{numberOf}
 use Rattle.def.specs.declared.Refusal.{Refusal}
 use Rattle.def.specs.declared.Refusal.the-variants.{Size, Length, Setting, Split, Leaf, Qp, Sample, Block, Mode, Points, Pivot, Sheet, Record}
-use Rattle.sheet.specs.Puts.{Put, Starts, placesText, numbersText}
+use Rattle.edges.specs.Put.{Put}
+use Rattle.edges.proofs.Puts.{put-none, put-then, put-as}
+use Rattle.sheet.specs.Puts.{Starts, placesText, numbersText}
 use Rattle.sheet.specs.Text.{decimalBy, decimal, placeText, countText, lineText, refusedText}
 use Rattle.sheet.specs.Words.{refusedKey, lineKey, verticalCount, horizontalCount}
 
-sets-append : (vs ws l : List ℕ) (n : ℕ) → sets (sets l n vs) (n + length vs) ws ≡ sets l n (vs ++ ws)
-sets-append [] ws l n = rw add-zero
-sets-append (v ∷ vs) ws l n =
-    let e : n + suc (length vs) ≡ suc n + length vs = omega arith in
-    rw e (sets-append vs ws (set l n v) (suc n))
-
-pub put-none : (out : List ℕ) (at : ℕ) → Put [] out at out at
-put-none out at = record { count = sym (add-zero at); stored = refl }
-
 pub put-byte : (b : ℕ) (out : List ℕ) (at : ℕ) → Put (b ∷ []) out at (set out at b) (at + 1)
-put-byte b out at = record { count = refl; stored = refl }
-
-pub put-as : {s t out : List ℕ} {at : ℕ} {out′ : List ℕ} {r : ℕ} → s ≡ t → Put s out at out′ r → Put t out at out′ r
-put-as {out = out} {at = at} {out′ = out′} {r = r} e p = subst (λ (u : List ℕ). Put u out at out′ r) e p
-
-pub put-then : {s t out out₁ out₂ : List ℕ} {at m r : ℕ} → Put s out at out₁ m → Put t out₁ m out₂ r → Put (s ++ t) out at out₂ r
-put-then {s} {t} {out} {out₁} {out₂} {at} {m} {r} p q =
-    record {
-      count = omega (arith, p .count, q .count, length-append s t);
-      stored = q .stored ∙ ap₂ (λ (l : List ℕ) (k : ℕ). sets l k t) (p .stored) (p .count) ∙ sets-append s t out at;
-    }
+put-byte b out at = record { count = refl; put = refl }
 
 pub starts-as : {s t out out′ : List ℕ} {r : ℕ} → s ≡ t → Starts s out out′ r → Starts t out out′ r
 starts-as {out = out} {out′ = out′} {r = r} e p = subst (λ (u : List ℕ). Starts u out out′ r) e p
 
 -- the buffer keeps its length
 pub put-length : {s out : List ℕ} {at : ℕ} {out′ : List ℕ} {r : ℕ} → Put s out at out′ r → length out′ ≡ length out
-put-length {s} {out} {at} p = ap length (p .stored) ∙ length-sets out at s
+put-length {s} {out} {at} p = ap length (p .put) ∙ length-sets out at s
 
 -- none of a text, and one byte more
 pub put-start : (text out : List ℕ) (at : ℕ) → Put (take 0 text) out at out (at + 0)
-put-start text out at = record { count = refl; stored = refl }
+put-start text out at = record { count = refl; put = refl }
 
 pub put-more : (text out out₁ : List ℕ) (at i : ℕ) → i < length text → Put (take i text) out at out₁ (at + i) → Put (take (i + 1) text) out at (set out₁ (at + i) (getD text i 0)) (at + (i + 1))
 put-more text out out₁ at i l p =

@@ -1,17 +1,11 @@
 -- What the functions that write a text leave behind.
 -- Assumes nothing: these are definitions.
 use mathlib.Core.List.{List, [], _++_}
-use mathlib.Core.Path.{_≡_}
 use Prim.Native.Nat.{ℕ, zero, suc, _+_, _*_, _≤_, _<_}
 use lib.ListN.{length, getD}
-use lib.Seq.{sets}
+use Rattle.edges.specs.Put.{Put}
 use Rattle.sheet.specs.Text.{placeText, countText}
 use Rattle.sheet.specs.Words.{verticalCount, horizontalCount}
-
--- the text stands in the buffer from a place on, and r is the place after it
-pub record Put (text out : List ℕ) (at : ℕ) (out′ : List ℕ) (r : ℕ) : Type 0 where
-  pub count : r ≡ at + length text
-  pub stored : out′ ≡ sets out at text
 
 -- a text that starts the buffer, and fits it
 pub record Starts (text out out′ : List ℕ) (r : ℕ) : Type 0 where

@@ -2,7 +2,8 @@
 ghost use mathlib.Core.Path.{_≡_};
 ghost use Prim.Native.Nat.{_+_, _*_, _≤_, _<_};
 ghost use lib.ListN.{length};
-ghost use Rattle.sheet.specs.Puts.{Put, Starts, Places, placesText, numbersText};
+ghost use Rattle.edges.specs.Put.{Put};
+ghost use Rattle.sheet.specs.Puts.{Starts, Places, placesText, numbersText};
 ghost use Rattle.sheet.specs.Text.{decimal, placeText, countText, lineText, refusedText};
 use def::Refusal;
 use def::refusal_number;

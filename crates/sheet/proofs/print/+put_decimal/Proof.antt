@@ -2,7 +2,8 @@
 use native.Mathlib.Omega.{arith}
 use borrow.Author.Needs.{needs}
 use lib.ListN.{length-set}
-use Rattle.sheet.proofs.Puts.{put-byte, put-as, put-then, decimal-one, decimal-more, decimal-three}
+use Rattle.edges.proofs.Puts.{put-as, put-then}
+use Rattle.sheet.proofs.Puts.{put-byte, decimal-one, decimal-more, decimal-three}
 use Prim.Native.Nat.{ℕ, _/_, _<_}
 use borrow.Fn.Kinds.{In}
 use borrow.Fn.PlainCycle.{Measures, is, falls, and}

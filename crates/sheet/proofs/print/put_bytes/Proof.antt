@@ -5,8 +5,9 @@ use native.Mathlib.Omega.{arith}
 use borrow.Author.Needs.{needs}
 use lib.ListN.{length, take, length-set}
 use lib.Seq.{take-all}
-use Rattle.sheet.specs.Puts.{Put}
-use Rattle.sheet.proofs.Puts.{put-as, put-more, put-start}
+use Rattle.edges.specs.Put.{Put}
+use Rattle.edges.proofs.Puts.{put-as}
+use Rattle.sheet.proofs.Puts.{put-more, put-start}
 use Rattle.sheet.proofs.print.put_bytes.Statement.{statement}
 use Rattle.sheet.proofs.print.put_bytes.Tie as tie
 

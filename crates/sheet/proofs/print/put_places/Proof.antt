@@ -4,7 +4,8 @@ use mathlib.Core.Path.{_≡_, refl, subst, _∙_}
 use native.Mathlib.Omega.{arith}
 use borrow.Author.Needs.{needs}
 use lib.ListN.{length}
-use Rattle.sheet.specs.Puts.{Put, placesText}
+use Rattle.edges.specs.Put.{Put}
+use Rattle.sheet.specs.Puts.{placesText}
 use Rattle.sheet.proofs.Puts.{places-none, places-more}
 use Rattle.sheet.proofs.print.put_places.Statement.{statement}
 use Rattle.sheet.proofs.print.put_places.Tie as tie

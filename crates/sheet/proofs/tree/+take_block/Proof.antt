@@ -5,9 +5,9 @@ use Prim.Native.Nat.{ℕ, _-_, _/_, _%_, _≤_, _<_}
 use native.Mathlib.Omega.{arith}
 use borrow.Author.Needs.{needs}
 use lib.ListN.{length, getD, length-set}
+use Rattle.split.proofs.Blocks.{at-most-half}
 use Rattle.sheet_lines.proofs.Reading.{byte-at}
 use Rattle.sheet.proofs.Blocks.{take-x, take-y, take-unit, take-out, take-leaf, half-less, part-block, digit-one, Cutting, CutParts, cut-none, cut-more, cut-stop, cut-all}
-use Rattle.sheet.proofs.Descents.{one-bit}
 use borrow.Fn.Kinds.{In}
 use borrow.Fn.PlainCycle.{Measures, is, falls, and}
 use Rattle.sheet.proofs.tree.take_block.Reads as take-block
@@ -89,10 +89,10 @@ pub +take-block-spec : {M : Type 1} → statement M
       one = digit-one (s .args .digits .now) (s .args .at) _ (p .1) (e .if4 .left) refl (c .if5 .left);
     } in
     (omega arith, simp length-set (p .3), u, cut-none u _))
-    (λ c. let l = c .before .loop in omega (arith, l .inv .2 .block .right, one-bit (l .part % 2) (c .before .before .before .before .before .before .before .before .before .before .before .args .side / 2) (omega arith)))
-    (λ c. let l = c .before .loop in omega (arith, l .inv .2 .block .near, one-bit (l .part % 2) (c .before .before .before .before .before .before .before .before .before .before .before .args .side / 2) (omega arith)))
-    (λ c. let l = c .before .loop in omega (arith, l .inv .2 .block .bottom, one-bit (l .part / 2) (c .before .before .before .before .before .before .before .before .before .before .before .args .side / 2) (omega arith)))
-    (λ c. let l = c .before .loop in omega (arith, l .inv .2 .block .near-down, one-bit (l .part / 2) (c .before .before .before .before .before .before .before .before .before .before .before .args .side / 2) (omega arith)))
+    (λ c. let l = c .before .loop in omega (arith, l .inv .2 .block .right, at-most-half (l .part % 2) (c .before .before .before .before .before .before .before .before .before .before .before .args .side / 2) (omega arith)))
+    (λ c. let l = c .before .loop in omega (arith, l .inv .2 .block .near, at-most-half (l .part % 2) (c .before .before .before .before .before .before .before .before .before .before .before .args .side / 2) (omega arith)))
+    (λ c. let l = c .before .loop in omega (arith, l .inv .2 .block .bottom, at-most-half (l .part / 2) (c .before .before .before .before .before .before .before .before .before .before .before .args .side / 2) (omega arith)))
+    (λ c. let l = c .before .loop in omega (arith, l .inv .2 .block .near-down, at-most-half (l .part / 2) (c .before .before .before .before .before .before .before .before .before .before .before .args .side / 2) (omega arith)))
     (λ c. omega (arith, c .before .loop .inv .2 .deep))
     (λ c κs. let l = c .before .before .loop in let u = l .inv .2 in
     (omega (arith, half-less (u .block) (u .deep), c .before .before .before .before .before .before .before .before .before .before .before .before .pre .0), (part-block (u .block) (u .deep) _ (c .before .loop-test .taken), u .good, l .inv .3 .within, l .inv .1)))
