@@ -1,16 +1,22 @@
--- `split::list_checked` meets its contract: 1, 2, 3, and then what the walk of the picture finds. Assumes nothing.
-use mathlib.Core.Path.{sym, _∙_}
+-- `edges::list_checked` meets its contract: 1, 2, 3, and then what the walk of the picture finds. Assumes nothing.
+use mathlib.Core.Bool.{Bool, true, false, not}
+use mathlib.Core.Path.{_≡_, sym, _∙_}
 use borrow.Author.Needs.{needs}
 use borrow.Author.Tests.{not-false}
 use Rattle.def.proofs.Sizes.{Sized, sized}
 use Rattle.laws.proofs.Calls.{stops, goes-on}
 use Rattle.split.specs.ListCall.{checkOf}
-use Rattle.split.proofs.Outcomes.{list-lengths-told}
-use Rattle.split.proofs.list_checked.Statement.{statement}
-use Rattle.split.proofs.list_checked.Tie as tie
+use Rattle.split.proofs.Callers.{check-answer}
+use Rattle.edges.proofs.Outcomes.{list-lengths-told}
+use Rattle.edges.proofs.list_checked.Statement.{statement}
+use Rattle.edges.proofs.list_checked.Tie as tie
+
+-- a test that the code found to hold
+passed : {t b : Bool} → b ≡ t → not b ≡ false → t ≡ true
+passed {b = b} e n = sym e ∙ not-false b n
 
 size-told : (c : tie.Else1) → Sized (c .before .before .before .args .w) (c .before .before .before .args .h)
-size-told c = sized _ _ (sym (c .before .size-ok .ensures) ∙ not-false _ (c .if1 .left))
+size-told c = sized _ _ (passed (c .before .size-ok .ensures) (c .if1 .left))
 
 returns : tie.Need-returns
 unfolding checkOf
@@ -30,11 +36,6 @@ returns-3 c =
     goes-on _ _ _ _ _ (d .before .size-ok .ensures) (d .if1 .left)
     (goes-on _ _ _ _ _ (e .before .list-lengths-ok .ensures) (e .if2 .left) (stops _ _ _ _ (c .before .limit-ok .ensures) (c .if3 .taken)))
 
-walk-picture-requires : tie.Need-walk-picture-requires
-walk-picture-requires c κs =
-    let e = c .before .before in
-    (size-told (e .before .before), list-lengths-told _ _ _ _ _ (sym (e .before .list-lengths-ok .ensures) ∙ not-false _ (e .if2 .left)) .0)
-
 returns-4 : tie.Need-returns-4
 unfolding checkOf
 returns-4 c =
@@ -43,7 +44,8 @@ returns-4 c =
     let d = e .before .before in
     goes-on _ _ _ _ _ (d .before .size-ok .ensures) (d .if1 .left)
     (goes-on _ _ _ _ _ (e .before .list-lengths-ok .ensures) (e .if2 .left)
-    (goes-on _ _ _ _ _ (f .before .limit-ok .ensures) (f .if3 .left) (c .walk-picture .ensures)))
+    (goes-on _ _ _ _ _ (f .before .limit-ok .ensures) (f .if3 .left)
+    (check-answer _ _ _ _ (passed (d .before .size-ok .ensures) (d .if1 .left)) (list-lengths-told _ _ _ _ _ (passed (e .before .list-lengths-ok .ensures) (e .if2 .left)) .0) (c .check .ensures))))
 
 pub list-checked-spec : {M : Type 1} → statement M
 list-checked-spec =
@@ -55,5 +57,5 @@ list-checked-spec =
     returns-2
     (λ c κs. search needs)
     returns-3
-    walk-picture-requires
+    (λ c κs. search needs)
     returns-4)

@@ -1,10 +1,10 @@
--- `split::put_edge` meets its contract: which of the two numbers comes first is the pass's. Assumes nothing.
+-- `edges::put_edge` meets its contract: which of the two numbers comes first is the pass's. Assumes nothing.
 use native.Mathlib.Omega.{arith}
 use borrow.Author.Needs.{needs}
 use lib.ListN.{length-set}
-use Rattle.split.proofs.Puts.{edge-across, edge-down}
-use Rattle.split.proofs.put_edge.Statement.{statement}
-use Rattle.split.proofs.put_edge.Tie as tie
+use Rattle.edges.proofs.Puts.{edge-across, edge-down}
+use Rattle.edges.proofs.put_edge.Statement.{statement}
+use Rattle.edges.proofs.put_edge.Tie as tie
 
 slice-write-out-2 : tie.Need-slice-write-out-2
 slice-write-out-2 c = simp length-set (omega arith)

@@ -14,12 +14,12 @@ use lib.Seq.{sets}
 use Rattle.laws.specs.Index.{pick}
 use Rattle.laws.specs.Orders.{each}
 use Rattle.laws.proofs.Orders.{each-append}
 use Rattle.split.specs.Edges.{Pass, Edge, edgeAt, passOf, stretch, edgeNumbers}
-use Rattle.split.specs.Stored.{Put, Starts, stretchNumbers, nearNumbers, leafEdgeNumbers}
 use Rattle.split.proofs.Area.{stretch-length}
 use Rattle.split.proofs.Demand3.{edges-twice}
 use Rattle.split.proofs.Sides.{and-true}
 use Rattle.split.proofs.Stores.{sets-append}
+use Rattle.edges.specs.Put.{Put, Starts, stretchNumbers, nearNumbers, leafEdgeNumbers}
 
 pub put-none : (out : List ℕ) (at : ℕ) → Put [] out at out at
 put-none out at = record { count = sym (add-zero at); put = refl }

@@ -1,13 +1,13 @@
--- `split::put_stretch` meets its contract: after j turns the first j edges are written. Assumes nothing.
+-- `edges::put_stretch` meets its contract: after j turns the first j edges are written. Assumes nothing.
 use mathlib.Core.Path.{_≡_, refl, ap, _∙_}
 use Prim.Native.Nat.{ℕ, _+_, _-_, _*_, _≤_}
 use native.Mathlib.Omega.{arith}
 use lib.ListN.{length}
 use lib.Seq.{sets}
-use Rattle.split.specs.Stored.{Starts, stretchNumbers}
-use Rattle.split.proofs.Puts.{stretch-none, stretch-next, stretch-put}
-use Rattle.split.proofs.put_stretch.Statement.{statement}
-use Rattle.split.proofs.put_stretch.Tie as tie
+use Rattle.edges.specs.Put.{Starts, stretchNumbers}
+use Rattle.edges.proofs.Puts.{stretch-none, stretch-next, stretch-put}
+use Rattle.edges.proofs.put_stretch.Statement.{statement}
+use Rattle.edges.proofs.put_stretch.Tie as tie
 
 abbrev Inv-loop : tie.InvT-loop
 Inv-loop horizontal n out₀ at c a j₀ out j =

@@ -1,9 +1,9 @@
--- `split::list_edges` meets its contract: nothing is written before all checks passed, and then each pass writes its list. Assumes nothing.
+-- `edges::list_edges` meets its contract: nothing is written before all checks passed, and then each pass writes its list. Assumes nothing.
 use mathlib.Core.Path.{sym, _∙_}
 use borrow.Author.Needs.{needs}
-use Rattle.split.proofs.Outcomes.{list-passed, list-refused, list-done}
-use Rattle.split.proofs.list_edges.Statement.{statement}
-use Rattle.split.proofs.list_edges.Tie as tie
+use Rattle.edges.proofs.Outcomes.{list-passed, list-refused, list-done}
+use Rattle.edges.proofs.list_edges.Statement.{statement}
+use Rattle.edges.proofs.list_edges.Tie as tie
 
 pass-edges-requires : tie.Need-pass-edges-requires
 pass-edges-requires c κs =

@@ -1,8 +1,8 @@
--- `split::number_at` meets its contract: a number of 16 bits fits an index. Assumes nothing.
+-- `edges::number_at` meets its contract: a number of 16 bits fits an index. Assumes nothing.
 use native.Mathlib.Omega.{arith}
 use borrow.Author.Needs.{needs}
-use Rattle.split.proofs.number_at.Statement.{statement}
-use Rattle.split.proofs.number_at.Tie as tie
+use Rattle.edges.proofs.number_at.Statement.{statement}
+use Rattle.edges.proofs.number_at.Tie as tie
 
 cast-result : tie.Need-cast-result
 cast-result c = omega (arith, c .shared-slice-known .given (c .before .args .i))

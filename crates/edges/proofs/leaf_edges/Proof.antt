@@ -1,9 +1,9 @@
--- `split::leaf_edges` meets its contract: the near edge, and then the one between two halves if there is one. Assumes nothing.
+-- `edges::leaf_edges` meets its contract: the near edge, and then the one between two halves if there is one. Assumes nothing.
 use native.Mathlib.Omega.{arith}
 use borrow.Author.Needs.{needs}
-use Rattle.split.proofs.Puts.{put-then, put-as, leaf-plain, leaf-halves, near-room, half-starts, half-room, whole-root}
-use Rattle.split.proofs.leaf_edges.Statement.{statement}
-use Rattle.split.proofs.leaf_edges.Tie as tie
+use Rattle.edges.proofs.Puts.{put-then, put-as, leaf-plain, leaf-halves, near-room, half-starts, half-room, whole-root}
+use Rattle.edges.proofs.leaf_edges.Statement.{statement}
+use Rattle.edges.proofs.leaf_edges.Tie as tie
 
 near-edge-requires : tie.Need-near-edge-requires
 near-edge-requires c κs =

@@ -1,8 +1,8 @@
--- `split::near_edge` meets its contract: no edge at the picture's side. Assumes nothing.
+-- `edges::near_edge` meets its contract: no edge at the picture's side. Assumes nothing.
 use borrow.Author.Needs.{needs}
-use Rattle.split.proofs.Puts.{put-none, put-as, near-none, near-some}
-use Rattle.split.proofs.near_edge.Statement.{statement}
-use Rattle.split.proofs.near_edge.Tie as tie
+use Rattle.edges.proofs.Puts.{put-none, put-as, near-none, near-some}
+use Rattle.edges.proofs.near_edge.Statement.{statement}
+use Rattle.edges.proofs.near_edge.Tie as tie
 
 returns : tie.Need-returns
 returns c =

@@ -1,12 +1,12 @@
--- `split::leaves_edges` meets its contract: after j turns the edges of the first j leaves are written. Assumes nothing.
+-- `edges::leaves_edges` meets its contract: after j turns the edges of the first j leaves are written. Assumes nothing.
 use mathlib.Core.Path.{_≡_, refl, _∙_}
 use Prim.Native.Nat.{_-_, _*_, _≤_}
 use native.Mathlib.Omega.{arith}
 use borrow.Author.Needs.{needs}
 use lib.ListN.{length}
-use Rattle.split.proofs.Listing.{Written, none-written, leaf-asks, one-written, all-written}
-use Rattle.split.proofs.leaves_edges.Statement.{statement}
-use Rattle.split.proofs.leaves_edges.Tie as tie
+use Rattle.edges.proofs.Written.{Written, none-written, leaf-asks, one-written, all-written}
+use Rattle.edges.proofs.leaves_edges.Statement.{statement}
+use Rattle.edges.proofs.leaves_edges.Tie as tie
 
 abbrev Inv-loop : tie.InvT-loop
 Inv-loop list n horizontal short out₀ at k₀ j₀ out k j =
