@@ -45,11 +45,12 @@ use Rattle.split.specs.Ranks.{rank as visitingRank}
 use Rattle.split.specs.Walk.{onward, inTurn, leafWalk, byByte, walk}
 use Rattle.split.specs.declared.Rank.the-variants.{Done as Ranked, Refused as NotRanked}
 use Rattle.split.proofs.Apart.{leaves-apart, rank-apart, list-apart}
+use Rattle.sheet_lines.specs.Lines.{startOf, lineOf, startsWith, isNumber, numberLine, edgeLine, sameLine, splitsLine, numberAfter, valueFrom, lineOk, firstBad, widthOf, heightOf, limitOf, digitsOf}
+use Rattle.sheet_lines.specs.Words.{widthKey, heightKey, limitKey, ownEdge, splitsKey}
 use Rattle.sheet.specs.Descent.{descents, descend}
-use Rattle.sheet.specs.Lines.{startOf, lineOf, startsWith, isNumber, numberLine, edgeLine, sameLine, splitsLine, numberAfter, valueFrom, lineOk, firstBad, widthOf, heightOf, limitOf, digitsOf}
 use Rattle.sheet.specs.Listing as listing
 use Rattle.sheet.specs.Text.{sidesOk, foundBy, foundOf, foundIn}
-use Rattle.sheet.specs.Words.{widthKey, heightKey, limitKey, ownEdge, splitsKey, newline}
+use Rattle.sheet.specs.Words.{newline}
 use Rattle.sheet.proofs.Outcomes.{reading-apart as printed-apart}
 use Rattle.decoder.specs.Promise.{ended, Sole, Refuses, refusalIn}
 use Rattle.decoder.proofs.Refusing.{last, rung, by-checks, root-stops, picture-stops, sheet-rung, digits-said}

@@ -139,7 +139,7 @@ pub extern "C" fn lomsakeun_list_edges(
         (record { w = w; h = h; splits = now (splits .entry); limit = limit; vertical = now (vertical .entry); horizontal = now (horizontal .entry) })
         (record { reading = record { number = n; vertical = now («vertical_count» .exit); horizontal = now («horizontal_count» .exit) }; vertical = now (vertical .exit); horizontal = now (horizontal .exit) }) ⌝ }
 {
-    let seen = list_numbers(split::list_edges(w, h, splits, limit, vertical, horizontal));
+    let seen = list_numbers(edges::list_edges(w, h, splits, limit, vertical, horizontal));
     *vertical_count = seen.vertical;
     *horizontal_count = seen.horizontal;
     seen.number

@@ -21,10 +21,10 @@ use crate::tree::Taken;
 use crate::tree::root_count;
 use crate::tree::take_picture;
 use def::Refusal;
+use edges::list_edges;
 use sheet_lines::Sheet;
 use sheet_lines::read;
 use split::Listed;
-use split::list_edges;
 
 // How many bytes the text has.
 pub enum Printed {

@@ -1,7 +1,9 @@
 -- What a caller learns from the contracts of `leaves` and `check`.
 --     check-told    a picture that `check` does not refuse is accepted
+--     check-answer    where size and length are right, what `check` answers is what the walk finds
 --     leaves-told    a list that `leaves` filled reads back as the root's leaves
 --     leaves-given    of an accepted picture `leaves` refuses no root
+--     leaves-met    where its checks pass, `leaves` does not refuse
 --     index-back    the number of the root at the place of root i is i
 -- Assumes nothing.
 use mathlib.Core.Bool.{true}
@@ -13,12 +15,13 @@ use native.Mathlib.Omega.{arith}
 use borrow.Author.Tests.{eq-eqb, lt-ltb}
 use lib.ListN.{length}
 use lib.Seq.{sets}
-use Rattle.def.specs.Answers.{afterChecks}
+use Rattle.def.specs.Answers.{answerNumber, afterChecks}
 use Rattle.def.specs.Picture.{sizeOk, rootsAlong, rootCount}
 use Rattle.def.specs.Refusals.{numberOf}
 use Rattle.def.specs.declared.Answer.{Answer}
 use Rattle.def.specs.declared.Answer.the-variants.{Done, Refused}
-use Rattle.def.proofs.Answers.{number-some}
+use Rattle.def.specs.declared.Refusal.{Refusal}
+use Rattle.def.proofs.Answers.{number-some, answer-apart}
 use Rattle.def.proofs.Sizes.{sized}
 use Rattle.laws.specs.Call.{Gives}
 use Rattle.laws.specs.Orders.{each}
@@ -26,7 +29,8 @@ use Rattle.split.specs.CheckCall as check-call
 use Rattle.split.specs.LeavesCall as leaves-call
 use Rattle.split.specs.Picture.{roots, rootWalk, pictureWalk}
 use Rattle.split.specs.Stored.{leafNumbers, counted, leavesFrom, Ready, Stored}
-use Rattle.split.specs.declared.Walked.the-variants.{Done as Counted}
+use Rattle.split.specs.declared.Walked.{Walked}
+use Rattle.split.specs.declared.Walked.the-variants.{Done as Counted, Refused as NotCounted}
 use Rattle.split.proofs.Listing.{read-back, ready}
 use Rattle.split.proofs.Outcomes.{LeavesPassed, leaves-passed}
 use Rattle.split.proofs.Roots.{index-in, roots-units}
@@ -41,6 +45,15 @@ accepted (Refused r) e = absurd (omega (arith, number-some r, ap (λ (o : check-
 pub check-told : (i : check-call.Input) → Gives check-call.outcome i (check-call.numbered 0) → check-call.check i ≡ Done
 unfolding check-call.outcome
 check-told i e = accepted (check-call.check i) e
+
+answered : (a k : Answer) → check-call.numbered (answerNumber a) ≡ afterChecks (λ r. check-call.numbered (numberOf r)) (check-call.numbered 0) k → a ≡ k
+answered a Done e = answer-apart a Done (ap (λ (o : check-call.Outcome). o .number) e)
+answered a (Refused r) e = answer-apart a (Refused r) (ap (λ (o : check-call.Outcome). o .number) e)
+
+pub check-answer : (w h : ℕ) (s : List ℕ) (a : Answer) → sizeOk w h ≡ true → length s ≡ 1024 * rootCount w h
+    → Gives check-call.outcome (record { w = w; h = h; splits = s }) (check-call.numbered (answerNumber a)) → a ≡ pictureWalk s (w / 4) (h / 4) .answer
+unfolding check-call.outcome check-call.check
+check-answer w h s a z l e = answered a (pictureWalk s (w / 4) (h / 4) .answer) (rw (z, eq-eqb _ _ l) at e)
 
 -- ---- leaves
 
@@ -93,3 +106,9 @@ leaves-given w h s x y z e d cx cy px py =
     let g : at < roots (w / 4) (h / 4) = rw (roots-units (sized w h z)) (index-in (sized w h z) x y px py) in
     let f = each-done (rootWalk s (w / 4) (h / 4)) (roots (w / 4) (h / 4)) d at g in
     rw (z, eq-eqb _ _ e, eq-eqb _ _ cx, eq-eqb _ _ cy, lt-ltb _ _ px, lt-ltb _ _ py) f
+
+pub leaves-met : (i : leaves-call.Input) (r : Walked) (o : List ℕ) (q : Refusal) → leaves-call.check i ≡ Done → Gives leaves-call.outcome i (leaves-call.after r o) → r ≡ NotCounted q → ⊥
+unfolding leaves-call.outcome
+leaves-met i r o q d e z =
+    let f : leaves-call.after (NotCounted q) o ≡ leaves-call.done i = ap (λ (a : Walked). leaves-call.after a o) (sym z) ∙ e ∙ ap (afterChecks (leaves-call.refused i) (leaves-call.done i)) d in
+    omega (arith, number-some q, ap (λ (p : leaves-call.Outcome). p .reading .number) f)

@@ -12,7 +12,6 @@ pub mod Outcomes
 pub mod Parts
 pub mod Passes
 pub mod Places
-pub mod Puts
 pub mod Ranks
 pub mod Roots
 pub mod Rows

@@ -12,14 +12,11 @@ use Rattle.laws.specs.Call.{Gives}
 use Rattle.laws.proofs.Calls.{one-outcome}
 use Rattle.split.specs.CheckCall as check-call
 use Rattle.split.specs.LeavesCall as leaves-call
-use Rattle.split.specs.ListCall as list-call
 use Rattle.split.specs.RankCall as rank-call
 use Rattle.split.proofs.check.Reads as check-reads
 use Rattle.split.proofs.check.Kinds as check-kinds
 use Rattle.split.proofs.leaves.Reads as leaves-reads
 use Rattle.split.proofs.leaves.Kinds as leaves-kinds
-use Rattle.split.proofs.list_edges.Reads as list-reads
-use Rattle.split.proofs.list_edges.Kinds as list-kinds
 use Rattle.split.proofs.visiting_rank.Reads as rank-reads
 use Rattle.split.proofs.visiting_rank.Kinds as rank-kinds
 
@@ -31,9 +28,6 @@ check-once = one-outcome check-call.outcome
 
 pub rank-once : (i : rank-call.Input) (a b : rank-call.Outcome) → Gives rank-call.outcome i a → Gives rank-call.outcome i b → a ≡ b
 rank-once = one-outcome rank-call.outcome
-
-pub list-once : (i : list-call.Input) (a b : list-call.Outcome) → Gives list-call.outcome i a → Gives list-call.outcome i b → a ≡ b
-list-once = one-outcome list-call.outcome
 
 -- ---- as the contracts name the answer and the lent lists
 
@@ -51,10 +45,3 @@ check-read κs a r r′ x x′ p q = p ∙ sym q
 pub rank-read : (κs : Lfts 0) (a : Dens κs rank-kinds.ps) (r r′ : resT rank-kinds.r κs .Denot) (x x′ : AtExit (endedOf 0 rank-kinds.ps rank-kinds.r) κs)
     → rank-reads.Post κs a r x → rank-reads.Post κs a r′ x′ → rank-call.after r ≡ rank-call.after r′
 rank-read κs a r r′ x x′ p q = p ∙ sym q
-
-abbrev list-seen : (κs : Lfts 3) → resT list-kinds.r κs .Denot → AtExit (endedOf 3 list-kinds.ps list-kinds.r) κs → list-call.Outcome
-list-seen κs r x = list-call.after r (now (x .1 .1 .1 .1 .0)) (now (x .1 .1 .1 .1 .1 .0))
-
-pub list-read : (κs : Lfts 3) (a : Dens κs list-kinds.ps) (r r′ : resT list-kinds.r κs .Denot) (x x′ : AtExit (endedOf 3 list-kinds.ps list-kinds.r) κs)
-    → list-reads.Post κs a r x → list-reads.Post κs a r′ x′ → list-seen κs r x ≡ list-seen κs r′ x′
-list-read κs a r r′ x x′ p q = p ∙ sym q

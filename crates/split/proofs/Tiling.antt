@@ -1,7 +1,7 @@
 -- The leaves of a walk that is not refused tile the block: each unit of the picture is in the leaf that the descent finds,
 -- that leaf is in the list, and each leaf of the list is what the descent finds from each of its units.
 -- Assumes nothing.
-use mathlib.Core.Logic.{_⊎_, ⊎-elim}
+use mathlib.Core.Logic.{⊎-elim}
 use mathlib.Core.List.{List, List·Memᴰ, List·Memᴰ·head, List·Memᴰ·not-nil, List·Memᴰ·append-cases, List·Memᴰ·eq-of-singleton, Memᴰ·append-left, Memᴰ·append-right}
 use mathlib.Core.Path.{_≡_, refl, sym, _∙_, subst}
 use Prim.Native.Nat.{ℕ, suc, _+_, _^_, _≤_, _<_}

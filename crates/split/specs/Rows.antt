@@ -4,7 +4,7 @@ use mathlib.Core.Bool.{Bool, true, not, _&&_, _||_}
 use mathlib.Core.List.{List, [], _∷_, _++_}
 use mathlib.Core.Logic.{_⊎_}
 use mathlib.Core.Path.{_≡_}
-use Prim.Native.Nat.{ℕ, zero, suc, _+_, _-_, _%_, _<_}
+use Prim.Native.Nat.{ℕ, zero, suc, _-_, _%_, _<_}
 use lib.Dec.{ltb, eqb}
 use Rattle.laws.specs.Index.{pick}
 use Rattle.split.specs.Edges.{Pass, vertical, horizontal, Edge, edge}

@@ -192,7 +192,7 @@ fn texture(rng: &mut Rng, w: usize, h: usize) -> Vec<u16> {
 
 /// Unit words with a QP of low..=high, intra and luma-coded sometimes, the other bits anything.
 fn deblock_words(rng: &mut Rng, units: usize, low: i64, high: i64) -> Vec<u32> {
-    let (intra, coded) = (rng.pick(&[0, 1, 3, 8]), rng.pick(&[0, 2, 4, 8]));
+    let (intra, coded) = (rng.pick(&[0, 0, 1, 3, 8]), rng.pick(&[0, 0, 1, 2, 4, 8]));
     let one = |rng: &mut Rng| {
         let coded = (rng.below(8) < coded) as u32;
         let word = word(rng, 4, intra) & !(127 << 16 | 1 << 24);

@@ -1,0 +1,4 @@
+pub mod Once
+pub mod Outcomes
+pub mod Puts
+pub mod Written
