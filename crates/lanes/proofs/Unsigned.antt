@@ -109,3 +109,12 @@ line-free a b c d st ha hb hc hd =
       c = turned p n u v h below above c i;
       d = (ap (λ (x : ℕ). movedN (ltb a d) d (min (gapN a d / 4) x)) k ∙ far-d a d ((u + v) / 2) ha hd) i;
     })
+
+-- the same, by its steps
+pub line-steps : (a b c d st u v e f b₁ c₁ : ℕ) → a ≤ 1023 → b ≤ 1023 → c ≤ 1023 → d ≤ 1023
+    → u ≡ riseOf a b c d st → v ≡ riseOf d c b a st → e ≡ easeOf a d ((u + v) / 2) → f ≡ easeOf d a ((u + v) / 2)
+    → b₁ ≡ min ((b - v) + u) 1023 → c₁ ≡ min ((c - u) + v) 1023
+    → record { a = (a - e) + f; b = b₁; c = c₁; d = (d - f) + e } ≡ lineOf a b c d st
+line-steps a b c d st u v e f b₁ c₁ ha hb hc hd pu pv pe pf pb pc =
+    (λ i. record { a = (a - pe i) + pf i; b = pb i; c = pc i; d = (d - pf i) + pe i })
+    ∙ (λ i. freeN a b c d (pu i) (pv i)) ∙ sym (line-free a b c d st ha hb hc hd)
