@@ -116,24 +116,6 @@ spot d w h x z p q a =
       chroma-z = omega arith;
     }
 
--- ---- a picture whose planes have changed, but not their lengths
-
-pub frame-kept : {w h : ℕ} {y u v y₁ u₁ v₁ words : List ℕ} {motion refs : List ℤ} {entries : List ℕ} → length y₁ ≡ length y → length u₁ ≡ length u → length v₁ ≡ length v
-    → Frame w h y u v words motion refs entries → Frame w h y₁ u₁ v₁ words motion refs entries
-frame-kept a b c f =
-    record {
-      wide = f .wide;
-      high = f .high;
-      long-y = a ∙ f .long-y;
-      long-u = b ∙ f .long-u;
-      long-v = c ∙ f .long-v;
-      long-words = f .long-words;
-      long-motion = f .long-motion;
-      long-refs = f .long-refs;
-      long-entries = f .long-entries;
-      qps = f .qps;
-    }
-
 -- ---- a stretch, one edge more at a time
 
 stretch-more : (d : Pass) (c a n : ℕ) → stretch d c a (n + 1) ≡ stretch d c a n ++ (edgeAt d c (a + n) ∷ [])

@@ -34,9 +34,8 @@ use Rattle.split.proofs.Places.{sound-at}
 use Rattle.split.proofs.Roots.{roots-units, some-wide, root-column, root-row}
 use Rattle.split.proofs.Walks.{each-done, few-leaves}
 use Rattle.df_rules.specs.Leaves.{Accepted, Leaves, Rooted}
-use Rattle.df_rules.specs.Frame.{Frame}
-use Rattle.df_rules.specs.Visit.{State, Visited, cleared}
-use Rattle.df_rules.proofs.Marks.{frame-alike, frame-visited, cleared-alikes}
+use Rattle.df_rules.specs.Visit.{State, Visited}
+use Rattle.df_rules.proofs.Frames.{Framed, frame-visited}
 use Rattle.df_rules.proofs.Visits.{visit-none, visit-then, visited-as}
 
 each-more : {A B : Type 0} (f : A → List B) (l : List A) (a : A) → each f l ++ f a ≡ each f (l ++ (a ∷ []))
@@ -173,15 +172,10 @@ module _ (motion refs : List ℤ) (t : List ℕ) (d : Pass) (short : Bool) (s : 
   unfolding Roots
   roots-few i a b g = g .few
 
-  pub roots-frame : {y u v : List ℕ} (i : ℕ) (a b : State) → Roots i a b → Frame w h y u v (a .words) motion refs t → Frame w h y u v (b .words) motion refs t
+  pub roots-frame : (i : ℕ) (a b : State) → Roots i a b → Framed w h motion refs t (a .planes) (a .words) → Framed w h motion refs t (b .planes) (b .words)
   unfolding Roots
   roots-frame i a b g f = frame-visited g f
 
   pub roots-all : (i : ℕ) (a b : State) → i ≡ roots w h → i ≤ 4096 → Roots i a b → Visited motion refs t d w (visits d short s w h) 67108864 a b
   unfolding Roots
   roots-all i a b e few g = visited-as (ap (λ (j : ℕ). each (visitOf d short) (leavesOf s w h j)) e) (omega arith) g
-
--- ---- a picture whose done is cleared
-
-pub frame-cleared : {w h : ℕ} {y u v words : List ℕ} {motion refs : List ℤ} {t : List ℕ} → Frame w h y u v words motion refs t → Frame w h y u v (cleared words) motion refs t
-frame-cleared {words = words} f = frame-alike (cleared-alikes words) f

@@ -22,7 +22,7 @@ use Rattle.split.specs.Passes.{has}
 use Rattle.split.proofs.Sides.{and-true}
 use Rattle.df_rules.specs.Frame.{Frame}
 use Rattle.laws.proofs.Tabulate.{length-tabulate, getD-tabulate}
-use Rattle.df_rules.specs.Visit.{cleared, marked, State, visited, visitedAll, Visited}
+use Rattle.df_rules.specs.Visit.{cleared, marked, State, visited, visitedAll}
 
 -- ---- words that differ in done alone
 
@@ -109,7 +109,7 @@ unfolding run
 visited-alike motion refs t d w [] s = alikes-refl (s .words)
 visited-alike motion refs t d w (p ∷ l) s = alikes-trans (visited-alike motion refs t d w l (visited motion refs t d w p s)) (marked-alike w p (s .words))
 
--- ---- a picture after visits
+-- ---- a picture of other words
 
 pub frame-alike : {w h : ℕ} {y u v words words₁ : List ℕ} {motion refs : List ℤ} {t : List ℕ} → Alikes words₁ words → Frame w h y u v words motion refs t → Frame w h y u v words₁ motion refs t
 frame-alike a f =
@@ -124,9 +124,7 @@ frame-alike a f =
       long-refs = f .long-refs;
       long-entries = f .long-entries;
       qps = λ k. omega (arith, a .same k .qp, f .qps k);
+      all-y = f .all-y;
+      all-u = f .all-u;
+      all-v = f .all-v;
     }
-
-pub frame-visited : {w h : ℕ} {y u v : List ℕ} {motion refs : List ℤ} {t : List ℕ} {d : Pass} {l : List Visit} {n : ℕ} {a b : State}
-    → Visited motion refs t d w l n a b → Frame w h y u v (a .words) motion refs t → Frame w h y u v (b .words) motion refs t
-frame-visited {w} {motion = motion} {refs} {t} {d} {l} {a = a} {b} g f =
-    frame-alike (subst (λ (s : State). Alikes (s .words) (a .words)) (sym (g .state)) (visited-alike motion refs t d w l a)) f

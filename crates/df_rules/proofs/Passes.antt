@@ -40,7 +40,7 @@ use Rattle.df_rules.proofs.Marks.{Alikes, alikes-at, cleared-alikes, ma
 
 -- ---- what a word holds after done is set again, or cleared before
 
-set-set : (x : ℕ) → withDone (withDone x) ≡ withDone x
+pub set-set : (x : ℕ) → withDone (withDone x) ≡ withDone x
 unfolding withField
 set-set x = omega arith
 
@@ -69,7 +69,7 @@ module _ (motion refs : List ℤ) (t : List ℕ) where
     v = window d Chroma w (strength-alike a inV (unitQ w e) (unitP d w e) i) e (p .v);
   }
 
-  filter-alike : {l m : List ℕ} (d : Pass) (w : ℕ) → Alikes l m → (es : List Edge) (p : Planes) → filterAll (by l) t d w es p ≡ filterAll (by m) t d w es p
+  pub filter-alike : {l m : List ℕ} (d : Pass) (w : ℕ) → Alikes l m → (es : List Edge) (p : Planes) → filterAll (by l) t d w es p ≡ filterAll (by m) t d w es p
   unfolding run
   filter-alike d w a [] p = refl
   filter-alike {l} {m} d w a (e ∷ es) p = filter-alike d w a es (filterOne (by l) t d w e p) ∙ ap (filterAll (by m) t d w es) (one-alike d w a e p)

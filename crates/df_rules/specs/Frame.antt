@@ -9,6 +9,7 @@ use Rattle.def.specs.Word.{qpOf}
 use Rattle.split.specs.Edges.{Pass, vertical, horizontal, Edge}
 use Rattle.df_rules.specs.Filter.{Planes, filterAll}
 use Rattle.df_rules.specs.Strength.{Maps}
+use Rattle.df_rules.specs.Window.{Samples}
 
 -- k is a unit of the maps, and its QP has an entry
 pub record Unit (words : List ℕ) (motion refs : List ℤ) (k : ℕ) : Type 0 where
@@ -29,6 +30,9 @@ pub record Frame (w h : ℕ) (y u v words : List ℕ) (motion refs : List ℤ) (
   pub long-refs : length refs ≡ 2 * (h * w)
   pub long-entries : length entries ≡ 624
   pub qps : (k : ℕ) → qpOf (getD words k 0) ≤ 51
+  pub all-y : Samples y
+  pub all-u : Samples u
+  pub all-v : Samples v
 
 -- how many units a picture of w by h has across a pass's edges, and along them
 abbrev pub unitsAcross : Pass → (w h : ℕ) → ℕ

@@ -1,6 +1,6 @@
 -- Lines of a plane, filtered where they lie. A line's four samples start at `at` and lie `step` apart; the next line starts `next` further on.
 -- Assumes nothing: these are definitions.
-use Prim.Native.Nat.{ℕ, zero, suc, _+_, _*_}
+use Prim.Native.Nat.{ℕ, zero, suc, _+_, _*_, _≤_}
 use mathlib.Core.Bool.{Bool, true, false}
 use mathlib.Core.List.{List}
 use lib.Dec.{eqb}
@@ -33,3 +33,7 @@ linesAt m st step next at (suc n) xs = lineAt m st step (at + n * next) (linesAt
 -- strength 0 leaves the window untouched
 unfoldable pub windowAt : Mask → (st step next at n : ℕ) → List ℕ → List ℕ
 windowAt m st step next at n xs = pick (eqb st 0) xs (linesAt m st step next at n xs)
+
+-- every element is a sample
+abbrev pub Samples : List ℕ → Type 0
+Samples xs = (k : ℕ) → getD xs k 0 ≤ 1023
