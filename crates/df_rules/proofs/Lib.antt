@@ -1,6 +1,7 @@
 pub mod Both
 pub mod Edges
 pub mod Frames
+pub mod Lanes
 pub mod Leaves
 pub mod Marks
 pub mod Passes

@@ -1,5 +1,6 @@
 pub mod Filter
 pub mod Frame
+pub mod Lanes
 pub mod Leaves
 pub mod Places
 pub mod Strength

@@ -1,6 +1,7 @@
 -- Lanes of a list of 32: what `lanesOf` has in each, and a loop that puts one lane after the other.
 --     lane-of       lane k of the answer is what lane k became
 --     on-samples    on samples that is the line filter itself
+--     own-lane, other-lane    what putting a lane changes, and what not
 -- Assumes nothing.
 use mathlib.Core.Path.{_≡_, refl, sym, ap, _∙_}
 use mathlib.Core.List.{List, _++_}
@@ -78,7 +79,7 @@ by-lanes l m p q e = ext-getD 0 l m (p ∙ sym q) (λ i h. go i (omega arith) (d
 abbrev pub laid : List ℕ → ℕ → Quad → List ℕ
 laid l k q = set (set (set (set l k (q .a)) (k + 8) (q .b)) (k + 16) (q .c)) (k + 24) (q .d)
 
-laid-long : (l : List ℕ) (k : ℕ) (q : Quad) → length (laid l k q) ≡ length l
+pub laid-long : (l : List ℕ) (k : ℕ) (q : Quad) → length (laid l k q) ≡ length l
 laid-long l k q = simp length-set
 
 module _ (l : List ℕ) (k : ℕ) (q : Quad) where
@@ -101,7 +102,7 @@ module _ (l : List ℕ) (k : ℕ) (q : Quad) where
   under₃ : (i : ℕ) → i < k + 24 → getD (laid l k q) i 0 ≡ getD l₃ i 0
   under₃ i h = getD-set-other l₃ (k + 24) i (q .d) 0 (λ (e : i ≡ k + 24). omega arith)
 
-  own-lane : k < 8 → length l ≡ 32 → laneOf (laid l k q) k ≡ q
+  pub own-lane : k < 8 → length l ≡ 32 → laneOf (laid l k q) k ≡ q
   own-lane h e = λ i. record {
     a = (under₃ k (omega arith) ∙ under₂ k (omega arith) ∙ under₁ k (omega arith) ∙ getD-set-same l k (q .a) 0 (omega arith)) i;
     b = (under₃ (k + 8) (omega arith) ∙ under₂ (k + 8) (omega arith) ∙ getD-set-same l₁ (k + 8) (q .b) 0 (simp length-set (omega arith))) i;
@@ -115,7 +116,7 @@ module _ (l : List ℕ) (k : ℕ) (q : Quad) where
       getD-set-other l₃ (k + 24) i (q .d) 0 p₃ ∙ getD-set-other l₂ (k + 16) i (q .c) 0 p₂
       ∙ getD-set-other l₁ (k + 8) i (q .b) 0 p₁ ∙ getD-set-other l k i (q .a) 0 p₀
 
-  other-lane : (j : ℕ) → k < 8 → j < 8 → (j ≡ k → ⊥) → laneOf (laid l k q) j ≡ laneOf l j
+  pub other-lane : (j : ℕ) → k < 8 → j < 8 → (j ≡ k → ⊥) → laneOf (laid l k q) j ≡ laneOf l j
   other-lane j h g n = λ i. record {
     a = off j n (λ (e : j ≡ k + 8). omega arith) (λ (e : j ≡ k + 16). omega arith) (λ (e : j ≡ k + 24). omega arith) i;
     b = off (j + 8) (λ (e : j + 8 ≡ k). omega arith) (λ (e : j + 8 ≡ k + 8). n (omega arith)) (λ (e : j + 8 ≡ k + 16). omega arith) (λ (e : j + 8 ≡ k + 24). omega arith) i;
