@@ -1,6 +1,4 @@
+pub mod Calls
+pub mod Demand3
 pub mod Edges
-pub mod Leaves
-pub mod Marks
-pub mod Passes
-pub mod Visits
-pub mod Windows
+pub mod Once

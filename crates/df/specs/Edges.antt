@@ -1,32 +1,20 @@
--- What the functions of a unit's edge ask for and give.
+-- What the functions of a unit's edge ask for and give, over the types of the code.
 -- Assumes nothing: these are definitions.
-use Prim.Native.Nat.{ℕ, _+_, _*_, _%_, _≤_, _<_}
+use Prim.Native.Nat.{ℕ, _+_, _*_, _<_}
 use mathlib.Core.List.{List}
 use mathlib.Core.Path.{_≡_}
-use lib.IntN.{ℤ}
-use lib.ListN.{length, getD}
-use Rattle.def.specs.Word.{qpOf}
-use Rattle.split.specs.Edges.{Pass, vertical, horizontal, Edge}
-use Rattle.df.specs.Places.{stepAcross, stepAlong, lineStart}
-use Rattle.df.specs.Filter.{inY, inU, inV, Planes, filterAll}
-use Rattle.df.specs.Strength.{Maps, strengthOf}
+use lib.ListN.{length}
+use Rattle.def.specs.declared.Component.the-variants.{Luma, Chroma}
+use Rattle.line.specs.Line.{maskOf}
+use Rattle.split.specs.Edges.{Pass, vertical, horizontal}
+use Rattle.df_rules.specs.Filter.{inY, inU, inV}
+use Rattle.df_rules.specs.Places.{stepAcross, stepAlong, lineStart}
+use Rattle.df_rules.specs.Strength.{Maps, strengthOf}
+use Rattle.df_rules.specs.Window.{windowAt}
 use Rattle.df.specs.declared.edge.Pass as code
 use Rattle.df.specs.declared.edge.Pass.the-variants.{Vertical, Horizontal}
 use Rattle.df.specs.declared.window.Place.{Place}
 use Rattle.df.specs.declared.window.Strengths.{Strengths}
-
--- k is a unit of the maps, and its QP has an entry
-pub record Unit (words : List ℕ) (motion refs : List ℤ) (k : ℕ) : Type 0 where
-  pub word : k < length words
-  pub mv : 4 * k + 4 ≤ length motion
-  pub refi : 2 * k + 2 ≤ length refs
-  pub qp : qpOf (getD words k 0) ≤ 51
-
--- the strengths of an edge
-pub record Strong (m : Maps) (entries : List ℕ) (q p : ℕ) (st : Strengths) : Type 0 where
-  pub y : st .y ≡ strengthOf m entries inY q p
-  pub u : st .u ≡ strengthOf m entries inU q p
-  pub v : st .v ≡ strengthOf m entries inV q p
 
 -- a pass as the theory has it
 abbrev pub passOf : code.Pass → Pass
@@ -36,43 +24,18 @@ passOf Horizontal = horizontal
 abbrev pub placeOf : Pass → (wide c a : ℕ) → Place
 placeOf d wide c a = record { at = lineStart d wide c a; step = stepAcross d wide; next = stepAlong d wide }
 
--- a picture of w by h units with its maps, and the entries of a pass
-pub record Frame (w h : ℕ) (y u v words : List ℕ) (motion refs : List ℤ) (entries : List ℕ) : Type 0 where
-  pub wide : w ≤ 1024
-  pub high : h ≤ 1024
-  pub long-y : length y ≡ 4 * h * (4 * w)
-  pub long-u : length u ≡ 2 * h * (2 * w)
-  pub long-v : length v ≡ 2 * h * (2 * w)
-  pub long-words : length words ≡ h * w
-  pub long-motion : length motion ≡ 4 * (h * w)
-  pub long-refs : length refs ≡ 2 * (h * w)
-  pub long-entries : length entries ≡ 624
-  pub qps : (k : ℕ) → qpOf (getD words k 0) ≤ 51
+-- the strengths of an edge
+pub record Strong (m : Maps) (entries : List ℕ) (q p : ℕ) (st : Strengths) : Type 0 where
+  pub y : st .y ≡ strengthOf m entries inY q p
+  pub u : st .u ≡ strengthOf m entries inU q p
+  pub v : st .v ≡ strengthOf m entries inV q p
 
--- how many units a picture of w by h has across a pass's edges, and along them
-abbrev pub unitsAcross : Pass → (w h : ℕ) → ℕ
-unitsAcross vertical w h = w
-unitsAcross horizontal w h = h
+-- n further lines lie in the plane
+abbrev pub Inside : Place → ℕ → List ℕ → Type 0
+Inside p n xs = p .at + n * p .next + 3 * p .step < length xs
 
-abbrev pub unitsAlong : Pass → (w h : ℕ) → ℕ
-unitsAlong vertical w h = h
-unitsAlong horizontal w h = w
-
--- c across and a along is the first luma sample of a unit that has one before it
-pub record AtUnit (d : Pass) (w h c a : ℕ) : Type 0 where
-  pub whole-c : c % 4 ≡ 0
-  pub whole-a : a % 4 ≡ 0
-  pub inner : 4 ≤ c
-  pub across : c < 4 * unitsAcross d w h
-  pub along : a < 4 * unitsAlong d w h
-
--- and n units from there on along the edge
-pub record AtUnits (d : Pass) (w h c a n : ℕ) : Type 0 where
-  pub first : AtUnit d w h c a
-  pub last : a + 4 * n ≤ 4 * unitsAlong d w h
-
--- the edges of a list were filtered and counted
-pub record Gone (m : Maps) (entries : List ℕ) (d : Pass) (w : ℕ) (l : List Edge) (most count : ℕ) (p q : Planes) (r : ℕ) : Type 0 where
-  pub planes : q ≡ filterAll m entries d w l p
-  pub counted : r ≡ count + length l
-  pub few : r ≤ count + most
+-- a unit's edge in all three planes: four lines of luma, two of each chroma plane
+pub record Windowed (luma chroma : Place) (st : Strengths) (y₀ u₀ v₀ y₁ u₁ v₁ : List ℕ) : Type 0 where
+  pub y : y₁ ≡ windowAt (maskOf Luma) (st .y) (luma .step) (luma .next) (luma .at) 4 y₀
+  pub u : u₁ ≡ windowAt (maskOf Chroma) (st .u) (chroma .step) (chroma .next) (chroma .at) 2 u₀
+  pub v : v₁ ≡ windowAt (maskOf Chroma) (st .v) (chroma .step) (chroma .next) (chroma .at) 2 v₀

@@ -1,7 +1,3 @@
+pub mod Deblock
+pub mod Demand3
 pub mod Edges
-pub mod Filter
-pub mod Leaves
-pub mod Places
-pub mod Strength
-pub mod Visit
-pub mod Window

@@ -1,5 +1,186 @@
 // Deblocking: which edges are filtered, in which order, and with which strength. How a line is filtered is `line`'s matter.
 // The Rust beside it: df.rs.
+ghost use mathlib.Core.Path.{_≡_};
+ghost use Prim.Native.Nat.{_/_};
+ghost use lib.ListN.{length};
+ghost use Rattle.laws.specs.Call.{Gives};
+ghost use Rattle.split.specs.Edges.{vertical, horizontal, edgeList};
+ghost use Rattle.df_check.specs.ChromaQp.{vTable};
+ghost use Rattle.df_check.specs.Entries.{entriesOf};
+ghost use Rattle.df_rules.specs.Frame.{Frame, Both};
+ghost use Rattle.df_rules.specs.Leaves.{Accepted};
+ghost use Rattle.df.specs.Deblock as Deblock;
+ghost use Rattle.df.specs.Edges.{passOf};
+use crate::edge::Pass;
+use crate::pass::deblock_pass;
+use def::Answer;
+use def::Refusal;
+use df_check::Settings;
+use df_check::VEdge;
+use df_check::checked;
+use df_check::entries;
+
 mod window; // window.rt: the lines of a unit's edge, in one plane and in all three
 mod edge; // edge.rt: a unit's edge, its strengths, and the edges of a block's side
 mod pass; // pass.rt: done bits, and the edges of a leaf or half, of a root and of the picture
+
+// How many edges each pass filtered, or why nothing was written.
+pub enum Deblocked {
+    Done { vertical: usize, horizontal: usize },
+    Refused(Refusal),
+}
+
+// The strength entries of a pass: V looks into table 1, but on vertical edges, with `source`, into table 0.
+fn pass_entries(
+    pass: Pass,
+    strengths: &[u8],
+    table0: &[i8],
+    table1: &[i8],
+    s: Settings,
+) -> [u8; 624]
+    ensures { λ r. ⌜ r ≡ entriesOf (now (strengths .entry)) (now (table0 .entry)) (s .«u_offset») (vTable (s .«v_edge») (passOf pass) (now (table0 .entry)) (now (table1 .entry))) (s .«v_offset») ⌝ }
+{
+    let v_edge = s.v_edge;
+    match pass {
+        Pass::Horizontal => entries(strengths, table0, s.u_offset, table1, s.v_offset),
+        Pass::Vertical => match v_edge {
+            VEdge::Source => entries(strengths, table0, s.u_offset, table0, s.v_offset),
+            VEdge::Own => entries(strengths, table0, s.u_offset, table1, s.v_offset),
+        },
+    }
+}
+
+// How many edges the passes filtered.
+struct Counts {
+    vertical: usize,
+    horizontal: usize,
+}
+
+// Both passes, by the entries of each: the vertical pass covers the whole picture first.
+fn both_passes(
+    short: bool,
+    w: usize,
+    h: usize,
+    y: &mut [u16],
+    u: &mut [u16],
+    v: &mut [u16],
+    words: &mut [u32],
+    splits: &[u8],
+    motion: &[i16],
+    refs: &[i8],
+    ver: &[u8],
+    hor: &[u8],
+) -> Counts
+    requires { ⌜ Frame (w / 4) (h / 4) (now y) (now u) (now v) (now words) (now motion) (now refs) (now ver) × (length (now hor) ≡ 624) × Accepted w h (now splits) ⌝ }
+    ensures { λ r. ⌜ Both (record { words = now (words .entry); motion = now (motion .entry); refs = now (refs .entry) }) (now (ver .entry)) (now (hor .entry))
+        (w / 4) (edgeList vertical short (now (splits .entry)) (w / 4) (h / 4)) (edgeList horizontal short (now (splits .entry)) (w / 4) (h / 4))
+        (record { y = now (y .entry); u = now (u .entry); v = now (v .entry) }) (record { y = now (y .exit); u = now (u .exit); v = now (v .exit) })
+        (now (words .exit)) (r .vertical) (r .horizontal) ⌝ }
+{
+    let m = deblock_pass(
+        Pass::Vertical,
+        short,
+        w,
+        h,
+        &mut *y,
+        &mut *u,
+        &mut *v,
+        &mut *words,
+        splits,
+        motion,
+        refs,
+        ver,
+    );
+    let n = deblock_pass(
+        Pass::Horizontal,
+        short,
+        w,
+        h,
+        &mut *y,
+        &mut *u,
+        &mut *v,
+        &mut *words,
+        splits,
+        motion,
+        refs,
+        hor,
+    );
+    Counts {
+        vertical: m,
+        horizontal: n,
+    }
+}
+
+// evc_deblock: everything is checked before the first write.
+pub fn deblock(
+    w: usize,
+    h: usize,
+    y: &mut [u16],
+    u: &mut [u16],
+    v: &mut [u16],
+    words: &mut [u32],
+    splits: &[u8],
+    motion: &[i16],
+    refs: &[i8],
+    table0: &[i8],
+    table1: &[i8],
+    strengths: &[u8],
+    settings: Settings,
+) -> Deblocked
+    ensures { λ r. ⌜ Gives Deblock.outcome
+        (record {
+          w = w;
+          h = h;
+          y = now (y .entry);
+          u = now (u .entry);
+          v = now (v .entry);
+          words = now (words .entry);
+          splits = now (splits .entry);
+          motion = now (motion .entry);
+          refs = now (refs .entry);
+          table0 = now (table0 .entry);
+          table1 = now (table1 .entry);
+          strengths = now (strengths .entry);
+          settings = settings;
+        })
+        (record { reading = Deblock.readingOf r; y = now (y .exit); u = now (u .exit); v = now (v .exit); words = now (words .exit) }) ⌝ }
+{
+    let found = checked(
+        w,
+        h,
+        &*y,
+        &*u,
+        &*v,
+        &*words,
+        splits,
+        motion.len(),
+        refs.len(),
+        table0,
+        table1,
+        strengths.len(),
+        settings,
+    );
+    if let Answer::Refused(r) = found {
+        return Deblocked::Refused(r);
+    }
+    let ver = pass_entries(Pass::Vertical, strengths, table0, table1, settings);
+    let hor = pass_entries(Pass::Horizontal, strengths, table0, table1, settings);
+    let n = both_passes(
+        settings.limit == 5,
+        w,
+        h,
+        y,
+        u,
+        v,
+        words,
+        splits,
+        motion,
+        refs,
+        &ver,
+        &hor,
+    );
+    Deblocked::Done {
+        vertical: n.vertical,
+        horizontal: n.horizontal,
+    }
+}

@@ -3,7 +3,8 @@
 ghost use mathlib.Core.Path.{_≡_};
 ghost use Prim.Native.Nat.{_+_, _-_, _*_, _<_};
 ghost use lib.ListN.{length};
-ghost use Rattle.df.specs.Window.{putIf, lineAt, linesAt, windowAt, Inside, Windowed};
+ghost use Rattle.df_rules.specs.Window.{putIf, lineAt, linesAt, windowAt};
+ghost use Rattle.df.specs.Edges.{Inside, Windowed};
 use def::Component;
 use line::Mask;
 

@@ -4,10 +4,10 @@
 --     half-less, part-block    its parts
 --     Cutting, CutParts, cut-none, cut-more, cut-stop, cut-all    a block that is cut, part by part
 -- Assumes nothing.
-use mathlib.Core.Path.{_≡_, refl, sym, ap, ap₂, _∙_, subst}
+use mathlib.Core.Path.{_≡_, refl, sym, ap, _∙_, subst}
 use mathlib.Core.Bool.{true}
 use mathlib.Core.List.{List}
-use Prim.Native.Nat.{ℕ, zero, suc, _+_, _-_, _*_, _/_, _%_, _^_, _≤_, _<_}
+use Prim.Native.Nat.{ℕ, suc, _+_, _-_, _*_, _/_, _%_, _^_, _≤_, _<_}
 use native.Mathlib.Nat.{two-pow-succ}
 use native.Mathlib.Numerals.{add-one}
 use native.Mathlib.Omega.{arith}
@@ -19,13 +19,13 @@ use Rattle.def.specs.declared.Refusal.{Refusal}
 use Rattle.def.specs.declared.Refusal.the-variants.{Sheet, Leaf as PastPicture}
 use Rattle.split.specs.Walk.{Walk, leafWalk, place}
 use Rattle.split.proofs.Walks.{leaf-in, leaf-x, leaf-y}
-use Rattle.sheet.specs.Descent.{Descent, descents, partBy, descend}
-use Rattle.sheet.specs.Lines.{binary}
+use Rattle.sheet_lines.specs.Lines.{binary}
+use Rattle.sheet_lines.proofs.Reading.{byte-at}
+use Rattle.sheet.specs.Descent.{Descent, partBy, descend}
 use Rattle.sheet.specs.Taken.{Block, takenBy, Met, Descended}
 use Rattle.sheet.specs.declared.tree.Taken.{Taken}
 use Rattle.sheet.specs.declared.tree.Taken.the-variants.{Done as Took, Refused as NotTaken}
 use Rattle.sheet.proofs.Descents.{Rooted, one-bit, descend-unit, descend-out, descend-leaf, descend-cut, met-x, met-y, met-unit, met-leaf, met-cut, Parts, parts-none, parts-more, parts-stop}
-use Rattle.sheet.proofs.Reading.{byte-at}
 
 -- ---- by a leaf's answer
 

@@ -6,22 +6,19 @@
 --     Parts, parts-none, parts-more, parts-stop    the parts of a block that is cut
 -- Assumes nothing.
 use mathlib.Core.Path.{_≡_, refl, sym, ap, ap₂, _∙_, subst}
-use mathlib.Core.List.{List, [], _∷_}
+use mathlib.Core.List.{List, _∷_}
 use Prim.Native.Nat.{ℕ, zero, suc, _+_, _-_, _*_, _/_, _%_, _^_, _≤_, _<_}
 use native.Mathlib.Nat.{two-pow-succ, add-suc, add-zero, mul-le-mul-right, one-mul}
 use native.Mathlib.Numerals.{add-one}
 use native.Mathlib.Omega.{arith}
-use native.Mathlib.Decide.{decLt}
 use borrow.Author.Tests.{le-ltb, lt-ltb}
 use lib.ListN.{length, drop, getD, set, drop-of-length-le}
 use lib.Pow.{pow-pos}
 use lib.Seq.{drop-cons, getD-set-same, getD-set-other}
-use Rattle.def.specs.declared.Answer.{Answer}
 use Rattle.def.specs.declared.Answer.the-variants.{Done, Refused}
 use Rattle.def.specs.declared.Refusal.{Refusal}
-use Rattle.def.specs.declared.Refusal.the-variants.{Sheet}
-use Rattle.split.specs.Walk.{Walk, met, nothing, andThen, inTurn, leafWalk, byByte, place, part, walk}
-use Rattle.split.proofs.Walks.{onward-done, onward-stop, turn-none, turn-more, walk-x, walk-y, walk-unit, walk-leaf, walk-cut}
+use Rattle.split.specs.Walk.{Walk, nothing, andThen, inTurn, leafWalk, byByte, place, part, walk}
+use Rattle.split.proofs.Walks.{onward-done, onward-stop, turn-more, walk-x, walk-y, walk-unit, walk-leaf, walk-cut}
 use Rattle.sheet.specs.Descent.{Descent, after, descents, runOut, byDigit, partBy, descend}
 use Rattle.sheet.specs.Taken.{Owns, Agree, Met}
 

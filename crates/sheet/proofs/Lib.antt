@@ -1,13 +1,10 @@
 pub mod Blocks
 pub mod Descents
-pub mod Forms
 pub mod Founds
-pub mod Ladder
 pub mod Lists
 pub mod Once
 pub mod Outcomes
 pub mod Pictures
 pub mod Puts
-pub mod Reading
 pub mod Room
 pub mod Texts

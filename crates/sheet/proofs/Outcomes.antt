@@ -4,22 +4,20 @@
 --     text-fits                   the text that was written lies in the buffer
 -- Assumes nothing.
 use mathlib.Core.List.{List, _++_}
-use mathlib.Core.Path.{_≡_, refl, sym, ap, ap₂, _∙_}
-use Prim.Native.Nat.{ℕ, _+_, _≤_}
+use mathlib.Core.Path.{_≡_, sym, ap, _∙_}
+use Prim.Native.Nat.{ℕ, _≤_}
 use native.Mathlib.Nat.{zero-add}
 use native.Mathlib.Omega.{arith}
 use borrow.Author.Tests.{eq-eqb, ne-eqb}
 use lib.ListN.{length, drop, length-append, length-drop}
-use lib.Seq.{sets, sets-eq}
+use lib.Seq.{sets-eq}
 use Rattle.laws.specs.Call.{Gives}
 use Rattle.def.specs.Answers.{afterChecks}
-use Rattle.def.specs.Refusals.{numberOf}
 use Rattle.def.specs.declared.Answer.{Answer}
 use Rattle.def.specs.declared.Answer.the-variants.{Done, Refused}
-use Rattle.def.specs.declared.Refusal.{Refusal}
 use Rattle.def.specs.declared.Refusal.the-variants.{Length}
 use Rattle.def.proofs.Answers.{number-apart, number-some}
-use Rattle.sheet.specs.Listing.{Input, Reading, Outcome, readingOf, check, refused, done, outcome}
+use Rattle.sheet.specs.Listing.{Reading, Outcome, readingOf, check, refused, done, outcome}
 use Rattle.sheet.specs.Puts.{Starts}
 use Rattle.sheet.specs.Text.{textOf}
 use Rattle.sheet.specs.declared.Printed.{Printed}

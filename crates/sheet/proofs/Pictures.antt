@@ -5,14 +5,14 @@
 -- Assumes nothing.
 use mathlib.Core.Path.{_≡_, refl, sym, ap, ap₂, _∙_, subst}
 use mathlib.Core.List.{List, _++_}
-use Prim.Native.Nat.{ℕ, zero, suc, _+_, _-_, _*_, _/_, _%_, _^_, _≤_, _<_}
-use native.Mathlib.Nat.{add-suc, add-zero, mod-lt, div-le-self, mul-le-mul-right}
+use Prim.Native.Nat.{ℕ, zero, suc, _+_, _-_, _*_, _/_, _%_, _≤_, _<_}
+use native.Mathlib.Nat.{mod-lt, div-le-self, mul-le-mul-right}
 use native.Mathlib.Numerals.{add-one}
 use native.Mathlib.Omega.{arith}
 use borrow.Rule.Slice.PartMut.{putMid, take-put, mid-len}
 use lib.ListN.{length, take, drop, take-append-drop, length-append, length-drop}
 use lib.Seq.{length-take-le, take-append-le, drop-append-le, take-at, drop-at}
-use Rattle.def.specs.declared.Answer.the-variants.{Done, Refused}
+use Rattle.def.specs.declared.Answer.the-variants.{Refused}
 use Rattle.def.specs.declared.Refusal.{Refusal}
 use Rattle.split.specs.Picture.{across, roots, rootBytes, rootX, rootY, rootWalk}
 use Rattle.split.specs.Walk.{Walk, andThen, inTurn, walk}

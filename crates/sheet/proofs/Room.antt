@@ -3,24 +3,23 @@
 --     leaves-met               the leaves of a map that is walked to its end
 -- Assumes nothing.
 use mathlib.Core.Bool.{Bool}
-use mathlib.Core.List.{List, [], _∷_, _++_, List·Memᴰ}
-use mathlib.Core.Path.{_≡_, refl, sym, ap, ap₂, _∙_, subst}
+use mathlib.Core.List.{List, _++_, List·Memᴰ}
+use mathlib.Core.Path.{_≡_, refl, sym, ap, _∙_}
 use Prim.Native.Nat.{ℕ, zero, suc, _+_, _-_, _*_, _/_, _%_, _≤_, _<_}
-use native.Mathlib.Nat.{mul-le-mul-left, mul-le-mul-right}
+use native.Mathlib.Nat.{mul-le-mul-right}
 use native.Mathlib.Omega.{arith}
 use lib.Arith.{digits-div, digits-mod}
 use lib.ListN.{length}
 use Rattle.def.specs.declared.Answer.the-variants.{Done}
-use Rattle.laws.specs.Orders.{Pairwise}
 use Rattle.laws.proofs.Counting.{few-below}
 use Rattle.laws.proofs.Orders.{pairwise-imp}
 use Rattle.split.specs.Demand3.{Demand3}
-use Rattle.split.specs.Edges.{Pass, vertical, horizontal, Edge, edge, edgeList}
-use Rattle.split.specs.Picture.{roots, rootWalk, pictureWalk, leavesOf, allLeaves}
-use Rattle.split.specs.Rows.{crossOf, alongOf, EdgeOf}
-use Rattle.split.specs.Walk.{Walk, onward, inTurn}
+use Rattle.split.specs.Edges.{Pass, vertical, horizontal, Edge, edgeList}
+use Rattle.split.specs.Picture.{rootWalk, pictureWalk, leavesOf}
+use Rattle.split.specs.Rows.{crossOf, alongOf}
+use Rattle.split.specs.Walk.{inTurn}
 use Rattle.split.proofs.Demand3.{demand-3}
-use Rattle.split.proofs.Walks.{both, turn-more}
+use Rattle.split.proofs.Walks.{both}
 
 -- ---- how many edges
 

@@ -1,6 +1,4 @@
 pub mod Descent
-pub mod Fields
-pub mod Lines
 pub mod Listing
 pub mod Puts
 pub mod Taken

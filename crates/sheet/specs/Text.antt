@@ -15,8 +15,8 @@ use Rattle.def.specs.declared.Refusal.the-variants.{Size, Setting, Sheet}
 use Rattle.split.specs.Edges.{Pass, vertical, horizontal, Edge, visitOf, nearEdge}
 use Rattle.split.specs.ListCall.{limitOk}
 use Rattle.split.specs.Walk.{Leaf}
+use Rattle.sheet_lines.specs.Lines.{firstBad, widthOf, heightOf, limitOf, digitsOf}
 use Rattle.sheet.specs.Descent.{Descent, pictureDescent}
-use Rattle.sheet.specs.Lines.{firstBad, widthOf, heightOf, limitOf, digitsOf}
 use Rattle.sheet.specs.Words.{refusedKey, lineKey, verticalCount, horizontalCount, newline}
 
 -- ---- what is found in a sheet

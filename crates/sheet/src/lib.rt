@@ -1,29 +1,28 @@
 // The sheet and its listing, bytes to bytes. There is no Rust beside it.
 ghost use mathlib.Core.Path.{_≡_};
 ghost use mathlib.Core.Bool.{true};
-ghost use Prim.Native.Nat.{_*_, _/_, _≤_};
+ghost use Prim.Native.Nat.{_*_, _/_};
 ghost use lib.ListN.{length};
 ghost use Rattle.laws.specs.Call.{Gives};
 ghost use Rattle.split.specs.ListCall.{limitOk};
 ghost use Rattle.split.specs.Picture.{roots};
-ghost use Rattle.sheet.specs.Lines.{binary};
+ghost use Rattle.sheet_lines.specs.Lines.{binary};
 ghost use Rattle.sheet.specs.Listing.{readingOf, outcome};
 ghost use Rattle.sheet.specs.Puts.{Starts};
 ghost use Rattle.sheet.specs.Taken.{Walked, edgesText};
 ghost use Rattle.sheet.specs.Text.{sidesOk, foundOf, printed, textOf};
 
-mod lines;
 mod print;
 mod tree;
 
-use crate::lines::Sheet;
-use crate::lines::read;
 use crate::print::put_listing;
 use crate::print::put_refusal;
 use crate::tree::Taken;
 use crate::tree::root_count;
 use crate::tree::take_picture;
 use def::Refusal;
+use sheet_lines::Sheet;
+use sheet_lines::read;
 use split::Listed;
 use split::list_edges;
 

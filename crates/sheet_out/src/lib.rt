@@ -1,11 +1,14 @@
 // The listing of a sheet, written to standard output: what `edgelist` and the replay of recorded sheets share.
 ghost use mathlib.Core.Path.{_≡_};
+ghost use lib.ListN.{replicate};
 ghost use Rattle.sheet.specs.Listing.{outcome};
 use libc::STDOUT_FILENO;
 use sheet::Printed;
 
 // The buffer that `listing` asks for. A call keeps the checker from looking into the array.
-pub fn room() -> [u8; 81920] {
+pub fn room() -> [u8; 81920]
+    ensures { λ r. ⌜ r ≡ replicate 81920 0 ⌝ }
+{
     [0u8; 81920]
 }
 

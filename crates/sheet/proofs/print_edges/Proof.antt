@@ -1,10 +1,9 @@
 -- `sheet::print_edges` meets its contract: the buffers are as long as the call asks. Assumes nothing.
 use Prim.Native.Nat.{ℕ, _*_, _/_, _≤_}
-use mathlib.Core.Path.{_≡_, sym}
+use mathlib.Core.Path.{sym}
 use native.Mathlib.Nat.{mul-le-mul-right}
 use native.Mathlib.Omega.{arith}
 use borrow.Author.Needs.{needs}
-use lib.ListN.{length}
 use lib.Seq.{length-take-le}
 use Rattle.sheet.specs.Taken.{Sides}
 use Rattle.sheet.proofs.print_edges.Statement.{statement}

@@ -1,5 +1,4 @@
 -- `sheet::print_lists` meets its contract: the call does not refuse, and its lists are printed. Assumes nothing.
-use mathlib.Core.Path.{_≡_, sym, ap, _∙_}
 use native.Mathlib.Omega.{arith}
 use borrow.Author.Needs.{needs}
 use Rattle.sheet.proofs.Lists.{limit-small, not-refused, listed-both, Printable, printable}

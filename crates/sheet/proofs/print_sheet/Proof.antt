@@ -1,20 +1,21 @@
 -- `sheet::print_sheet` meets its contract: a malformed line, or digits that follow five good lines. Assumes nothing.
-use mathlib.Core.Path.{_≡_, sym, _∙_}
+use mathlib.Core.Path.{sym, _∙_}
 use native.Mathlib.Omega.{arith}
 use borrow.Author.Needs.{needs}
-use Rattle.sheet.proofs.Founds.{Whole, whole-sheet, good-sheet, bad-line}
+use Rattle.sheet_lines.proofs.Answers.{answer-is, Whole, whole-sheet, bad-line}
+use Rattle.sheet.proofs.Founds.{good-sheet, bad-sheet}
 use Rattle.sheet.proofs.Puts.{starts-as}
 use Rattle.sheet.proofs.print_sheet.Statement.{statement}
 use Rattle.sheet.proofs.print_sheet.Tie as tie
 
 -- what the five lines say
 told : (c : tie.After-known-told2) → let g = c .before .w .given .0 in Whole (c .before .before .before .before .before .before .args .input .now) (g .0) (g .1 .0) (g .1 .1 .0) (g .1 .1 .1 .0) (g .1 .1 .1 .1 .0)
-told c = whole-sheet _ _ _ _ _ _ (sym (c .before .before .before .read .ensures) ∙ c .before .w .given .1)
+told c = whole-sheet _ _ _ _ _ _ (sym (answer-is _ _ (c .before .before .before .read .ensures)) ∙ c .before .w .given .1)
 
 put-refusal-requires : tie.Need-put-refusal-requires
 put-refusal-requires c κs =
-    let m = bad-line _ _ (sym (c .before .before .before .before .read .ensures) ∙ c .before .before .line .given .1) in
-    (omega (arith, m .0), omega (arith, c .before .before .before .before .before .before .before .pre))
+    let m = bad-line _ _ (sym (answer-is _ _ (c .before .before .before .before .read .ensures)) ∙ c .before .before .line .given .1) in
+    (omega (arith, m .small), omega (arith, c .before .before .before .before .before .before .before .pre))
 
 sub-print-digits : tie.Need-sub-print-digits
 sub-print-digits c = told c .ordered
@@ -29,7 +30,9 @@ print-digits-requires : tie.Need-print-digits-requires
 print-digits-requires c κs = (told (c .before .before) .two, c .before .before .before .before .before .before .before .before .pre)
 
 returns : tie.Need-returns
-returns c = starts-as (bad-line _ _ (sym (c .before .before .before .before .before .before .before .read .ensures) ∙ c .before .before .before .before .before .line .given .1) .1) (c .before .before .put-refusal .ensures)
+returns c =
+    let u = c .before .before .before .before .before in
+    starts-as (bad-sheet _ _ (bad-line _ _ (sym (answer-is _ _ (u .before .before .read .ensures)) ∙ u .line .given .1))) (c .before .before .put-refusal .ensures)
 
 returns-2 : tie.Need-returns-2
 returns-2 c = starts-as (good-sheet _ _ _ _ _ _ (told (c .before .before .before .before .before))) (c .before .before .print-digits .ensures)

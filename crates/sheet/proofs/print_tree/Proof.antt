@@ -1,5 +1,5 @@
 -- `sheet::print_tree` meets its contract: a refusal of the walk, digits left over, or the edges. Assumes nothing.
-use mathlib.Core.Path.{_≡_, sym, subst, _∙_}
+use mathlib.Core.Path.{subst, _∙_}
 use Prim.Native.Nat.{_/_}
 use borrow.Author.Needs.{needs}
 use Rattle.split.specs.Picture.{roots}

@@ -4,11 +4,13 @@ use mathlib.Core.Path.{_≡_, sym, ap, _∙_, subst}
 use native.Mathlib.Omega.{arith}
 use borrow.Author.Needs.{needs}
 use Rattle.df.specs.declared.window.Place.{Place}
-use Rattle.df.specs.Edges.{passOf, placeOf, Unit, Strong}
+use Rattle.df_rules.specs.Frame.{Unit}
+use Rattle.df.specs.Edges.{passOf, placeOf, Strong}
 use Rattle.split.specs.Edges.{edgeAt}
-use Rattle.df.specs.Places.{unitQ, unitP}
-use Rattle.df.specs.Window.{Inside}
-use Rattle.df.proofs.Edges.{Spot, spot, unit-q, unit-p, p-before, inside, strong-at, edge-is}
+use Rattle.df_rules.specs.Places.{unitQ, unitP}
+use Rattle.df.specs.Edges.{Inside}
+use Rattle.df_rules.proofs.Edges.{Spot, spot, unit-q, unit-p, p-before, inside}
+use Rattle.df.proofs.Edges.{strong-at, edge-is}
 use Rattle.df.proofs.edge.edge.Statement.{statement}
 use Rattle.df.proofs.edge.edge.Tie as tie
 

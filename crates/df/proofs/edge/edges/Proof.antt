@@ -5,8 +5,9 @@ use native.Mathlib.Omega.{arith}
 use lib.ListN.{length}
 use Rattle.split.specs.Edges.{stretch}
 use Rattle.df.specs.Edges.{passOf}
-use Rattle.df.specs.Filter.{filterAll}
-use Rattle.df.proofs.Edges.{few-along, frame-kept, filter-none, filter-more}
+use Rattle.df_rules.specs.Filter.{filterAll}
+use Rattle.df_rules.proofs.Edges.{few-along, filter-none, filter-more}
+use Rattle.df_rules.proofs.Frames.{frame-filtered}
 use Rattle.df.proofs.edge.edges.Statement.{statement}
 use Rattle.df.proofs.edge.edges.Tie as tie
 
@@ -31,7 +32,7 @@ edge-requires c κs =
     let s = c .before .before .before .before .before .before .before .before .before .before in
     let l = c .before .before .before .before .loop .inv in
     let a = s .pre .1 .first in (
-      frame-kept (l .1) (l .2) (l .3) (s .pre .0),
+      frame-filtered _ _ (passOf (s .args .pass)) _ _ (l .4) (s .pre .0),
       record { whole-c = a .whole-c; whole-a = omega arith; inner = a .inner; across = a .across; along = omega arith },
     )
 

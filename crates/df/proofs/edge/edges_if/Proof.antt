@@ -1,7 +1,7 @@
 -- `df::edge::edges_if` meets its contract: an arm for each answer of the test. Assumes nothing.
 use borrow.Author.Needs.{needs}
 use Rattle.df.specs.Edges.{passOf}
-use Rattle.df.proofs.Edges.{went, stayed}
+use Rattle.df_rules.proofs.Edges.{went, stayed}
 use Rattle.df.proofs.edge.edges_if.Statement.{statement}
 use Rattle.df.proofs.edge.edges_if.Tie as tie
 

@@ -4,7 +4,7 @@ use native.Mathlib.Omega.{arith}
 use borrow.Author.Needs.{needs}
 use Rattle.line.specs.Row.{motionRow}
 use Rattle.line.proofs.Rows.{either-intra, either-coded, by-motion}
-use Rattle.df.specs.Strength.{rowAt}
+use Rattle.df_rules.specs.Strength.{rowAt}
 use Rattle.df.proofs.edge.row_at.Statement.{statement}
 use Rattle.df.proofs.edge.row_at.Tie as tie
 

@@ -3,7 +3,7 @@ use Prim.Native.Nat.{_+_, _*_}
 use mathlib.Core.Path.{_∙_}
 use borrow.Author.Needs.{needs}
 use lib.ListN.{getD}
-use Rattle.df.specs.Strength.{strengthOf}
+use Rattle.df_rules.specs.Strength.{strengthOf}
 use Rattle.df.proofs.edge.strengths_at.Statement.{statement}
 use Rattle.df.proofs.edge.strengths_at.Tie as tie
 

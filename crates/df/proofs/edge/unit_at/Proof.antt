@@ -6,7 +6,7 @@ use native.Mathlib.Omega.{arith}
 use borrow.Author.Needs.{needs}
 use Rattle.split.specs.Edges.{edgeAt}
 use Rattle.df.specs.Edges.{passOf}
-use Rattle.df.specs.Places.{unitQ}
+use Rattle.df_rules.specs.Places.{unitQ}
 use Rattle.df.proofs.edge.unit_at.Statement.{statement}
 use Rattle.df.proofs.edge.unit_at.Tie as tie
 

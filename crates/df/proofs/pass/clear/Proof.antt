@@ -6,7 +6,7 @@ use borrow.Author.Needs.{needs}
 use lib.ListN.{length, getD}
 use Rattle.laws.proofs.Fill.{Upto, upto-none, upto-more, upto-all}
 use Rattle.def.specs.Word.{withoutDone}
-use Rattle.df.specs.Visit.{cleared}
+use Rattle.df_rules.specs.Visit.{cleared}
 use Rattle.df.proofs.pass.clear.Statement.{statement}
 use Rattle.df.proofs.pass.clear.Tie as tie
 

@@ -4,8 +4,8 @@ use mathlib.Core.Path.{_∙_}
 use borrow.Author.Needs.{needs}
 use Rattle.split.specs.Edges.{visit}
 use Rattle.df.specs.Edges.{passOf}
-use Rattle.df.specs.Visit.{marked}
-use Rattle.df.proofs.Visits.{block-fits, visit-one}
+use Rattle.df_rules.specs.Visit.{marked}
+use Rattle.df_rules.proofs.Visits.{block-fits, visit-one}
 use Rattle.df.proofs.pass.deblock_cu.Statement.{statement}
 use Rattle.df.proofs.pass.deblock_cu.Tie as tie
 

@@ -6,9 +6,8 @@ use native.Mathlib.Nat.{le-refl}
 use borrow.Author.Needs.{needs}
 use Rattle.split.specs.Edges.{visit}
 use Rattle.df.specs.Edges.{passOf}
-use Rattle.df.proofs.Edges.{frame-kept}
-use Rattle.df.proofs.Marks.{frame-visited}
-use Rattle.df.proofs.Visits.{Half, half-few, first-half, second-half, two-halves, visit-then, visited-as}
+use Rattle.df_rules.proofs.Frames.{frame-visited}
+use Rattle.df_rules.proofs.Visits.{Half, half-few, first-half, second-half, two-halves, visit-then, visited-as}
 use Rattle.df.proofs.pass.deblock_halves.Statement.{statement}
 use Rattle.df.proofs.pass.deblock_halves.Tie as tie
 
@@ -30,7 +29,7 @@ deblock-cu-requires-2 : tie.Need-deblock-cu-requires-2
 deblock-cu-requires-2 c κs =
     let s = c .before .before .before .before .before .before .before .before .before .before .before .before .before .before .before .before .before .before .before .before .before .before .before .before .before .before in
     let l = c .before .before .before .before .before .before .before .before .before .before .before .before .before .before .deblock-cu in (
-      frame-visited (l .ensures) (frame-kept (l .kept .1 .1 .0) (l .kept .1 .1 .1 .0) (l .kept .1 .1 .1 .1 .0) (s .pre .0)),
+      frame-visited (l .ensures) (s .pre .0),
       (second-half _ _ _ _ _ _ (s .pre .1 .0) (passOf (s .args .pass)) (sides (c .before .before .before .before .before .before .before .before .before .before .before .before .before .before .before .before .before .before .before)), omega (arith, s .pre .1 .1, l .ensures .few)),
     )
 

@@ -7,8 +7,8 @@ use borrow.Author.Needs.{needs}
 use borrow.Author.Tests.{eqb-true}
 use Rattle.split.proofs.Sides.{and-true}
 use Rattle.df.specs.Edges.{passOf}
-use Rattle.df.specs.Visit.{Block}
-use Rattle.df.proofs.Visits.{cut-leaf, whole-leaf, visited-as}
+use Rattle.df_rules.specs.Visit.{Block}
+use Rattle.df_rules.proofs.Visits.{cut-leaf, whole-leaf, visited-as}
 use Rattle.df.proofs.pass.deblock_leaf.Statement.{statement}
 use Rattle.df.proofs.pass.deblock_leaf.Tie as tie
 

@@ -6,12 +6,11 @@ use borrow.Author.Needs.{needs}
 use lib.ListN.{length}
 use Rattle.laws.specs.Orders.{each}
 use Rattle.split.specs.Edges.{visitOf}
-use Rattle.df.specs.Edges.{passOf, Frame}
+use Rattle.df.specs.Edges.{passOf}
 use Rattle.split.specs.Stored.{leavesFrom}
-use Rattle.df.specs.Visit.{Visited}
-use Rattle.df.proofs.Edges.{frame-kept}
-use Rattle.df.proofs.Leaves.{leaves-none, leaves-more}
-use Rattle.df.proofs.Marks.{frame-visited}
+use Rattle.df_rules.specs.Visit.{Visited}
+use Rattle.df_rules.proofs.Frames.{frame-visited}
+use Rattle.df_rules.proofs.Leaves.{leaves-none, leaves-more}
 use Rattle.df.proofs.pass.deblock_leaves.Statement.{statement}
 use Rattle.df.proofs.pass.deblock_leaves.Tie as tie
 
@@ -35,7 +34,7 @@ deblock-leaf-requires : tie.Need-deblock-leaf-requires Inv-loop μ-loop
 deblock-leaf-requires c κs =
     let s = c .before .before .before .before .before .before .before .before .before .before .before .before .before .before .before in
     let i = c .before .before .before .before .before .before .before .before .loop .inv in (
-      frame-visited (i .5) (frame-kept (i .1) (i .2) (i .3) (s .pre .0)),
+      frame-visited (i .5) (s .pre .0),
       (s .pre .1 .0 .blocks _ (c .before .before .before .before .before .before .before .loop-test .taken), omega (arith, s .pre .1 .1, i .5 .few, s .pre .1 .0 .few)),
     )
 

@@ -8,10 +8,10 @@ use lib.ListN.{length}
 use Rattle.def.specs.Picture.{rootCount}
 use Rattle.def.proofs.Sizes.{Sized, sized}
 use Rattle.split.proofs.Roots.{few-roots, roots-units}
-use Rattle.df.specs.Edges.{passOf, Frame}
-use Rattle.df.specs.Visit.{cleared}
-use Rattle.df.proofs.Edges.{frame-kept}
-use Rattle.df.proofs.Leaves.{Roots, roots-none, roots-more, roots-few, roots-frame, roots-all, frame-cleared}
+use Rattle.df.specs.Edges.{passOf}
+use Rattle.df_rules.specs.Visit.{cleared}
+use Rattle.df_rules.proofs.Frames.{Framed, frame-cleared}
+use Rattle.df_rules.proofs.Leaves.{Roots, roots-none, roots-more, roots-few, roots-frame, roots-all}
 use Rattle.df.proofs.pass.deblock_pass.Statement.{statement}
 use Rattle.df.proofs.pass.deblock_pass.Tie as tie
 
@@ -37,17 +37,18 @@ root-leaves-requires : tie.Need-root-leaves-requires Inv-loop μ-loop
 root-leaves-requires c κs = let s = c .before .before .before .before .before .before .before .before .before .before .before .before .before in (s .pre .1, c .before .loop-test .taken, c .before .before .loop .inv .5)
 
 -- the picture, by the words at a turn
-current : (c : tie.At-loop Inv-loop μ-loop) → let s = c .before .before .before .before .before .before .before .before .before .before .before in (y u v : List ℕ)
-    → Frame (s .args .w / 4) (s .args .h / 4) y u v (s .args .words .now) (s .args .motion .now) (s .args .refs .now) (s .args .entries .now)
-    → Frame (s .args .w / 4) (s .args .h / 4) y u v (c .loop .words) (s .args .motion .now) (s .args .refs .now) (s .args .entries .now)
-current c y u v f = roots-frame _ _ _ (passOf (c .before .before .before .before .before .before .before .before .before .before .before .args .pass)) _ _ _ _ (c .loop .i) _ _ (c .loop .inv .6) (rw (c .before .before .before .clear .ensures) (frame-cleared f))
+current : (c : tie.At-loop Inv-loop μ-loop) → let s = c .before .before .before .before .before .before .before .before .before .before .before in
+    Framed (s .args .w / 4) (s .args .h / 4) (s .args .motion .now) (s .args .refs .now) (s .args .entries .now) (record { y = c .loop .y; u = c .loop .u; v = c .loop .v }) (c .loop .words)
+current c =
+    let s = c .before .before .before .before .before .before .before .before .before .before .before in
+    roots-frame _ _ _ (passOf (s .args .pass)) _ _ _ _ (c .loop .i) _ _ (c .loop .inv .6) (rw (c .before .before .before .clear .ensures) (frame-cleared (s .pre .0)))
 
 deblock-leaves-requires : tie.Need-deblock-leaves-requires Inv-loop μ-loop
 deblock-leaves-requires c κs =
     let s = c .before .before .before .before .before .before .before .before .before .before .before .before .before .before .before .before .before .before .before .before in
     let i = c .before .before .before .before .before .before .before .before .before .loop .inv in
     let k = c .before .before .before .before .before .before .root-leaves .ensures in (
-      current (c .before .before .before .before .before .before .before .before .before) _ _ _ (frame-kept (i .1) (i .2) (i .3) (s .pre .0)),
+      current (c .before .before .before .before .before .before .before .before .before),
       (k .leaves, omega (arith, few s, i .0, roots-few _ _ _ (passOf (s .args .pass)) _ _ _ _ _ _ _ (i .6))),
     )
 

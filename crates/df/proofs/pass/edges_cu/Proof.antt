@@ -2,8 +2,9 @@
 use mathlib.Core.Path.{sym, ap, subst}
 use borrow.Author.Needs.{needs}
 use Rattle.split.specs.Edges.{Pass, visit}
-use Rattle.df.specs.Edges.{passOf, Gone}
-use Rattle.df.specs.Visit.{visitEdges}
+use Rattle.df_rules.specs.Frame.{Gone}
+use Rattle.df.specs.Edges.{passOf}
+use Rattle.df_rules.specs.Visit.{visitEdges}
 use Rattle.df.proofs.pass.edges_cu.Statement.{statement}
 use Rattle.df.proofs.pass.edges_cu.Tie as tie
 

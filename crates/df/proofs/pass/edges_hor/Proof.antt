@@ -7,8 +7,8 @@ use borrow.Author.Needs.{needs}
 use lib.Dec.{ltb}
 use Rattle.laws.specs.Index.{pick}
 use Rattle.split.specs.Edges.{horizontal, stretch}
-use Rattle.df.proofs.Edges.{gone-as, gone-few}
-use Rattle.df.proofs.Visits.{top-units}
+use Rattle.df_rules.proofs.Edges.{gone-as, gone-few}
+use Rattle.df_rules.proofs.Visits.{top-units}
 use Rattle.df.proofs.pass.edges_hor.Statement.{statement}
 use Rattle.df.proofs.pass.edges_hor.Tie as tie
 

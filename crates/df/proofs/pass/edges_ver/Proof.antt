@@ -6,9 +6,10 @@ use native.Mathlib.Omega.{arith}
 use borrow.Author.Needs.{needs}
 use Rattle.laws.specs.Index.{pick}
 use Rattle.split.specs.Edges.{vertical, stretch}
-use Rattle.df.specs.Visit.{thereDone}
-use Rattle.df.proofs.Edges.{frame-kept, gone-as, gone-then}
-use Rattle.df.proofs.Visits.{left-side, right-side}
+use Rattle.df_rules.specs.Visit.{thereDone}
+use Rattle.df_rules.proofs.Edges.{gone-as, gone-then}
+use Rattle.df_rules.proofs.Frames.{frame-filtered}
+use Rattle.df_rules.proofs.Visits.{left-side, right-side}
 use Rattle.df.proofs.pass.edges_ver.Statement.{statement}
 use Rattle.df.proofs.pass.edges_ver.Tie as tie
 
@@ -23,7 +24,7 @@ right-edge-requires c κs =
     let s = c .before .before .before .before .before .before .before .before .before .before .before .before .before .before .before .before .before .before .before in
     let b = s .pre .1 .0 in
     let l = c .before .before .before .before .before .before .before .before .before .before .left-edge in (
-      frame-kept (l .kept .1 .0) (l .kept .1 .1 .0) (l .kept .1 .1 .1 .0) (s .pre .0),
+      frame-filtered _ _ vertical _ _ (l .ensures .planes) (s .pre .0),
       (right-side _ _ _ _ _ _ b, omega (arith, b .some-wide), omega (arith, s .pre .1 .1, l .ensures .few)),
     )
 

@@ -1,6 +1,6 @@
 -- `df::pass::left_done` meets its contract: an arm for the first column, and one for any other. Assumes nothing.
 use borrow.Author.Needs.{needs}
-use Rattle.df.proofs.Visits.{none-left, some-left}
+use Rattle.df_rules.proofs.Visits.{none-left, some-left}
 use Rattle.df.proofs.pass.left_done.Statement.{statement}
 use Rattle.df.proofs.pass.left_done.Tie as tie
 

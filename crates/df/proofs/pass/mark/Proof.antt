@@ -9,8 +9,8 @@ use Rattle.def.specs.Word.{withDone}
 use Rattle.laws.specs.Plane.{withBlock}
 use Rattle.laws.proofs.Flat.{next-row}
 use Rattle.laws.proofs.Planes.{block-none}
-use Rattle.df.specs.Visit.{marked}
-use Rattle.df.proofs.Visits.{mark-more}
+use Rattle.df_rules.specs.Visit.{marked}
+use Rattle.df_rules.proofs.Visits.{mark-more}
 use Rattle.df.proofs.pass.mark.Statement.{statement}
 use Rattle.df.proofs.pass.mark.Tie as tie
 

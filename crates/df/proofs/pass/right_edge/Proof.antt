@@ -5,9 +5,9 @@ use mathlib.Core.List.{[]}
 use borrow.Author.Needs.{needs}
 use Rattle.laws.specs.Index.{pick}
 use Rattle.split.specs.Edges.{vertical, stretch}
-use Rattle.df.specs.Visit.{thereDone}
-use Rattle.df.proofs.Edges.{gone-as}
-use Rattle.df.proofs.Visits.{side-row, right-units}
+use Rattle.df_rules.specs.Visit.{thereDone}
+use Rattle.df_rules.proofs.Edges.{gone-as}
+use Rattle.df_rules.proofs.Visits.{side-row, right-units}
 use Rattle.df.proofs.pass.right_edge.Statement.{statement}
 use Rattle.df.proofs.pass.right_edge.Tie as tie
 

@@ -6,7 +6,7 @@ use borrow.Author.Needs.{needs}
 use Rattle.def.specs.Picture.{rootCount}
 use Rattle.def.proofs.Sizes.{Sized, sized}
 use Rattle.split.proofs.Roots.{root-column, root-row}
-use Rattle.df.proofs.Leaves.{root-refused, root-done}
+use Rattle.df_rules.proofs.Leaves.{root-refused, root-done}
 use Rattle.df.proofs.pass.root_leaves.Statement.{statement}
 use Rattle.df.proofs.pass.root_leaves.Tie as tie
 

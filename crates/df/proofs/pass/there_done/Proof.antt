@@ -1,6 +1,6 @@
 -- `df::pass::there_done` meets its contract: an arm for a unit past the row, and one for any other. Assumes nothing.
 use borrow.Author.Needs.{needs}
-use Rattle.df.proofs.Visits.{not-there, there}
+use Rattle.df_rules.proofs.Visits.{not-there, there}
 use Rattle.df.proofs.pass.there_done.Statement.{statement}
 use Rattle.df.proofs.pass.there_done.Tie as tie
 

@@ -1,6 +1,6 @@
 -- `df::window::line_at` meets its contract: what `line` answers, put where the mask says. Assumes nothing.
 use borrow.Author.Needs.{needs}
-use Rattle.df.proofs.Windows.{line-put}
+use Rattle.df_rules.proofs.Windows.{line-put}
 use Rattle.df.proofs.window.line_at.Statement.{statement}
 use Rattle.df.proofs.window.line_at.Tie as tie
 

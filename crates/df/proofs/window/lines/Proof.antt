@@ -5,7 +5,7 @@ use native.Mathlib.Nat.{mul-le-mul-right}
 use native.Mathlib.Numerals.{add-one}
 use native.Mathlib.Omega.{arith}
 use lib.ListN.{length}
-use Rattle.df.specs.Window.{linesAt}
+use Rattle.df_rules.specs.Window.{linesAt}
 use Rattle.df.proofs.window.lines.Statement.{statement}
 use Rattle.df.proofs.window.lines.Tie as tie
 

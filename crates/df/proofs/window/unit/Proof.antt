@@ -1,7 +1,7 @@
 -- `df::window::unit` meets its contract: each plane has its own window. Assumes nothing.
 use mathlib.Core.Path.{_∙_}
 use borrow.Author.Needs.{needs}
-use Rattle.df.specs.Window.{windowAt}
+use Rattle.df_rules.specs.Window.{windowAt}
 use Rattle.df.proofs.window.unit.Statement.{statement}
 use Rattle.df.proofs.window.unit.Tie as tie
 

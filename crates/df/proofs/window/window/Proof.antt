@@ -1,7 +1,7 @@
 -- `df::window::window` meets its contract: an arm for a strength of 0, and one for any other. Assumes nothing.
 use mathlib.Core.Path.{_∙_}
 use borrow.Author.Needs.{needs}
-use Rattle.df.proofs.Windows.{untouched, touched}
+use Rattle.df_rules.proofs.Windows.{untouched, touched}
 use Rattle.df.proofs.window.window.Statement.{statement}
 use Rattle.df.proofs.window.window.Tie as tie
 

@@ -1,5 +1,4 @@
 -- `sheet::print::put_decimal` meets its contract: it calls itself on a tenth of the number, which is the measure. Assumes nothing.
-use mathlib.Core.Path.{_≡_, _∙_}
 use native.Mathlib.Omega.{arith}
 use borrow.Author.Needs.{needs}
 use lib.ListN.{length-set}

@@ -1,12 +1,12 @@
 -- `sheet::print::put_bytes` meets its contract: the first i bytes stand in the buffer. Assumes nothing.
-use mathlib.Core.Path.{_≡_, refl, ap, subst}
-use Prim.Native.Nat.{ℕ, _+_, _-_, _≤_}
+use mathlib.Core.Path.{_≡_, refl}
+use Prim.Native.Nat.{_+_, _-_, _≤_}
 use native.Mathlib.Omega.{arith}
 use borrow.Author.Needs.{needs}
 use lib.ListN.{length, take, length-set}
 use lib.Seq.{take-all}
 use Rattle.sheet.specs.Puts.{Put}
-use Rattle.sheet.proofs.Puts.{put-none, put-as, put-more, put-start}
+use Rattle.sheet.proofs.Puts.{put-as, put-more, put-start}
 use Rattle.sheet.proofs.print.put_bytes.Statement.{statement}
 use Rattle.sheet.proofs.print.put_bytes.Tie as tie
 

@@ -1,5 +1,4 @@
 -- `sheet::print::put_line` meets its contract: the line stands only after 12. Assumes nothing.
-use mathlib.Core.Path.{_≡_}
 use borrow.Author.Needs.{needs}
 use Rattle.sheet.proofs.Puts.{line-put, line-none}
 use Rattle.sheet.proofs.print.put_line.Statement.{statement}

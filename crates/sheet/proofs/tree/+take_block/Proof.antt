@@ -1,16 +1,13 @@
 -- `sheet::tree::take_block` meets its contract: it calls itself on blocks of half the side, which is the measure.
 -- The loop's invariant: the parts so far have taken their digits. Assumes nothing.
-use mathlib.Core.Path.{_≡_, refl, sym, ap, _∙_}
-use mathlib.Core.Bool.{true}
-use Prim.Native.Nat.{ℕ, _+_, _-_, _*_, _/_, _%_, _≤_, _<_}
+use mathlib.Core.Path.{_≡_, refl, sym, _∙_}
+use Prim.Native.Nat.{ℕ, _-_, _/_, _%_, _≤_, _<_}
 use native.Mathlib.Omega.{arith}
 use borrow.Author.Needs.{needs}
 use lib.ListN.{length, getD, length-set}
-use Rattle.sheet.specs.Lines.{binary}
-use Rattle.sheet.specs.Taken.{Block}
+use Rattle.sheet_lines.proofs.Reading.{byte-at}
 use Rattle.sheet.proofs.Blocks.{take-x, take-y, take-unit, take-out, take-leaf, half-less, part-block, digit-one, Cutting, CutParts, cut-none, cut-more, cut-stop, cut-all}
 use Rattle.sheet.proofs.Descents.{one-bit}
-use Rattle.sheet.proofs.Reading.{byte-at}
 use borrow.Fn.Kinds.{In}
 use borrow.Fn.PlainCycle.{Measures, is, falls, and}
 use Rattle.sheet.proofs.tree.take_block.Reads as take-block

@@ -1,14 +1,13 @@
 -- `sheet::tree::take_picture` meets its contract: the roots so far have taken their digits. Assumes nothing.
 use mathlib.Core.Path.{_≡_, sym, ap, subst, _∙_}
 use mathlib.Core.Bool.{true}
-use Prim.Native.Nat.{ℕ, _+_, _-_, _*_, _/_, _%_, _≤_, _<_}
+use Prim.Native.Nat.{ℕ, _+_, _-_, _*_, _/_, _≤_}
 use native.Mathlib.Nat.{mod-lt, div-le-self, le-antisymm}
 use native.Mathlib.Omega.{arith}
 use borrow.Author.Needs.{needs}
 use borrow.Rule.Slice.PartMut.{same-len-mid}
-use lib.ListN.{length, length-drop}
-use lib.Seq.{length-take-le}
-use Rattle.sheet.specs.Lines.{binary}
+use lib.ListN.{length}
+use Rattle.sheet_lines.specs.Lines.{binary}
 use Rattle.sheet.specs.Taken.{RootsMet}
 use Rattle.sheet.proofs.Pictures.{Grid, grid, root-block, roots-none, own-length, root-more, root-stop}
 use Rattle.sheet.proofs.tree.take_picture.Statement.{statement}

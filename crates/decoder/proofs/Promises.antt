@@ -1,0 +1,532 @@
+-- Every public call in one place.
+--     NAME-once        over the contract as the checker reads it from the source: the arguments determine the answer and every slice that the call may write
+--     NAME-refusals    the refusals that the call gives, in the order of its ladder, each with an input that meets it; of a call that gives none, nothing
+-- The answer is determined, and not its reading alone, because each reading tells all answers apart: `answer-apart` (def), `reading-apart` (avail, sheet),
+-- `leaves-apart`, `rank-apart`, `list-apart` (split), and `number-apart` (def) of the refusals.
+-- Assumes nothing.
+use Prim.Native.Nat.{ℕ, _*_, _/_}
+use mathlib.Core.Path.{refl, sym, ap, ap₂, _∙_}
+use mathlib.Core.Bool.{true, false, _||_}
+use mathlib.Core.List.{List, [], _∷_, _++_}
+use denote.Ref.{now, ptr}
+use lib.Dec.{ltb, eqb}
+use lib.IntN.{ℤ, pos}
+use lib.ListN.{length, replicate}
+use Rattle.laws.proofs.Calls.{one-outcome}
+use Rattle.laws.specs.Bits.{fieldOf}
+use Rattle.laws.specs.Call.{allOf}
+use Rattle.laws.specs.Scan.{allBelow}
+use Rattle.def.specs.Blocks.{blockSideOk, componentSideOk, blockOk, unitOk}
+use Rattle.def.specs.Components.{scaleOf, planeLength}
+use Rattle.def.specs.Picture.{sizeOk, unitCount, rootCount}
+use Rattle.def.specs.Refusals.{numberOf}
+use Rattle.def.specs.Word.{flagAt}
+use Rattle.def.specs.declared.Refusal.the-variants.{Size, Length, Setting, Split, Leaf, Sample, Block, Mode, Points as BadPoints, Pivot, Sheet}
+use Rattle.def.specs.declared.Component.the-variants.{Luma}
+use Rattle.def.proofs.Answers.{answer-apart}
+use Rattle.samples.specs.Samples.{samplesOk}
+use Rattle.chroma_qp.specs.Derived as derived
+use Rattle.chroma_qp.specs.Mapping.{Points, inOf, outOf}
+use Rattle.avail.specs.Around as around
+use Rattle.avail.specs.Calls as avail
+use Rattle.avail.specs.Inter.{interNeighbours}
+use Rattle.avail.specs.Intra.{intraNeighbours}
+use Rattle.avail.proofs.Readings.{reading-apart}
+use Rattle.nbr.specs.Gather as gather
+use Rattle.nbr.specs.Ranks as ranks
+use Rattle.ipred.specs.Predict as predict
+use Rattle.recon.specs.Plane as plane
+use Rattle.recon.specs.Recon as recon
+use Rattle.split.specs.CheckCall as check
+use Rattle.split.specs.LeavesCall as leaves
+use Rattle.split.specs.ListCall as list
+use Rattle.split.specs.RankCall as rank
+use Rattle.split.specs.Ranks.{rank as visitingRank}
+use Rattle.split.specs.Walk.{onward, inTurn, leafWalk, byByte, walk}
+use Rattle.split.specs.declared.Rank.the-variants.{Done as Ranked, Refused as NotRanked}
+use Rattle.split.proofs.Apart.{leaves-apart, rank-apart, list-apart}
+use Rattle.sheet.specs.Descent.{descents, descend}
+use Rattle.sheet.specs.Lines.{startOf, lineOf, startsWith, isNumber, numberLine, edgeLine, sameLine, splitsLine, numberAfter, valueFrom, lineOk, firstBad, widthOf, heightOf, limitOf, digitsOf}
+use Rattle.sheet.specs.Listing as listing
+use Rattle.sheet.specs.Text.{sidesOk, foundBy, foundOf, foundIn}
+use Rattle.sheet.specs.Words.{widthKey, heightKey, limitKey, ownEdge, splitsKey, newline}
+use Rattle.sheet.proofs.Outcomes.{reading-apart as printed-apart}
+use Rattle.decoder.specs.Promise.{ended, Sole, Refuses, refusalIn}
+use Rattle.decoder.proofs.Refusing.{last, rung, by-checks, root-stops, picture-stops, sheet-rung, digits-said}
+use Rattle.decoder.proofs.derived_chroma_qp_mapping_tables.Kinds as tables-kinds
+use Rattle.decoder.proofs.derived_chroma_qp_mapping_tables.Reads as tables-reads
+use Rattle.decoder.proofs.get_avail_intra.Kinds as get-avail-intra-kinds
+use Rattle.decoder.proofs.get_avail_intra.Reads as get-avail-intra-reads
+use Rattle.decoder.proofs.get_avail_inter.Kinds as get-avail-inter-kinds
+use Rattle.decoder.proofs.get_avail_inter.Reads as get-avail-inter-reads
+use Rattle.decoder.proofs.get_mpm.Kinds as get-mpm-kinds
+use Rattle.decoder.proofs.get_mpm.Reads as get-mpm-reads
+use Rattle.decoder.proofs.get_mpm_number.Kinds as get-mpm-number-kinds
+use Rattle.decoder.proofs.get_mpm_number.Reads as get-mpm-number-reads
+use Rattle.decoder.proofs.get_nbr.Kinds as get-nbr-kinds
+use Rattle.decoder.proofs.get_nbr.Reads as get-nbr-reads
+use Rattle.decoder.proofs.ipred_b.Kinds as ipred-b-kinds
+use Rattle.decoder.proofs.ipred_b.Reads as ipred-b-reads
+use Rattle.decoder.proofs.recon.Kinds as recon-kinds
+use Rattle.decoder.proofs.recon.Reads as recon-reads
+use Rattle.decoder.proofs.recon_plane.Kinds as recon-plane-kinds
+use Rattle.decoder.proofs.recon_plane.Reads as recon-plane-reads
+use Rattle.decoder.proofs.leaves.Kinds as leaves-kinds
+use Rattle.decoder.proofs.leaves.Reads as leaves-reads
+use Rattle.decoder.proofs.check.Kinds as check-kinds
+use Rattle.decoder.proofs.check.Reads as check-reads
+use Rattle.decoder.proofs.visiting_rank.Kinds as visiting-rank-kinds
+use Rattle.decoder.proofs.visiting_rank.Reads as visiting-rank-reads
+use Rattle.decoder.proofs.list_edges.Kinds as list-edges-kinds
+use Rattle.decoder.proofs.list_edges.Reads as list-edges-reads
+use Rattle.decoder.proofs.listing.Kinds as listing-kinds
+use Rattle.decoder.proofs.listing.Reads as listing-reads
+use Rattle.decoder.proofs.pel2scu.Kinds as pel2scu-kinds
+use Rattle.decoder.proofs.pel2scu.Reads as pel2scu-reads
+use Rattle.decoder.proofs.in_component.Kinds as in-component-kinds
+use Rattle.decoder.proofs.in_component.Reads as in-component-reads
+use Rattle.decoder.proofs.get_if.Kinds as get-if-kinds
+use Rattle.decoder.proofs.get_if.Reads as get-if-reads
+use Rattle.decoder.proofs.get_qp.Kinds as get-qp-kinds
+use Rattle.decoder.proofs.get_qp.Reads as get-qp-reads
+use Rattle.decoder.proofs.get_cbfl.Kinds as get-cbfl-kinds
+use Rattle.decoder.proofs.get_cbfl.Reads as get-cbfl-reads
+use Rattle.decoder.proofs.get_cod.Kinds as get-cod-kinds
+use Rattle.decoder.proofs.get_cod.Reads as get-cod-reads
+use Rattle.decoder.proofs.set_cod.Kinds as set-cod-kinds
+use Rattle.decoder.proofs.set_cod.Reads as set-cod-reads
+use Rattle.decoder.proofs.clr_cod.Kinds as clr-cod-kinds
+use Rattle.decoder.proofs.clr_cod.Reads as clr-cod-reads
+use Rattle.decoder.proofs.leaf_word.Kinds as leaf-word-kinds
+use Rattle.decoder.proofs.leaf_word.Reads as leaf-word-reads
+use Rattle.decoder.proofs.size_ok.Kinds as size-ok-kinds
+use Rattle.decoder.proofs.size_ok.Reads as size-ok-reads
+use Rattle.decoder.proofs.block_side_ok.Kinds as block-side-ok-kinds
+use Rattle.decoder.proofs.block_side_ok.Reads as block-side-ok-reads
+use Rattle.decoder.proofs.component_side_ok.Kinds as component-side-ok-kinds
+use Rattle.decoder.proofs.component_side_ok.Reads as component-side-ok-reads
+use Rattle.decoder.proofs.block_ok.Kinds as block-ok-kinds
+use Rattle.decoder.proofs.block_ok.Reads as block-ok-reads
+use Rattle.decoder.proofs.unit_ok.Kinds as unit-ok-kinds
+use Rattle.decoder.proofs.unit_ok.Reads as unit-ok-reads
+use Rattle.decoder.proofs.refusal_number.Kinds as refusal-number-kinds
+use Rattle.decoder.proofs.refusal_number.Reads as refusal-number-reads
+use Rattle.decoder.proofs.answer_number.Kinds as answer-number-kinds
+use Rattle.decoder.proofs.answer_number.Reads as answer-number-reads
+use Rattle.decoder.proofs.samples_ok.Kinds as samples-ok-kinds
+use Rattle.decoder.proofs.samples_ok.Reads as samples-ok-reads
+use Rattle.decoder.proofs.mask_of.Kinds as mask-of-kinds
+use Rattle.decoder.proofs.mask_of.Reads as mask-of-reads
+use Rattle.decoder.proofs.line.Kinds as line-kinds
+use Rattle.decoder.proofs.line.Reads as line-reads
+use Rattle.decoder.proofs.motion_row.Kinds as motion-row-kinds
+use Rattle.decoder.proofs.motion_row.Reads as motion-row-reads
+
+-- ---- chroma QP
+
+pub derived-chroma-qp-mapping-tables-once : Sole 6 tables-kinds.ps tables-kinds.r tables-reads.Post (λ κs r x. ended r (now (x .1 .1 .1 .1 .1 .1 .1 .1 .0) ∷ now (x .1 .1 .1 .1 .1 .1 .1 .1 .1 .0) ∷ []))
+derived-chroma-qp-mapping-tables-once κs a r r′ x x′ p q =
+    let e = one-outcome derived.outcome _ _ _ p q in
+    ap₂ ended (answer-apart r r′ (ap (λ (o : derived.Outcome). o .number) e)) (ap (λ (o : derived.Outcome). o .t0 ∷ o .t1 ∷ []) e)
+
+-- 58 points that have one a, of which some count; two tables; and a call with them
+abbrev points : ℕ → ℤ → Points
+points n a = record { count = n; a = replicate 58 a; b = replicate 58 (pos 0) }
+
+abbrev entries : List ℤ
+entries = replicate 70 (pos 0)
+
+abbrev pointed : List ℤ → Points → Points → derived.Input
+pointed t p q = record { global-offset = false; same-table = false; first = p; second = q; t0 = t; t1 = t }
+
+pub derived-chroma-qp-mapping-tables-refusals : Refuses derived.outcome (λ o. o .number) (Length ∷ BadPoints ∷ BadPoints ∷ Pivot ∷ Pivot ∷ [])
+unfolding derived.outcome derived.check derived.lengthsOk derived.pointsOk derived.pivotsOk derived.pivotOk inOf outOf allBelow
+derived-chroma-qp-mapping-tables-refusals =
+    record {
+      only = λ i.
+          by-checks (λ o. o .number) (derived.refused i) (derived.done i) (Length ∷ BadPoints ∷ BadPoints ∷ Pivot ∷ Pivot ∷ []) (derived.check i) (λ r. refl) refl
+          (rung (derived.inputLengthsOk i) Length _
+          (rung (derived.pointsOk (i .first .count) (i .first .a)) BadPoints _
+          (rung (i .same-table || derived.pointsOk (i .second .count) (i .second .a)) BadPoints _
+          (rung (derived.pivotsOk (derived.inputStart i) (i .first)) Pivot _
+          (rung (i .same-table || derived.pivotsOk (derived.inputStart i) (i .second)) Pivot _ last)))));
+      shown =
+          pointed [] (points 1 (pos 0)) (points 1 (pos 0))
+          ∷ pointed entries (points 0 (pos 0)) (points 1 (pos 0))
+          ∷ pointed entries (points 1 (pos 0)) (points 0 (pos 0))
+          ∷ pointed entries (points 1 (pos 70)) (points 1 (pos 0))
+          ∷ pointed entries (points 1 (pos 0)) (points 1 (pos 70))
+          ∷ [];
+      given = refl;
+    }
+
+-- ---- availability
+
+pub get-avail-intra-once : Sole 1 get-avail-intra-kinds.ps get-avail-intra-kinds.r get-avail-intra-reads.Post (λ κs r x. r)
+get-avail-intra-once κs a r r′ x x′ p q = reading-apart r r′ (ap (λ (o : avail.Outcome). o .reading) (one-outcome avail.intraOutcome _ _ _ p q))
+
+pub get-avail-inter-once : Sole 1 get-avail-inter-kinds.ps get-avail-inter-kinds.r get-avail-inter-reads.Post (λ κs r x. r)
+get-avail-inter-once κs a r r′ x x′ p q = reading-apart r r′ (ap (λ (o : avail.Outcome). o .reading) (one-outcome avail.interOutcome _ _ _ p q))
+
+-- a block of some side at the start of a picture w wide and 4 high
+abbrev unit : ℕ → List ℕ → ℕ → around.Input
+unit w words side = record { w = w; h = 4; words = words; x = 0; y = 0; side = side }
+
+pub get-avail-intra-refusals : Refuses avail.intraOutcome (λ o. o .reading .number) (Size ∷ Length ∷ Block ∷ [])
+unfolding avail.intraOutcome avail.checkOf sizeOk blockOk blockSideOk
+get-avail-intra-refusals =
+    record {
+      only = λ i.
+          by-checks (λ o. o .reading .number) avail.refused (avail.done (intraNeighbours i)) (Size ∷ Length ∷ Block ∷ []) (avail.check i) (λ r. refl) refl
+          (rung (sizeOk (i .w) (i .h)) Size _
+          (rung (eqb (length (i .words)) (unitCount (i .w) (i .h))) Length _
+          (rung (blockOk (i .w) (i .h) (i .x) (i .y) (i .side)) Block _ last)));
+      shown = unit 0 [] 4 ∷ unit 4 [] 4 ∷ unit 4 (0 ∷ []) 0 ∷ [];
+      given = refl;
+    }
+
+pub get-avail-inter-refusals : Refuses avail.interOutcome (λ o. o .reading .number) (Size ∷ Length ∷ Block ∷ [])
+unfolding avail.interOutcome avail.checkOf sizeOk blockOk blockSideOk
+get-avail-inter-refusals =
+    record {
+      only = λ i.
+          by-checks (λ o. o .reading .number) avail.refused (avail.done (interNeighbours i)) (Size ∷ Length ∷ Block ∷ []) (avail.check i) (λ r. refl) refl
+          (rung (sizeOk (i .w) (i .h)) Size _
+          (rung (eqb (length (i .words)) (unitCount (i .w) (i .h))) Length _
+          (rung (blockOk (i .w) (i .h) (i .x) (i .y) (i .side)) Block _ last)));
+      shown = unit 0 [] 4 ∷ unit 4 [] 4 ∷ unit 4 (0 ∷ []) 0 ∷ [];
+      given = refl;
+    }
+
+-- ---- mode ranks: the part itself, by the memory that it lies in, its start and its bytes
+
+pub get-mpm-once : Sole 3 get-mpm-kinds.ps get-mpm-kinds.r get-mpm-reads.Post {O = ranks.Part} (λ κs r x. record { memory = ptr r .0; start = ptr r .1; bytes = now r })
+get-mpm-once κs a r r′ x x′ p q = one-outcome ranks.partOutcome _ _ _ p q
+
+pub get-mpm-number-once : Sole 3 get-mpm-number-kinds.ps get-mpm-number-kinds.r get-mpm-number-reads.Post (λ κs r x. r)
+get-mpm-number-once κs a r r′ x x′ p q = answer-apart r r′ (ap (λ (o : ranks.Outcome). o .number) (one-outcome ranks.numberOutcome _ _ _ p q))
+
+-- the second of two units side by side, the first intra, done and of mode 7
+abbrev second : ℕ → List ℕ → ℕ → ranks.Input
+second w table x = record { w = w; h = 4; words = 2147516416 ∷ 0 ∷ []; modes = 7 ∷ 0 ∷ []; table = table; x = x; y = 0 }
+
+-- where it gives a number, `get_mpm` answers the empty part
+pub get-mpm-number-refusals : Refuses ranks.numberOutcome (λ o. o .number) (Size ∷ Length ∷ Block ∷ Mode ∷ [])
+unfolding ranks.numberOutcome ranks.check ranks.lengthsOk ranks.modesOk sizeOk unitOk flagAt fieldOf
+get-mpm-number-refusals =
+    record {
+      only = λ i.
+          rung (sizeOk (i .w) (i .h)) Size _
+          (rung (ranks.lengthsOk (i .w) (i .h) (length (i .words)) (length (i .modes)) (length (i .table))) Length _
+          (rung (unitOk (i .w) (i .h) (i .x) (i .y)) Block _
+          (rung (ranks.modesOk (i .w) (i .words) (i .modes) (i .x) (i .y)) Mode _ last))) .by;
+      shown = second 0 [] 0 ∷ second 8 [] 0 ∷ second 8 (replicate 180 0) 2 ∷ second 8 (replicate 180 0) 1 ∷ [];
+      given = refl;
+    }
+
+-- ---- gathering
+
+pub get-nbr-once : Sole 3 get-nbr-kinds.ps get-nbr-kinds.r get-nbr-reads.Post (λ κs r x. ended r (now (x .1 .1 .1 .1 .1 .1 .1 .1 .1 .0) ∷ []))
+get-nbr-once κs a r r′ x x′ p q =
+    let e = one-outcome gather.outcome _ _ _ p q in
+    ap₂ ended (answer-apart r r′ (ap (λ (o : gather.Outcome). o .number) e)) (ap (λ (o : gather.Outcome). o .run ∷ []) e)
+
+-- around the second of two units side by side, of samples that are all 1024
+abbrev gathered : ℕ → List ℕ → ℕ → List ℕ → gather.Input
+gathered w words side run =
+    record {
+      around = record { component = Luma; w = w; h = 4; plane = replicate 32 1024; words = words; x = 4; y = 0; side = side; constrained = false };
+      run = run;
+    }
+
+pub get-nbr-refusals : Refuses gather.outcome (λ o. o .number) (Size ∷ Length ∷ Block ∷ Length ∷ Sample ∷ [])
+unfolding gather.outcome gather.checkOf gather.lengthsOk gather.samplesOk gather.runAt gather.nearAt sizeOk blockOk blockSideOk flagAt fieldOf allBelow
+get-nbr-refusals =
+    record {
+      only = λ i.
+          by-checks (λ o. o .number) (gather.refused i) (gather.done i) (Size ∷ Length ∷ Block ∷ Length ∷ Sample ∷ []) (gather.check i) (λ r. refl) refl
+          (rung (sizeOk (i .around .w) (i .around .h)) Size _
+          (rung (gather.lengthsOk (i .around .component) (i .around .w) (i .around .h) (length (i .around .plane)) (length (i .around .words))) Length _
+          (rung (blockOk (i .around .w) (i .around .h) (i .around .x) (i .around .y) (i .around .side)) Block _
+          (rung (eqb (length (i .run)) (gather.runLength (i .around .component) (i .around .side))) Length _
+          (rung (gather.samplesOk (i .around)) Sample _ last)))));
+      shown =
+          gathered 0 [] 0 []
+          ∷ gathered 8 [] 0 []
+          ∷ gathered 8 (0 ∷ 0 ∷ []) 0 []
+          ∷ gathered 8 (0 ∷ 0 ∷ []) 4 []
+          ∷ gathered 8 (2147483648 ∷ 0 ∷ []) 4 (replicate 17 0)
+          ∷ [];
+      given = refl;
+    }
+
+-- ---- the five modes
+
+pub ipred-b-once : Sole 2 ipred-b-kinds.ps ipred-b-kinds.r ipred-b-reads.Post (λ κs r x. ended r (now (x .1 .1 .1 .0) ∷ []))
+ipred-b-once κs a r r′ x x′ p q =
+    let e = one-outcome predict.outcome _ _ _ p q in
+    ap₂ ended (answer-apart r r′ (ap (λ (o : predict.Outcome). o .number) e)) (ap (λ (o : predict.Outcome). o .block ∷ []) e)
+
+abbrev predicting : ℕ → ℕ → List ℕ → predict.Input
+predicting mode side run = record { mode = mode; side = side; run = run; block = replicate 4 0 }
+
+pub ipred-b-refusals : Refuses predict.outcome (λ o. o .number) (Block ∷ Length ∷ Mode ∷ Sample ∷ [])
+unfolding predict.outcome predict.lengthsOk componentSideOk samplesOk allBelow
+ipred-b-refusals =
+    record {
+      only = λ i.
+          by-checks (λ o. o .number) (predict.refused i) (predict.done i) (Block ∷ Length ∷ Mode ∷ Sample ∷ []) (predict.check i) (λ r. refl) refl
+          (rung (componentSideOk (i .side)) Block _
+          (rung (predict.lengthsOk (i .side) (length (i .run)) (length (i .block))) Length _
+          (rung (predict.modeOk (i .mode)) Mode _
+          (rung (samplesOk (i .run)) Sample _ last))));
+      shown =
+          predicting 0 0 []
+          ∷ predicting 0 2 []
+          ∷ predicting 5 2 (replicate 9 0)
+          ∷ predicting 0 2 (replicate 9 1024)
+          ∷ [];
+      given = refl;
+    }
+
+-- ---- residual addition
+
+pub recon-once : Sole 3 recon-kinds.ps recon-kinds.r recon-reads.Post (λ κs r x. ended r (now (x .1 .1 .1 .1 .0) ∷ []))
+recon-once κs a r r′ x x′ p q =
+    let e = one-outcome recon.outcome _ _ _ p q in
+    ap₂ ended (answer-apart r r′ (ap (λ (o : recon.Outcome). o .number) e)) (ap (λ (o : recon.Outcome). o .rec ∷ []) e)
+
+pub recon-plane-once : Sole 3 recon-plane-kinds.ps recon-plane-kinds.r recon-plane-reads.Post (λ κs r x. ended r (now (x .1 .1 .1 .1 .1 .1 .1 .1 .1 .0) ∷ []))
+recon-plane-once κs a r r′ x x′ p q =
+    let e = one-outcome plane.outcome _ _ _ p q in
+    ap₂ ended (answer-apart r r′ (ap (λ (o : recon.Outcome). o .number) e)) (ap (λ (o : recon.Outcome). o .rec ∷ []) e)
+
+abbrev adding : ℕ → List ℕ → recon.Input
+adding side pred = record { coded = true; side = side; pred = pred; coef = replicate 4 (pos 0); rec = replicate 4 0 }
+
+pub recon-refusals : Refuses recon.outcome (λ o. o .number) (Block ∷ Length ∷ Sample ∷ [])
+unfolding recon.outcome recon.blockCheck recon.lengthsOk componentSideOk samplesOk allBelow
+recon-refusals =
+    record {
+      only = λ i.
+          by-checks (λ o. o .number) (recon.refused i) (recon.done i) (Block ∷ Length ∷ Sample ∷ []) (recon.check i) (λ r. refl) refl
+          (rung (componentSideOk (i .side)) Block _
+          (rung (recon.lengthsOk (i .side) (length (i .pred)) (length (i .coef)) (length (i .rec))) Length _
+          (rung (samplesOk (i .pred)) Sample _ last)));
+      shown = adding 0 [] ∷ adding 2 [] ∷ adding 2 (replicate 4 1024) ∷ [];
+      given = refl;
+    }
+
+-- into a luma plane w wide and 4 high
+abbrev adding-at : ℕ → ℕ → List ℕ → List ℕ → plane.Input
+adding-at w side pred rec =
+    record { component = Luma; w = w; h = 4; x = 0; y = 0; side = side; coded = true; pred = pred; coef = replicate 16 (pos 0); rec = rec }
+
+pub recon-plane-refusals : Refuses plane.outcome (λ o. o .number) (Size ∷ Length ∷ Block ∷ Length ∷ Sample ∷ [])
+unfolding plane.outcome plane.planeCheck plane.blockLengthsOk sizeOk blockOk blockSideOk samplesOk allBelow
+recon-plane-refusals =
+    record {
+      only = λ i.
+          by-checks (λ o. o .number) (plane.refused i) (plane.done i) (Size ∷ Length ∷ Block ∷ Length ∷ Sample ∷ []) (plane.check i) (λ r. refl) refl
+          (rung (sizeOk (i .w) (i .h)) Size _
+          (rung (eqb (length (i .rec)) (planeLength (i .component) (i .w) (i .h))) Length _
+          (rung (blockOk (i .w) (i .h) (i .x) (i .y) (i .side)) Block _
+          (rung (plane.blockLengthsOk (i .side / scaleOf (i .component)) (length (i .pred)) (length (i .coef))) Length _
+          (rung (samplesOk (i .pred)) Sample _ last)))));
+      shown =
+          adding-at 0 0 [] []
+          ∷ adding-at 4 0 [] []
+          ∷ adding-at 4 0 [] (replicate 16 0)
+          ∷ adding-at 4 4 [] (replicate 16 0)
+          ∷ adding-at 4 4 (replicate 16 1024) (replicate 16 0)
+          ∷ [];
+      given = refl;
+    }
+
+-- ---- the split tree
+
+pub leaves-once : Sole 2 leaves-kinds.ps leaves-kinds.r leaves-reads.Post (λ κs r x. ended r (now (x .1 .1 .1 .1 .1 .0) ∷ []))
+leaves-once κs a r r′ x x′ p q =
+    let e = one-outcome leaves.outcome _ _ _ p q in
+    ap₂ ended (leaves-apart r r′ (ap (λ (o : leaves.Outcome). o .reading) e)) (ap (λ (o : leaves.Outcome). o .out ∷ []) e)
+
+pub check-once : Sole 1 check-kinds.ps check-kinds.r check-reads.Post (λ κs r x. r)
+check-once κs a r r′ x x′ p q = answer-apart r r′ (ap (λ (o : check.Outcome). o .number) (one-outcome check.outcome _ _ _ p q))
+
+pub visiting-rank-once : Sole 0 visiting-rank-kinds.ps visiting-rank-kinds.r visiting-rank-reads.Post (λ κs r x. r)
+visiting-rank-once κs a r r′ x x′ p q = rank-apart r r′ (ap (λ (o : rank.Outcome). o .reading) (one-outcome rank.outcome _ _ _ p q))
+
+pub list-edges-once : Sole 3 list-edges-kinds.ps list-edges-kinds.r list-edges-reads.Post (λ κs r x. ended r (now (x .1 .1 .1 .1 .0) ∷ now (x .1 .1 .1 .1 .1 .0) ∷ []))
+list-edges-once κs a r r′ x x′ p q =
+    let e = one-outcome list.outcome _ _ _ p q in
+    ap₂ ended (list-apart r r′ (ap (λ (o : list.Outcome). o .reading) e)) (ap (λ (o : list.Outcome). o .vertical ∷ o .horizontal ∷ []) e)
+
+-- the split bytes of a root, all of them b. In a picture of one unit a block of 64 reaches past the picture
+abbrev root : ℕ → List ℕ
+root b = replicate 1024 b
+
+abbrev walked : ℕ → List ℕ → ℕ → leaves.Input
+walked w splits x = record { w = w; h = 4; splits = splits; x = x; y = 0; out = replicate 768 0 }
+
+pub leaves-refusals : Refuses leaves.outcome (λ o. o .reading .number) (Size ∷ Length ∷ Block ∷ Split ∷ Leaf ∷ [])
+unfolding leaves.outcome leaves.checkOf leaves.lengthsOk leaves.rootOk sizeOk walk byByte inTurn onward leafWalk
+leaves-refusals =
+    record {
+      only = λ i.
+          by-checks (λ o. o .reading .number) (leaves.refused i) (leaves.done i) (Size ∷ Length ∷ Block ∷ Split ∷ Leaf ∷ []) (leaves.check i) (λ r. refl) refl
+          (rung (sizeOk (i .w) (i .h)) Size _
+          (rung (leaves.lengthsOk (i .w) (i .h) (length (i .splits)) (length (i .out))) Length _
+          (rung (leaves.rootOk (i .w) (i .h) (i .x) (i .y)) Block _
+          (root-stops (i .splits) (i .w / 4) (i .h / 4) (leaves.rootIndex (i .w) (i .x) (i .y))))));
+      shown = walked 0 [] 0 ∷ walked 4 [] 0 ∷ walked 4 (root 2) 1 ∷ walked 4 (root 2) 0 ∷ walked 4 (root 0) 0 ∷ [];
+      given = refl;
+    }
+
+abbrev checking : ℕ → List ℕ → check.Input
+checking w splits = record { w = w; h = 4; splits = splits }
+
+pub check-refusals : Refuses check.outcome (λ o. o .number) (Size ∷ Length ∷ Split ∷ Leaf ∷ [])
+unfolding check.outcome check.check sizeOk walk byByte inTurn onward leafWalk
+check-refusals =
+    record {
+      only = λ i.
+          by-checks (λ o. o .number) (λ r. check.numbered (numberOf r)) (check.numbered 0) (Size ∷ Length ∷ Split ∷ Leaf ∷ []) (check.check i) (λ r. refl) refl
+          (rung (sizeOk (i .w) (i .h)) Size _
+          (rung (eqb (length (i .splits)) (1024 * rootCount (i .w) (i .h))) Length _
+          (picture-stops (i .splits) (i .w / 4) (i .h / 4))));
+      shown = checking 0 [] ∷ checking 4 [] ∷ checking 4 (root 2) ∷ checking 4 (root 0) ∷ [];
+      given = refl;
+    }
+
+pub visiting-rank-refusals : Refuses rank.outcome (λ o. o .reading .number) (Block ∷ [])
+unfolding rank.outcome rank.check
+visiting-rank-refusals =
+    record {
+      only = λ i.
+          by-checks (λ o. o .reading .number) (λ r. rank.after (NotRanked r)) (rank.after (Ranked (visitingRank (i .x) (i .y)))) (Block ∷ []) (rank.check i) (λ r. refl) refl (rung (allOf (ltb (i .x) 16 ∷ ltb (i .y) 16 ∷ [])) Block _ last);
+      shown = record { x = 16; y = 0 } ∷ [];
+      given = refl;
+    }
+
+abbrev edges : ℕ → List ℕ → ℕ → list.Input
+edges w splits limit = record { w = w; h = 4; splits = splits; limit = limit; vertical = 0 ∷ 0 ∷ []; horizontal = 0 ∷ 0 ∷ [] }
+
+pub list-edges-refusals : Refuses list.outcome (λ o. o .reading .number) (Size ∷ Length ∷ Setting ∷ Split ∷ Leaf ∷ [])
+unfolding list.outcome list.checkOf list.lengthsOk list.limitOk sizeOk walk byByte inTurn onward leafWalk
+list-edges-refusals =
+    record {
+      only = λ i.
+          by-checks (λ o. o .reading .number) (list.refused i) (list.done i) (Size ∷ Length ∷ Setting ∷ Split ∷ Leaf ∷ []) (list.check i) (λ r. refl) refl
+          (rung (sizeOk (i .w) (i .h)) Size _
+          (rung (list.lengthsOk (i .w) (i .h) (length (i .splits)) (length (i .vertical)) (length (i .horizontal))) Length _
+          (rung (list.limitOk (i .limit)) Setting _
+          (picture-stops (i .splits) (i .w / 4) (i .h / 4)))));
+      shown = edges 0 [] 5 ∷ edges 4 [] 5 ∷ edges 4 (root 2) 7 ∷ edges 4 (root 2) 5 ∷ edges 4 (root 0) 5 ∷ [];
+      given = refl;
+    }
+
+-- ---- the sheet
+
+pub listing-once : Sole 2 listing-kinds.ps listing-kinds.r listing-reads.Post (λ κs r x. ended r (now (x .1 .0) ∷ []))
+listing-once κs a r r′ x x′ p q =
+    let e = one-outcome listing.outcome _ _ _ p q in
+    ap₂ ended (printed-apart r r′ (ap (λ (o : listing.Outcome). o .reading) e)) (ap (λ (o : listing.Outcome). o .out ∷ []) e)
+
+-- of its buffer alone: what a sheet is refused for is its text
+pub listing-refusals : Refuses listing.outcome (λ o. o .reading .number) (Length ∷ [])
+unfolding listing.outcome listing.check
+listing-refusals =
+    record {
+      only = λ i.
+          by-checks (λ o. o .reading .number) (listing.refused i) (listing.done i) (Length ∷ []) (listing.check i) (λ r. refl) refl (rung (eqb (length (i .out)) 81920) Length _ last);
+      shown = record { input = []; out = [] } ∷ [];
+      given = refl;
+    }
+
+-- a sheet of a picture w wide and 4 high, its numbers in digits
+abbrev sheet-of : (w limit splits : List ℕ) → List ℕ
+sheet-of w limit splits =
+    widthKey ++ (w ++ (newline ++ (heightKey ++ ((52 ∷ []) ++ (newline ++ (limitKey ++ (limit ++ (newline ++ (ownEdge ++ (newline ++ (splitsKey ++ (splits ++ newline))))))))))))
+
+-- what is printed for a sheet that is refused: for a line; the sides; the limit; digits that ran out, a leaf, or digits left over
+pub sheet-refusals : Refuses foundIn refusalIn (Sheet ∷ Size ∷ Setting ∷ Sheet ∷ Leaf ∷ Sheet ∷ [])
+unfolding foundIn foundOf foundBy sidesOk list.limitOk firstBad lineOk startOf lineOf numberLine startsWith isNumber allBelow edgeLine sameLine splitsLine numberAfter valueFrom descents descend byByte onward leafWalk
+sheet-refusals =
+    record {
+      only = λ s.
+          sheet-rung (eqb (firstBad s) 0) Sheet (firstBad s) (foundOf (widthOf s) (heightOf s) (limitOf s) (digitsOf s))
+          (sheet-rung (sidesOk (widthOf s) (heightOf s)) Size 0 _
+          (sheet-rung (list.limitOk (limitOf s)) Setting 0 _
+          (digits-said (eqb (limitOf s) 5) (widthOf s / 4) (heightOf s / 4) (digitsOf s)))) .by;
+      shown =
+          []
+          ∷ sheet-of (48 ∷ []) (54 ∷ []) []
+          ∷ sheet-of (52 ∷ []) (55 ∷ []) []
+          ∷ sheet-of (52 ∷ []) (54 ∷ []) []
+          ∷ sheet-of (52 ∷ []) (54 ∷ []) (48 ∷ [])
+          ∷ sheet-of (52 ∷ []) (54 ∷ []) (49 ∷ 49 ∷ 49 ∷ 49 ∷ 48 ∷ [])
+          ∷ [];
+      given = refl;
+    }
+
+-- ---- values: what is shared, the line filter and its rows. They refuse nothing
+
+pub pel2scu-once : Sole 0 pel2scu-kinds.ps pel2scu-kinds.r pel2scu-reads.Post (λ κs r x. r)
+pel2scu-once κs a r r′ x x′ p q = ap (λ (n : ℕ). record { 0 = n }) (p ∙ sym q)
+
+pub in-component-once : Sole 0 in-component-kinds.ps in-component-kinds.r in-component-reads.Post (λ κs r x. r)
+in-component-once κs a r r′ x x′ p q = p ∙ sym q
+
+pub get-if-once : Sole 0 get-if-kinds.ps get-if-kinds.r get-if-reads.Post (λ κs r x. r)
+get-if-once κs a r r′ x x′ p q = p ∙ sym q
+
+pub get-qp-once : Sole 0 get-qp-kinds.ps get-qp-kinds.r get-qp-reads.Post (λ κs r x. r)
+get-qp-once κs a r r′ x x′ p q = p .0 ∙ sym (q .0)
+
+pub get-cbfl-once : Sole 0 get-cbfl-kinds.ps get-cbfl-kinds.r get-cbfl-reads.Post (λ κs r x. r)
+get-cbfl-once κs a r r′ x x′ p q = p ∙ sym q
+
+pub get-cod-once : Sole 0 get-cod-kinds.ps get-cod-kinds.r get-cod-reads.Post (λ κs r x. r)
+get-cod-once κs a r r′ x x′ p q = p ∙ sym q
+
+pub set-cod-once : Sole 0 set-cod-kinds.ps set-cod-kinds.r set-cod-reads.Post (λ κs r x. r)
+set-cod-once κs a r r′ x x′ p q = p ∙ sym q
+
+pub clr-cod-once : Sole 0 clr-cod-kinds.ps clr-cod-kinds.r clr-cod-reads.Post (λ κs r x. r)
+clr-cod-once κs a r r′ x x′ p q = p ∙ sym q
+
+pub leaf-word-once : Sole 0 leaf-word-kinds.ps leaf-word-kinds.r leaf-word-reads.Post (λ κs r x. r)
+leaf-word-once κs a r r′ x x′ p q = p ∙ sym q
+
+pub size-ok-once : Sole 0 size-ok-kinds.ps size-ok-kinds.r size-ok-reads.Post (λ κs r x. r)
+size-ok-once κs a r r′ x x′ p q = p ∙ sym q
+
+pub block-side-ok-once : Sole 0 block-side-ok-kinds.ps block-side-ok-kinds.r block-side-ok-reads.Post (λ κs r x. r)
+block-side-ok-once κs a r r′ x x′ p q = p ∙ sym q
+
+pub component-side-ok-once : Sole 0 component-side-ok-kinds.ps component-side-ok-kinds.r component-side-ok-reads.Post (λ κs r x. r)
+component-side-ok-once κs a r r′ x x′ p q = p ∙ sym q
+
+pub block-ok-once : Sole 0 block-ok-kinds.ps block-ok-kinds.r block-ok-reads.Post (λ κs r x. r)
+block-ok-once κs a r r′ x x′ p q = p ∙ sym q
+
+pub unit-ok-once : Sole 0 unit-ok-kinds.ps unit-ok-kinds.r unit-ok-reads.Post (λ κs r x. r)
+unit-ok-once κs a r r′ x x′ p q = p ∙ sym q
+
+pub refusal-number-once : Sole 0 refusal-number-kinds.ps refusal-number-kinds.r refusal-number-reads.Post (λ κs r x. r)
+refusal-number-once κs a r r′ x x′ p q = p ∙ sym q
+
+pub answer-number-once : Sole 0 answer-number-kinds.ps answer-number-kinds.r answer-number-reads.Post (λ κs r x. r)
+answer-number-once κs a r r′ x x′ p q = p ∙ sym q
+
+pub samples-ok-once : Sole 1 samples-ok-kinds.ps samples-ok-kinds.r samples-ok-reads.Post (λ κs r x. r)
+samples-ok-once κs a r r′ x x′ p q = p ∙ sym q
+
+pub mask-of-once : Sole 0 mask-of-kinds.ps mask-of-kinds.r mask-of-reads.Post (λ κs r x. r)
+mask-of-once κs a r r′ x x′ p q = p ∙ sym q
+
+pub line-once : Sole 0 line-kinds.ps line-kinds.r line-reads.Post (λ κs r x. r)
+line-once κs a r r′ x x′ p q = p ∙ sym q
+
+pub motion-row-once : Sole 0 motion-row-kinds.ps motion-row-kinds.r motion-row-reads.Post (λ κs r x. r)
+motion-row-once κs a r r′ x x′ p q = p .0 ∙ sym (q .0)

@@ -1,0 +1,60 @@
+// The face: every public call and type of the product under one name, and nothing of its own. By the paper's modules:
+//     shared            pel2scu, in_component, get_if, get_qp, get_cbfl, get_cod, set_cod, clr_cod, leaf_word, size_ok, block_side_ok,
+//                       component_side_ok, block_ok, unit_ok, samples_ok, refusal_number, answer_number
+//     1 chroma QP       derived_chroma_qp_mapping_tables
+//     2 availability    get_avail_intra, get_avail_inter
+//     3 mode ranks      get_mpm, get_mpm_number
+//     4 gathering       get_nbr
+//     5 five modes      ipred_b
+//     6 residual        recon, recon_plane
+//     8 walk            leaves, check, visiting_rank, list_edges
+//       deblocking      mask_of, line, motion_row
+//     the sheet         listing
+pub use avail::Avail;
+pub use avail::Neighbours;
+pub use avail::get_avail_inter;
+pub use avail::get_avail_intra;
+pub use chroma_qp::derived_chroma_qp_mapping_tables;
+pub use def::Answer;
+pub use def::Component;
+pub use def::Pel;
+pub use def::Refusal;
+pub use def::Scu;
+pub use def::answer_number;
+pub use def::block_ok;
+pub use def::block_side_ok;
+pub use def::clr_cod;
+pub use def::component_side_ok;
+pub use def::get_cbfl;
+pub use def::get_cod;
+pub use def::get_if;
+pub use def::get_qp;
+pub use def::in_component;
+pub use def::leaf_word;
+pub use def::pel2scu;
+pub use def::refusal_number;
+pub use def::set_cod;
+pub use def::size_ok;
+pub use def::unit_ok;
+pub use ipred::ipred_b;
+pub use line::Mask;
+pub use line::Motion;
+pub use line::Quad;
+pub use line::line;
+pub use line::mask_of;
+pub use line::motion_row;
+pub use nbr::get_mpm;
+pub use nbr::get_mpm_number;
+pub use nbr::get_nbr;
+pub use recon::recon;
+pub use recon::recon_plane;
+pub use samples::samples_ok;
+pub use sheet::Printed;
+pub use sheet::listing;
+pub use split::Listed;
+pub use split::Rank;
+pub use split::Walked;
+pub use split::check;
+pub use split::leaves;
+pub use split::list_edges;
+pub use split::visiting_rank;

@@ -1,0 +1,135 @@
+-- The call: what its checks tell of the picture, the strengths of both passes in the words of the rule, and its outcome.
+-- Assumes nothing.
+use Prim.Native.Nat.{ℕ, _+_, _*_, _/_, _≤_, _<_}
+use mathlib.Core.Path.{_≡_, refl, sym, ap, _∙_, subst}
+use mathlib.Core.List.{List, List·Memᴰ}
+use native.Mathlib.Nat.{mul-comm}
+use native.Mathlib.Omega.{arith}
+use lib.Dec.{eqb}
+use lib.IntN.{ℤ}
+use lib.ListN.{length, getD}
+use Rattle.def.specs.Picture.{unitCount}
+use Rattle.def.specs.Word.{qpOf}
+use Rattle.def.specs.declared.Answer.{Answer}
+use Rattle.def.specs.declared.Answer.the-variants.{Done as Fine, Refused as Bad}
+use Rattle.def.specs.declared.Refusal.{Refusal}
+use Rattle.def.proofs.Sizes.{Sized, sized}
+use Rattle.laws.proofs.Flat.{flat-within}
+use Rattle.split.specs.Demand3.{Demand3}
+use Rattle.split.specs.Edges.{Pass, vertical, horizontal, Edge}
+use Rattle.split.specs.Rows.{EdgeOf}
+use Rattle.split.proofs.Demand3.{demand-3}
+use Rattle.split.proofs.Roots.{some-wide}
+use Rattle.df_check.specs.ChromaQp.{vTable}
+use Rattle.df_check.specs.Entries.{entriesOf}
+use Rattle.df_check.proofs.Passed.{Passed, passed, any-qp}
+use Rattle.df_check.proofs.Strengths.{entries-long, luma-entry, u-entry, v-entry}
+use Rattle.df_check.proofs.Units.{UnitTold}
+use Rattle.df_rules.specs.Filter.{Planes, inY, inU, inV, filterAll}
+use Rattle.df_rules.specs.Frame.{Frame, Both}
+use Rattle.df_rules.specs.Leaves.{Accepted}
+use Rattle.df_rules.specs.Places.{unitQ, unitP}
+use Rattle.df_rules.specs.Strength.{Maps, rowAt, qpAt, strengthOf, strength}
+use Rattle.df_rules.specs.Visit.{allDone}
+use Rattle.df_rules.proofs.Planes.{planes-finished}
+use Rattle.df_rules.proofs.Strengths.{row-few}
+use Rattle.df.specs.Deblock.{Input, Outcome, readingOf, checked, check, passEdges, qpY, qpU, qpV, mapsOf, refused, done, outcome}
+use Rattle.df.specs.declared.Deblocked.{Deblocked}
+use Rattle.df.specs.declared.Deblocked.the-variants.{Done, Refused}
+
+-- the entries of a pass
+abbrev pub entriesIn : Input → Pass → List ℕ
+entriesIn i d = entriesOf (i .strengths) (i .table0) (i .settings .«u_offset») (vTable (i .settings .«v_edge») d (i .table0) (i .table1)) (i .settings .«v_offset»)
+
+module _ (i : Input) (fine : check i ≡ Fine) where
+  abbrev told : Passed (checked i)
+  told = passed (checked i) fine
+
+  abbrev size : Sized (i .w) (i .h)
+  size = sized (i .w) (i .h) (told .size)
+
+  pub accepted : Accepted (i .w) (i .h) (i .splits)
+  accepted = record { sides = told .size; long = told .lengths .splits; walked = told .walk }
+
+  units : unitCount (i .w) (i .h) ≡ i .h / 4 * (i .w / 4)
+  units = mul-comm (i .w / 4) (i .h / 4)
+
+  -- ---- the picture, by the entries of any pass
+
+  pub framed : (t : List ℕ) → length t ≡ 624 → Frame (i .w / 4) (i .h / 4) (i .y) (i .u) (i .v) (i .words) (i .motion) (i .refs) t
+  framed t e =
+      let n = told .lengths in
+      let z = size in
+      let a : 4 * (i .w / 4) ≡ i .w = omega (arith, z .by-four) in
+      let b : 4 * (i .h / 4) ≡ i .h = omega (arith, z .by-four-down) in
+      let c : 2 * (i .w / 4) ≡ i .w / 2 = omega (arith, z .by-four) in
+      let d : 2 * (i .h / 4) ≡ i .h / 2 = omega (arith, z .by-four-down) in
+      record {
+        wide = omega (arith, z .wide);
+        high = omega (arith, z .high);
+        long-y = n .y ∙ mul-comm (i .w) (i .h) ∙ (λ k. sym b k * sym a k);
+        long-u = n .u ∙ mul-comm (i .w / 2) (i .h / 2) ∙ (λ k. sym d k * sym c k);
+        long-v = n .v ∙ mul-comm (i .w / 2) (i .h / 2) ∙ (λ k. sym d k * sym c k);
+        long-words = n .words ∙ units;
+        long-motion = n .motion ∙ ap (λ (k : ℕ). 4 * k) units;
+        long-refs = n .refs ∙ ap (λ (k : ℕ). 2 * k) units;
+        long-entries = e;
+        qps = any-qp told;
+        all-y = told .y;
+        all-u = told .u;
+        all-v = told .v;
+      }
+
+  -- ---- the strengths of an edge that a pass lists, by the pass's entries and by the rule
+
+  abbrev tree : Demand3 (eqb (i .settings .limit) 5) (i .splits) (i .w / 4) (i .h / 4)
+  tree = demand-3 (eqb (i .settings .limit) 5) (i .splits) (i .w / 4) (i .h / 4) (some-wide size) (told .walk)
+
+  unit-at : (d : Pass) (e : Edge) → List·Memᴰ e (passEdges d i) → UnitTold (i .settings) (i .table0) (i .table1) (qpOf (getD (i .words) (unitQ (i .w / 4) e) 0))
+  unit-at d e m =
+      let g = tree .members d e .0 m in
+      told .unit (unitQ (i .w / 4) e) (subst (λ (n : ℕ). unitQ (i .w / 4) e < n) (sym (told .lengths .words ∙ units)) (flat-within (e .y) (e .x) (i .w / 4) (i .h / 4) (g .column) (g .row)))
+
+  module _ (d : Pass) (e : Edge) (m : List·Memᴰ e (passEdges d i)) where
+    abbrev q : ℕ
+    q = unitQ (i .w / 4) e
+
+    abbrev p : ℕ
+    p = unitP d (i .w / 4) e
+
+    same-y : strength (mapsOf i) (entriesIn i d) inY d (i .w / 4) e ≡ strength (mapsOf i) (i .strengths) (qpY i d) d (i .w / 4) e
+    unfolding strengthOf
+    same-y = ap (λ (n : ℕ). 4 * n) (luma-entry _ _ _ _ _ (rowAt (mapsOf i) q p) (qpAt (mapsOf i) q) (row-few (mapsOf i) q p) (unit-at d e m .few))
+
+    same-u : strength (mapsOf i) (entriesIn i d) inU d (i .w / 4) e ≡ strength (mapsOf i) (i .strengths) (qpU i d) d (i .w / 4) e
+    unfolding strengthOf
+    same-u = ap (λ (n : ℕ). 4 * n) (u-entry _ _ _ _ _ (rowAt (mapsOf i) q p) (qpAt (mapsOf i) q) (row-few (mapsOf i) q p) (unit-at d e m .few) (unit-at d e m .u))
+
+    same-v : strength (mapsOf i) (entriesIn i d) inV d (i .w / 4) e ≡ strength (mapsOf i) (i .strengths) (qpV i d) d (i .w / 4) e
+    unfolding strengthOf
+    same-v = ap (λ (n : ℕ). 4 * n) (v-entry _ _ _ _ _ (rowAt (mapsOf i) q p) (qpAt (mapsOf i) q) (row-few (mapsOf i) q p) (unit-at d e m .few) (unit-at d e m .v d))
+
+  -- ---- the outcome
+
+  pub deblock-done : (ver hor : List ℕ) (y u v words : List ℕ) (m n : ℕ) → ver ≡ entriesIn i vertical → hor ≡ entriesIn i horizontal
+      → Both (mapsOf i) ver hor (i .w / 4) (passEdges vertical i) (passEdges horizontal i) (record { y = i .y; u = i .u; v = i .v }) (record { y = y; u = u; v = v }) words m n
+      → (record { reading = readingOf (Done m n); y = y; u = u; v = v; words = words }) ≡ outcome i
+  unfolding outcome
+  deblock-done ver hor y u v words m n ev eh b =
+      let start : Planes = record { y = i .y; u = i .u; v = i .v } in
+      let planes = b .planes
+      ∙ (λ k. filterAll (mapsOf i) (eh k) horizontal (i .w / 4) (passEdges horizontal i) (filterAll (mapsOf i) (ev k) vertical (i .w / 4) (passEdges vertical i) start))
+      ∙ planes-finished (λ d. mapsOf i) (entriesIn i) (i .w / 4) (λ d. passEdges d i) (mapsOf i) (i .strengths) (qpY i) (qpU i) (qpV i) same-y same-u same-v start in
+      rw fine
+      (λ k. record {
+        reading = readingOf (Done (b .ups-counted k) (b .levels-counted k));
+        y = planes k .y;
+        u = planes k .u;
+        v = planes k .v;
+        words = b .marks k;
+      })
+
+pub deblock-refused : (i : Input) (a : Answer) → a ≡ check i → (r : Refusal) → a ≡ Bad r
+    → (record { reading = readingOf (Refused r); y = i .y; u = i .u; v = i .v; words = i .words }) ≡ outcome i
+unfolding outcome
+deblock-refused i a e r f = rw (sym e ∙ f)

@@ -1,0 +1,42 @@
+-- `df_check::check::lengths_ok` meets its contract: the products fit, and the code is the list of tests. Assumes nothing.
+use Prim.Native.Nat.{_/_}
+use mathlib.Core.Path.{refl}
+use native.Mathlib.Nat.{mul-le-mul}
+use native.Mathlib.Omega.{arith}
+use borrow.Author.Needs.{needs}
+use Rattle.split.proofs.Roots.{few-units, few-roots}
+use Rattle.df_check.specs.Checks.{lengthsOk}
+use Rattle.df_check.proofs.check.lengths_ok.Statement.{statement}
+use Rattle.df_check.proofs.check.lengths_ok.Tie as tie
+
+mul-chroma : tie.Need-mul-chroma
+mul-chroma c = omega (arith, mul-le-mul {n₁ = c .args .w / 2} {m₁ = c .args .h / 2} {n₂ = 2048} {m₂ = 2048} (omega arith) (omega arith))
+
+mul-units : tie.Need-mul-units
+mul-units c = omega (arith, few-units (c .pre))
+
+mul-roots : tie.Need-mul-roots
+mul-roots c = omega (arith, few-roots (c .args .w) (c .args .h) (c .pre .wide) (c .pre .high))
+
+mul-result : tie.Need-mul-result
+mul-result c = omega (arith, mul-le-mul (c .pre .wide) (c .pre .high))
+
+mul-result-2 : tie.Need-mul-result-2
+mul-result-2 c =
+    let s = c .before .before .before .before in
+    omega (arith, few-roots (s .args .w) (s .args .h) (s .pre .wide) (s .pre .high))
+
+mul-result-3 : tie.Need-mul-result-3
+mul-result-3 c = omega (arith, few-units (c .before .before .before .before .before .pre))
+
+mul-result-4 : tie.Need-mul-result-4
+mul-result-4 c = omega (arith, few-units (c .before .before .before .before .before .before .pre))
+
+returns : tie.Need-returns
+unfolding lengthsOk
+returns c = refl
+
+pub lengths-ok-spec : {M : Type 1} → statement M
+lengths-ok-spec =
+    tie.close
+    (tie.spec mul-chroma mul-units (λ c. search needs) (λ c. search needs) mul-roots mul-result mul-result-2 mul-result-3 mul-result-4 returns)

@@ -1,0 +1,24 @@
+-- The strength entries of a pass, one table for the three planes: the lent ones for luma, 52 a row in four rows, and as many for U and for V, each at the mapped QP.
+-- A place that the lent entries do not have reads as 0.
+-- Assumes nothing: these are definitions.
+use Prim.Native.Nat.{ℕ, _+_, _*_, _/_, _%_}
+use mathlib.Core.List.{List}
+use lib.Dec.{ltb}
+use lib.IntN.{ℤ}
+use lib.ListN.{getD}
+use Rattle.laws.specs.Index.{pick, tabulate}
+use Rattle.df_check.specs.ChromaQp.{mappedZ, mapped, hasEntry}
+
+-- a chroma plane's, in a row at a QP: 0 where what the QP is mapped to has none
+unfoldable pub chromaEntry : (strengths : List ℕ) → (table : List ℤ) → (offset : ℤ) → (row qp : ℕ) → ℕ
+chromaEntry strengths table offset row qp = pick (hasEntry (mappedZ table offset qp)) (getD strengths (52 * row + mapped table offset qp) 0) 0
+
+-- at place i: luma's below 208, U's below 416, and V's
+unfoldable pub entryAt : (strengths : List ℕ) → (tableU : List ℤ) → (uOffset : ℤ) → (tableV : List ℤ) → (vOffset : ℤ) → ℕ → ℕ
+entryAt strengths tableU uOffset tableV vOffset i =
+    pick (ltb i 208) (getD strengths i 0)
+    (pick (ltb i 416) (chromaEntry strengths tableU uOffset (i % 208 / 52) (i % 52))
+    (chromaEntry strengths tableV vOffset (i % 208 / 52) (i % 52)))
+
+unfoldable pub entriesOf : (strengths : List ℕ) → (tableU : List ℤ) → (uOffset : ℤ) → (tableV : List ℤ) → (vOffset : ℤ) → List ℕ
+entriesOf strengths tableU uOffset tableV vOffset = tabulate 624 (entryAt strengths tableU uOffset tableV vOffset)

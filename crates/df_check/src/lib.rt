@@ -1,0 +1,22 @@
+// What stands before the first write of deblocking: its settings, what it refuses and in which order, and the strength entries of a pass.
+// The Rust beside it: df.rs, which takes its input to be right and looks an entry up at each edge.
+mod check;
+mod mapped;
+mod strength;
+
+pub use check::checked;
+pub use strength::entries;
+
+// Which table V's QP is mapped by on vertical edges: `source` reads table 0 there, as the Rust does, and `own` V's own, table 1.
+pub enum VEdge {
+    Source,
+    Own,
+}
+
+// The transform limit, 5 or 6, and the offsets of U's QP and of V's, -12..12.
+pub struct Settings {
+    pub limit: u8,
+    pub v_edge: VEdge,
+    pub u_offset: i8,
+    pub v_offset: i8,
+}

@@ -1,0 +1,70 @@
+// The strength entries of a pass, one table for the three planes. The Rust beside it: df.rs, evc_tbl_df_st and the chroma lookups into it.
+ghost use mathlib.Core.Path.{_≡_};
+ghost use Prim.Native.Nat.{_≤_, _<_};
+ghost use lib.ListN.{getD};
+ghost use Rattle.df_check.specs.Entries.{chromaEntry, entryAt, entriesOf};
+use crate::mapped::has_entry;
+use crate::mapped::mapped;
+
+// The lent entry at i, and 0 past the end.
+fn lent_at(strengths: &[u8], i: usize) -> u8
+    ensures { λ r. ⌜ r ≡ getD (now (strengths .entry)) i 0 ⌝ }
+{
+    if i < strengths.len() { strengths[i] } else { 0 }
+}
+
+// A chroma plane's entry in a row at a QP: the lent one at what the QP is mapped to.
+fn chroma_entry(strengths: &[u8], table: &[i8], offset: i8, row: usize, qp: usize) -> u8
+    requires { ⌜ (row ≤ 3) × (qp ≤ 51) ⌝ }
+    ensures { λ r. ⌜ r ≡ chromaEntry (now (strengths .entry)) (now (table .entry)) offset row qp ⌝ }
+{
+    let to = mapped(table, offset, qp);
+    if has_entry(to) {
+        lent_at(strengths, 52 * row + to as usize)
+    } else {
+        0
+    }
+}
+
+// The entry at place i of the three planes'.
+fn entry_at(
+    strengths: &[u8],
+    table_u: &[i8],
+    u_offset: i8,
+    table_v: &[i8],
+    v_offset: i8,
+    i: usize,
+) -> u8
+    requires { ⌜ i < 624 ⌝ }
+    ensures { λ r. ⌜ r ≡ entryAt (now (strengths .entry)) (now («table_u» .entry)) «u_offset» (now («table_v» .entry)) «v_offset» i ⌝ }
+{
+    if i < 208 {
+        return lent_at(strengths, i);
+    }
+    let row = i % 208 / 52;
+    let qp = i % 52;
+    if i < 416 {
+        chroma_entry(strengths, table_u, u_offset, row, qp)
+    } else {
+        chroma_entry(strengths, table_v, v_offset, row, qp)
+    }
+}
+
+// Luma's entries at 52 * row + QP, then U's and V's.
+pub fn entries(
+    strengths: &[u8],
+    table_u: &[i8],
+    u_offset: i8,
+    table_v: &[i8],
+    v_offset: i8,
+) -> [u8; 624]
+    ensures { λ r. ⌜ r ≡ entriesOf (now (strengths .entry)) (now («table_u» .entry)) «u_offset» (now («table_v» .entry)) «v_offset» ⌝ }
+{
+    let mut list = [0u8; 624];
+    let mut i = 0;
+    while i < 624 {
+        list[i] = entry_at(strengths, table_u, u_offset, table_v, v_offset, i);
+        i += 1;
+    }
+    list
+}

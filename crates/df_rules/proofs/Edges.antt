@@ -1,0 +1,169 @@
+-- A unit's edge in the picture: its units lie in the maps and its windows in the planes; edges filtered one after another, and counted.
+-- Assumes nothing.
+use Prim.Native.Nat.{ℕ, zero, suc, _+_, _-_, _*_, _/_, _%_, _≤_, _<_}
+use mathlib.Core.Path.{_≡_, refl, sym, ap, _∙_, subst, transport}
+use mathlib.Core.Bool.{Bool, true, false}
+use mathlib.Core.List.{List, [], _∷_, _++_}
+use native.Mathlib.Nat.{mul-le-mul-left, mul-le-mul-right, mul-one, add-mul, mul-suc, add-zero, suc-add}
+use native.Mathlib.Omega.{arith}
+use lib.IntN.{ℤ}
+use lib.ListN.{length, length-append}
+use Rattle.laws.specs.Index.{pick}
+use Rattle.laws.specs.Orders.{run}
+use Rattle.laws.proofs.Orders.{run-append}
+use Rattle.laws.proofs.Flat.{flat-within}
+use Rattle.split.specs.Edges.{Pass, vertical, horizontal, Edge, edgeAt, stretch}
+use Rattle.split.specs.Rows.{crossOf, alongOf}
+use Rattle.df_rules.specs.Frame.{Unit, Frame, unitsAcross, unitsAlong, AtUnit, Gone}
+use Rattle.df_rules.specs.Filter.{Planes, filterOne, filterAll}
+use Rattle.df_rules.specs.Places.{stepAcross, stepAlong, lineStart, unitQ, unitP}
+use Rattle.df_rules.specs.Strength.{Maps}
+
+-- ---- units
+
+module _ (w h : ℕ) where
+  q-within : (d : Pass) (c a : ℕ) → c < unitsAcross d w h → a < unitsAlong d w h → unitQ w (edgeAt d c a) < h * w
+  q-within vertical c a p q = flat-within a c w h p q
+  q-within horizontal c a p q = flat-within c a w h q p
+
+  -- there is a unit before Q
+  pub p-before : (d : Pass) (c a : ℕ) → 1 ≤ c → stepAcross d w ≤ unitQ w (edgeAt d c a)
+  p-before vertical c a p = omega arith
+  p-before horizontal c a p = omega (arith, mul-le-mul-right {m = 1} {n = c} w p)
+
+  module _ {y u v words : List ℕ} {motion refs : List ℤ} {entries : List ℕ} (f : Frame w h y u v words motion refs entries) where
+    unit-of : (k : ℕ) → k < h * w → Unit words motion refs k
+    unit-of k p = record { word = omega (arith, f .long-words); mv = omega (arith, f .long-motion); refi = omega (arith, f .long-refs); qp = f .qps k }
+
+    pub unit-q : (d : Pass) (c a : ℕ) → c < unitsAcross d w h → a < unitsAlong d w h → Unit words motion refs (unitQ w (edgeAt d c a))
+    unit-q d c a p q = unit-of _ (q-within d c a p q)
+
+    pub unit-p : (d : Pass) (c a : ℕ) → c < unitsAcross d w h → a < unitsAlong d w h → Unit words motion refs (unitP d w (edgeAt d c a))
+    unit-p d c a p q = let l = q-within d c a p q in unit-of _ (omega arith)
+
+-- ---- windows, in a plane of m samples a unit's side
+
+module _ (m w h : ℕ) (two : 2 ≤ m) where
+  -- a unit's last sample, and the one past its first
+  pub last-in : (x n : ℕ) → x < n → m * x + (m - 1) < m * n
+  last-in x n p = omega (arith, mul-le-mul-left {m = suc x} {n = n} m p, mul-suc m x)
+
+  pub next-in : (x n : ℕ) → x < n → m * x + 1 < m * n
+  next-in x n p = omega (arith, last-in x n p)
+
+  pub starts : (c : ℕ) → 1 ≤ c → 2 ≤ m * c
+  starts c p = omega (arith, mul-le-mul-left {m = 1} {n = c} m p, mul-one m)
+
+  pub inside : (d : Pass) (c a : ℕ) → 1 ≤ c → c < unitsAcross d w h → a < unitsAlong d w h → lineStart d (m * w) (m * c) (m * a) + (m - 1) * stepAlong d (m * w) + 3 * stepAcross d (m * w) < m * h * (m * w)
+  inside vertical c a i p q =
+      let s = starts c i in
+      let t = mul-one (m * c - 2) in
+      let k = add-mul (m * a) (m - 1) (m * w) in
+      omega (arith, flat-within (m * a + (m - 1)) (m * c + 1) (m * w) (m * h) (next-in c w p) (last-in a h q))
+  inside horizontal c a i p q =
+      let s = starts c i in
+      let t = mul-one (m * a) in
+      let r = mul-one (m - 1) in
+      let k = add-mul (m * c - 2) 3 (m * w) in
+      let e : m * c - 2 + 3 ≡ m * c + 1 = omega arith in
+      let g = ap (λ (n : ℕ). n * (m * w)) e in
+      omega (arith, flat-within (m * c + 1) (m * a + (m - 1)) (m * w) (m * h) (last-in a w q) (next-in c h p))
+
+-- ---- an edge by its place
+
+pub cross-at : (d : Pass) (c a : ℕ) → crossOf d (edgeAt d c a) ≡ c
+cross-at vertical c a = refl
+cross-at horizontal c a = refl
+
+pub along-at : (d : Pass) (c a : ℕ) → alongOf d (edgeAt d c a) ≡ a
+along-at vertical c a = refl
+along-at horizontal c a = refl
+
+-- ---- a sample's place by its unit
+
+pub record Spot (d : Pass) (w h x z : ℕ) : Type 0 where
+  pub inner : 1 ≤ x / 4
+  pub across : x / 4 < unitsAcross d w h
+  pub along : z / 4 < unitsAlong d w h
+  pub few-x : x ≤ 4096
+  pub few-z : z ≤ 4096
+  pub luma-x : x ≡ 4 * (x / 4)
+  pub luma-z : z ≡ 4 * (z / 4)
+  pub chroma-x : x / 2 ≡ 2 * (x / 4)
+  pub chroma-z : z / 2 ≡ 2 * (z / 4)
+
+few-across : (d : Pass) (w h : ℕ) → w ≤ 1024 → h ≤ 1024 → unitsAcross d w h ≤ 1024
+few-across vertical w h p q = p
+few-across horizontal w h p q = q
+
+pub few-along : (d : Pass) (w h : ℕ) → w ≤ 1024 → h ≤ 1024 → unitsAlong d w h ≤ 1024
+few-along vertical w h p q = q
+few-along horizontal w h p q = p
+
+pub spot : (d : Pass) (w h x z : ℕ) → w ≤ 1024 → h ≤ 1024 → AtUnit d w h x z → Spot d w h x z
+spot d w h x z p q a =
+    let f = few-across d w h p q in
+    let g = few-along d w h p q in
+    record {
+      inner = omega arith;
+      across = omega arith;
+      along = omega arith;
+      few-x = omega arith;
+      few-z = omega arith;
+      luma-x = omega arith;
+      luma-z = omega arith;
+      chroma-x = omega arith;
+      chroma-z = omega arith;
+    }
+
+-- ---- a stretch, one edge more at a time
+
+stretch-more : (d : Pass) (c a n : ℕ) → stretch d c a (n + 1) ≡ stretch d c a n ++ (edgeAt d c (a + n) ∷ [])
+unfolding stretch
+stretch-more d c a zero = ap (λ (k : ℕ). edgeAt d c k ∷ []) (sym (add-zero a))
+stretch-more d c a (suc n) =
+    let e : suc a + n ≡ a + suc n = omega arith in
+    rw suc-add (ap (λ (l : List Edge). edgeAt d c a ∷ l) (stretch-more d c (suc a) n ∙ ap (λ (k : ℕ). stretch d c (suc a) n ++ (edgeAt d c k ∷ [])) e))
+
+module _ (m : Maps) (t : List ℕ) (d : Pass) (w : ℕ) where
+  pub filter-none : (c a : ℕ) (p : Planes) → p ≡ filterAll m t d w (stretch d c a 0) p
+  unfolding run stretch
+  filter-none c a p = refl
+
+  pub filter-more : (c a k b : ℕ) (p p₁ p₂ : Planes) → p₁ ≡ filterAll m t d w (stretch d c a k) p → p₂ ≡ filterAll m t d w (edgeAt d c b ∷ []) p₁ → b ≡ a + k
+      → p₂ ≡ filterAll m t d w (stretch d c a (k + 1)) p
+  filter-more c a k b p p₁ p₂ g h e =
+      h ∙ ap (filterAll m t d w (edgeAt d c b ∷ [])) g ∙ sym (run-append (filterOne m t d w) (stretch d c a k) (edgeAt d c b ∷ []) p)
+      ∙ ap (λ (l : List Edge). filterAll m t d w l p) (ap (λ (n : ℕ). stretch d c a k ++ (edgeAt d c n ∷ [])) e ∙ sym (stretch-more d c a k))
+
+-- how many they are
+pub stretch-long : (d : Pass) (c a n : ℕ) → length (stretch d c a n) ≡ n
+unfolding stretch
+stretch-long d c a zero = refl
+stretch-long d c a (suc n) = ap suc (stretch-long d c (suc a) n)
+
+-- ---- the edges of a side, where there is one to filter
+
+module _ (m : Maps) (t : List ℕ) (d : Pass) (w c a n count : ℕ) (p q : Planes) (few : n ≤ 16) where
+  pub went : (go : Bool) → go ≡ true → q ≡ filterAll m t d w (stretch d c a n) p → Gone m t d w (pick go (stretch d c a n) []) 16 count p q (count + n)
+  went go e g = rw e (record { planes = g; counted = ap (λ (k : ℕ). count + k) (sym (stretch-long d c a n)); few = omega arith })
+
+pub stayed : (m : Maps) (t : List ℕ) (d : Pass) (w c a n count : ℕ) (p : Planes) (go : Bool) → go ≡ false → Gone m t d w (pick go (stretch d c a n) []) 16 count p p count
+unfolding run
+stayed m t d w c a n count p go e = rw e (record { planes = refl; counted = sym (add-zero count); few = omega arith })
+
+-- one list after another
+pub gone-then : (m : Maps) (t : List ℕ) (d : Pass) (w : ℕ) (k l : List Edge) (count : ℕ) (p q s : Planes) (r r₁ : ℕ)
+    → Gone m t d w k 16 count p q r → Gone m t d w l 16 r q s r₁ → Gone m t d w (k ++ l) 32 count p s r₁
+gone-then m t d w k l count p q s r r₁ g h = record {
+  planes = h .planes ∙ ap (filterAll m t d w l) (g .planes) ∙ sym (run-append (filterOne m t d w) k l p);
+  counted = omega (arith, g .counted, h .counted, length-append k l);
+  few = omega (arith, g .few, h .few);
+}
+
+-- the same of an equal list
+pub gone-as : {m : Maps} {t : List ℕ} {d : Pass} {w : ℕ} {k l : List Edge} {most count : ℕ} {p q : Planes} {r : ℕ} → Gone m t d w k most count p q r → k ≡ l → Gone m t d w l most count p q r
+gone-as {m} {t} {d} {w} {most = most} {count} {p} {q} {r} g e = subst (λ (j : List Edge). Gone m t d w j most count p q r) e g
+
+pub gone-few : {m : Maps} {t : List ℕ} {d : Pass} {w : ℕ} {l : List Edge} {count : ℕ} {p q : Planes} {r : ℕ} → Gone m t d w l 16 count p q r → Gone m t d w l 32 count p q r
+gone-few g = record { planes = g .planes; counted = g .counted; few = omega (arith, g .few) }

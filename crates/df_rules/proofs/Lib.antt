@@ -1,0 +1,14 @@
+pub mod Both
+pub mod Edges
+pub mod Example
+pub mod Finished
+pub mod Frames
+pub mod Leaves
+pub mod Local
+pub mod Marks
+pub mod Passes
+pub mod Planes
+pub mod Rows
+pub mod Strengths
+pub mod Visits
+pub mod Windows

@@ -1,0 +1,57 @@
+-- One unit's edge, filtered in one plane: its window there, at its strength. w is the picture's width in units.
+-- Assumes nothing: these are definitions.
+use Prim.Native.Nat.{ℕ, _+_, _*_}
+use mathlib.Core.List.{List}
+use Rattle.def.specs.declared.Component.{Component}
+use Rattle.def.specs.declared.Component.the-variants.{Luma, Chroma}
+use Rattle.laws.specs.Orders.{run}
+use Rattle.line.specs.Line.{maskOf}
+use Rattle.split.specs.Edges.{Pass, vertical, horizontal, Edge}
+use Rattle.split.specs.Rows.{crossOf, alongOf}
+use Rattle.df_rules.specs.Places.{unitSide, stepAcross, stepAlong, lineStart}
+use Rattle.df_rules.specs.Strength.{Maps, strength}
+use Rattle.df_rules.specs.Window.{windowAt}
+
+-- the lines of a unit's edge
+abbrev pub window : Pass → Component → (w st : ℕ) → Edge → List ℕ → List ℕ
+window d c w st e =
+    let m = unitSide c in
+    windowAt (maskOf c) st (stepAcross d (m * w)) (stepAlong d (m * w)) (lineStart d (m * w) (m * crossOf d e) (m * alongOf d e)) m
+
+-- at its strength
+abbrev pub filtered : Maps → (entries : List ℕ) → (at : ℕ → ℕ) → Pass → Component → (w : ℕ) → Edge → List ℕ → List ℕ
+filtered m entries at d c w e = window d c w (strength m entries at d w e) e
+
+-- ---- in all three planes, by the entries of a pass: 208 for luma, at 52 * row + QP, then 208 for U and 208 for V
+
+abbrev pub inY : ℕ → ℕ
+inY qp = qp
+
+abbrev pub inU : ℕ → ℕ
+inU qp = 208 + qp
+
+abbrev pub inV : ℕ → ℕ
+inV qp = 416 + qp
+
+pub record Planes : Type 0 where
+  pub y : List ℕ
+  pub u : List ℕ
+  pub v : List ℕ
+
+abbrev pub filterOne : Maps → (entries : List ℕ) → Pass → (w : ℕ) → Edge → Planes → Planes
+filterOne m t d w e p =
+    record {
+      y = filtered m t inY d Luma w e (p .y);
+      u = filtered m t inU d Chroma w e (p .u);
+      v = filtered m t inV d Chroma w e (p .v);
+    }
+
+-- a list of edges, one after the other
+abbrev pub filterAll : Maps → (entries : List ℕ) → Pass → (w : ℕ) → List Edge → Planes → Planes
+filterAll m t d w l p = run (filterOne m t d w) l p
+
+-- ---- a plane after both passes: the first list, and then the second. at: by the pass, what Q's QP is mapped to
+
+abbrev pub finished : Maps → (strengths : List ℕ) → (at : Pass → ℕ → ℕ) → Component → (w : ℕ) → (ups levels : List Edge) → List ℕ → List ℕ
+finished m t at c w ups levels p =
+    run (filtered m t (at horizontal) horizontal c w) levels (run (filtered m t (at vertical) vertical c w) ups p)

@@ -1,0 +1,71 @@
+-- What the functions of a unit's edge and of its pass ask for and give: a picture's frame, places in it, and edges filtered and counted.
+-- Assumes nothing: these are definitions.
+use Prim.Native.Nat.{ℕ, _+_, _*_, _%_, _≤_, _<_}
+use mathlib.Core.List.{List}
+use mathlib.Core.Path.{_≡_}
+use lib.IntN.{ℤ}
+use lib.ListN.{length, getD}
+use Rattle.def.specs.Word.{qpOf}
+use Rattle.split.specs.Edges.{Pass, vertical, horizontal, Edge}
+use Rattle.df_rules.specs.Filter.{Planes, filterAll}
+use Rattle.df_rules.specs.Strength.{Maps}
+use Rattle.df_rules.specs.Visit.{allDone}
+use Rattle.df_rules.specs.Window.{Samples}
+
+-- k is a unit of the maps, and its QP has an entry
+pub record Unit (words : List ℕ) (motion refs : List ℤ) (k : ℕ) : Type 0 where
+  pub word : k < length words
+  pub mv : 4 * k + 4 ≤ length motion
+  pub refi : 2 * k + 2 ≤ length refs
+  pub qp : qpOf (getD words k 0) ≤ 51
+
+-- a picture of w by h units with its maps, and the entries of a pass
+pub record Frame (w h : ℕ) (y u v words : List ℕ) (motion refs : List ℤ) (entries : List ℕ) : Type 0 where
+  pub wide : w ≤ 1024
+  pub high : h ≤ 1024
+  pub long-y : length y ≡ 4 * h * (4 * w)
+  pub long-u : length u ≡ 2 * h * (2 * w)
+  pub long-v : length v ≡ 2 * h * (2 * w)
+  pub long-words : length words ≡ h * w
+  pub long-motion : length motion ≡ 4 * (h * w)
+  pub long-refs : length refs ≡ 2 * (h * w)
+  pub long-entries : length entries ≡ 624
+  pub qps : (k : ℕ) → qpOf (getD words k 0) ≤ 51
+  pub all-y : Samples y
+  pub all-u : Samples u
+  pub all-v : Samples v
+
+-- how many units a picture of w by h has across a pass's edges, and along them
+abbrev pub unitsAcross : Pass → (w h : ℕ) → ℕ
+unitsAcross vertical w h = w
+unitsAcross horizontal w h = h
+
+abbrev pub unitsAlong : Pass → (w h : ℕ) → ℕ
+unitsAlong vertical w h = h
+unitsAlong horizontal w h = w
+
+-- c across and a along is the first luma sample of a unit that has one before it
+pub record AtUnit (d : Pass) (w h c a : ℕ) : Type 0 where
+  pub whole-c : c % 4 ≡ 0
+  pub whole-a : a % 4 ≡ 0
+  pub inner : 4 ≤ c
+  pub across : c < 4 * unitsAcross d w h
+  pub along : a < 4 * unitsAlong d w h
+
+-- and n units from there on along the edge
+pub record AtUnits (d : Pass) (w h c a n : ℕ) : Type 0 where
+  pub first : AtUnit d w h c a
+  pub last : a + 4 * n ≤ 4 * unitsAlong d w h
+
+-- the edges of a list were filtered and counted
+pub record Gone (m : Maps) (entries : List ℕ) (d : Pass) (w : ℕ) (l : List Edge) (most count : ℕ) (p q : Planes) (r : ℕ) : Type 0 where
+  pub planes : q ≡ filterAll m entries d w l p
+  pub counted : r ≡ count + length l
+  pub few : r ≤ count + most
+
+-- both passes' lists were filtered, one after the other, and counted, and every unit is done. t, t₁: the entries of the vertical pass, and of the horizontal
+pub record Both (m : Maps) (t t₁ : List ℕ) (w : ℕ) (ups levels : List Edge) (p q : Planes) (words : List ℕ) (ver hor : ℕ) : Type 0 where
+  pub planes : q ≡ filterAll m t₁ horizontal w levels (filterAll m t vertical w ups p)
+  pub ups-counted : ver ≡ length ups
+  pub levels-counted : hor ≡ length levels
+  pub marks : words ≡ allDone (m .words)

@@ -1,0 +1,5 @@
+pub mod Answers
+pub mod Forms
+pub mod Ladder
+pub mod Once
+pub mod Reading

@@ -1,0 +1,4 @@
+pub mod Fields
+pub mod Lines
+pub mod ReadCall
+pub mod Words
