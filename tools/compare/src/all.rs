@@ -36,10 +36,8 @@ pub const CALLS: [Call; 12] = [
     call("listing", listing::draw, listing::damaged, 2),
 ];
 
-#[cfg(feature = "deblock")]
+/// The calls over whole pictures.
 pub const PICTURES: [Call; 1] = [call("deblock", deblock_cases::draw, deblock_cases::damaged, 1000)];
-#[cfg(not(feature = "deblock"))]
-pub const PICTURES: [Call; 0] = [];
 
 /// Two answers to one input that are not the same.
 pub struct Difference {

@@ -220,14 +220,12 @@ impl Case for Window {
     }
 }
 
-#[cfg(feature = "deblock")]
 pub fn draw(rng: &mut Rng) -> Box<dyn Case> {
     let most = rng.pick(&[8, 16, 36, 72, 140]);
     let i = 1 + rng.below(64);
     Box::new(varied(rng, most, i))
 }
 
-#[cfg(feature = "deblock")]
 pub fn damaged(rng: &mut Rng) -> Box<dyn Case> {
     let mut case = varied(rng, 24, 1);
     for _ in 0..1 + rng.below(2) {
