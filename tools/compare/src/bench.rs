@@ -1,5 +1,4 @@
 //! Speed of both sides in one run, on the same inputs: the best of many rounds. The product's refusal scans are counted; the Rust has none.
-#[cfg(feature = "deblock")]
 use crate::cases::deblock::{picture, Picture};
 use crate::chart::{self, Series};
 use crate::rng::Rng;
@@ -115,7 +114,6 @@ fn copied(rng: &mut Rng, size: usize) -> f64 {
     best(&mut to, |_| {}, |to| to.copy_from_slice(black_box(&from))) / from.len() as f64
 }
 
-#[cfg(feature = "deblock")]
 fn deblocked(given: &Picture) -> (f64, f64) {
     let size = (given.w, given.h);
     let count = 1.5 * (given.w * given.h) as f64;
@@ -146,7 +144,6 @@ fn deblocked(given: &Picture) -> (f64, f64) {
 }
 
 /// Deblocking of pictures of these leaves, all units intra or all inter.
-#[cfg(feature = "deblock")]
 fn deblocking(rng: &mut Rng) -> Vec<Series> {
     use crate::cases::trees::{FINEST, SIXTEENS, UNCUT};
     let mut all = Vec::new();
@@ -162,11 +159,6 @@ fn deblocking(rng: &mut Rng) -> Vec<Series> {
         }
     }
     all
-}
-
-#[cfg(not(feature = "deblock"))]
-fn deblocking(_: &mut Rng) -> Vec<Series> {
-    Vec::new()
 }
 
 fn series(what: &str, mut measure: impl FnMut(usize) -> (f64, f64)) -> Series {

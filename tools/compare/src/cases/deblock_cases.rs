@@ -263,7 +263,6 @@ impl Case for Window {
     }
 }
 
-#[cfg(feature = "deblock")]
 pub fn draw(rng: &mut Rng) -> Box<dyn Case> {
     let most = rng.pick(&[8, 16, 36, 72, 140]);
     let i = 1 + rng.below(64);
@@ -271,7 +270,6 @@ pub fn draw(rng: &mut Rng) -> Box<dyn Case> {
     Box::new(varied(rng, size, i))
 }
 
-#[cfg(feature = "deblock")]
 pub fn damaged(rng: &mut Rng) -> Box<dyn Case> {
     let size = square(rng, 24);
     let mut case = varied(rng, size, 1);
