@@ -1,0 +1,4 @@
+pub mod Components
+pub mod Places
+pub mod Small
+pub mod States
