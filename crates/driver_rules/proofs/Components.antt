@@ -1,4 +1,5 @@
 -- One component of a leaf: none of the calls is refused, and what they give is of 10 bits.
+--     side-short, samples-few    a block's side and its samples in a component
 --     run-small    gathering reads units that are done, so every sample of a run is at most 1023
 --     gathers    a call of gathering whose input is right is done
 --     prediction-long, prediction-small    a prediction has its length, and its samples pass
@@ -8,6 +9,7 @@ use Prim.Native.Nat.{ℕ, _+_, _-_, _*_, _/_, _%_, _≤_, _<_}
 use mathlib.Core.Path.{_≡_, refl, sym, ap, _∙_, subst}
 use mathlib.Core.Bool.{Bool, true, false, not, _&&_, _||_}
 use mathlib.Core.List.{List, [], _∷_}
+use native.Mathlib.Nat.{mul-le-mul}
 use native.Mathlib.Omega.{arith}
 use borrow.Author.Tests.{ltb-true, le-leb, eq-eqb}
 use lib.Dec.{ltb, leb}
@@ -33,12 +35,21 @@ use Rattle.nbr.specs.Gather as nbr
 use Rattle.nbr.specs.Gather.{Around, unitSide, sideOf, across, column, row, counts, presentAt, sampleAt, nearAt, runAt, runOf, runLength}
 use Rattle.nbr.specs.Units.{unitAt}
 use Rattle.nbr.proofs.Runs.{run-long, run-samples}
+use Rattle.nbr.proofs.Sides.{scaled-le}
 use Rattle.recon.specs.Recon.{blockAt}
 use Rattle.samples.specs.Samples.{samplesOk}
 use Rattle.samples.proofs.Samples.{sample-any, samples-pass, one-of-two}
 use Rattle.driver_rules.specs.Asked.{DoneSmall, BlockAsked, LentAsked}
-use Rattle.driver_rules.specs.Records.{isMode}
+use Rattle.driver_rules.specs.Records.{isMode, sampleCount}
 use Rattle.driver_rules.specs.Steps.{lentAt, predictionOf, planeOf}
+
+-- ---- a block's side in a component
+
+pub side-short : (c : Component) (w h x y side : ℕ) → blockOk w h x y side ≡ true → sideOf c side ≤ 64
+side-short c w h x y side b = scaled-le c side 64 (blocked w h x y side b .most)
+
+pub samples-few : (c : Component) (w h x y side : ℕ) → blockOk w h x y side ≡ true → sampleCount c side ≤ 4096
+samples-few c w h x y side b = let s = side-short c w h x y side b in mul-le-mul {n₂ = 64} {m₂ = 64} s s
 
 -- ---- gathering
 

@@ -1,3 +1,4 @@
+pub mod Calls
 pub mod Components
 pub mod Places
 pub mod Small
