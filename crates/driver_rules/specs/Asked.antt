@@ -1,6 +1,6 @@
 -- What the functions of the driver ask, past the checks, of what is lent and of the state as it stands.
 -- Assumes nothing: these are definitions.
-use Prim.Native.Nat.{ℕ, _+_, _*_, _/_, _≤_, _<_}
+use Prim.Native.Nat.{ℕ, _+_, _*_, _/_, _%_, _≤_, _<_}
 use mathlib.Core.Path.{_≡_}
 use mathlib.Core.Bool.{Bool, true}
 use mathlib.Core.List.{List}
@@ -66,6 +66,13 @@ pub record Blocks (w h : ℕ) (l : List ℕ) (n : ℕ) : Type 0 where
   pub long : length l ≡ 768
   pub few : n ≤ 256
   pub blocks : (j : ℕ) → j < n → blockOk w h (getD l (3 * j) 0) (getD l (3 * j + 1) 0) (getD l (3 * j + 2) 0) ≡ true
+
+-- and so its side is one of a block's
+pub record Sides (l : List ℕ) (n : ℕ) : Type 0 where
+  pub long : length l ≡ 768
+  pub few : n ≤ 256
+  pub units : (j : ℕ) → j < n → getD l (3 * j + 2) 0 % 4 ≡ 0
+  pub most : (j : ℕ) → j < n → getD l (3 * j + 2) 0 ≤ 64
 
 -- a picture whose walk is not refused
 pub record Accepted (w h : ℕ) (splits : List ℕ) : Type 0 where
