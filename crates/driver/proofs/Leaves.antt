@@ -2,7 +2,7 @@
 --     planes-asked, told    what its components and its units ask
 --     leaf-drawn    the state after it
 --     leaves-start, leaves-next, leaves-asked    the first leaves of a list
---     ended    the planes and the maps of the state
+--     ended, done-ended    the planes and the maps of the last state, and the call's outcome
 -- Assumes nothing.
 use Prim.Native.Nat.{ℕ, _+_, _*_, _/_, _≤_, _<_}
 use mathlib.Core.Path.{_≡_, refl, sym, ap, _∙_}
@@ -13,7 +13,7 @@ use native.Mathlib.Omega.{arith}
 use lib.Dec.{leb}
 use lib.IntN.{ℤ}
 use lib.ListN.{length}
-use Rattle.laws.specs.Index.{pick}
+use Rattle.laws.specs.Index.{pick, tabulate}
 use Rattle.laws.specs.Plane.{withBlock}
 use Rattle.def.specs.Blocks.{blockOk}
 use Rattle.def.specs.Picture.{sizeOk, unitCount}
@@ -23,8 +23,9 @@ use Rattle.def.proofs.Sizes.{sized}
 use Rattle.nbr.proofs.Sides.{four}
 use Rattle.split.specs.Stored.{leafFrom, leavesFrom}
 use Rattle.driver_rules.specs.Asked.{GivenAsked, StateAsked, Stepped}
+use Rattle.driver_rules.specs.Call.{Input, leavesOf, done}
 use Rattle.driver_rules.specs.Records.{kindAt, qpAt, maskAt, isMode, codedY, passed}
-use Rattle.driver_rules.specs.Steps.{Given, State, stepAt}
+use Rattle.driver_rules.specs.Steps.{Given, State, stepAt, steps}
 use Rattle.driver_rules.proofs.States.{asked-y, asked-u, asked-v}
 use Rattle.driver_rules.proofs.Walked.{leaves-none, leaves-more, stepped-place}
 use Rattle.driver.specs.Lends.{givenOf, placeOf, stateOf, Drawn, PlanesAsked, Told, Ended}
@@ -91,3 +92,9 @@ ended e =
       words-end = ap (λ (s : State). s .words) e;
       modes-end = ap (λ (s : State). s .modes) e;
     }
+
+-- as the call's outcome: the words were cleared first
+pub done-ended : (i : Input) {words y′ u′ v′ words′ modes′ : List ℕ} → words ≡ tabulate (length (i .words)) (λ (k : ℕ). 0)
+    → Ended (steps (i .given) (leavesOf (i .given .w) (i .given .h) (i .splits)) (stateOf (i .y) (i .u) (i .v) words (i .modes) 0 0)) y′ u′ v′ words′ modes′
+    → record { number = 0; y = y′; u = u′; v = v′; words = words′; modes = modes′ } ≡ done i
+done-ended i e d = let f = rw e at d in rw (f .y-end, f .u-end, f .v-end, f .words-end, f .modes-end)

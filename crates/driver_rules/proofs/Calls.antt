@@ -41,7 +41,7 @@ module _ (a : Around) (k : BlockAsked a) where
         let e : run₁ ≡ runOf a = ap (λ (o : nbr.Outcome). o .run) (g ∙ gathers-block a k run₀ long) in
         let q = rw (e, side) at p in
         let done = predicts (record { mode = mode; side = sideOf (a .component) (a .side); run = runOf a; block = pred₀ })
-            (side-in-component (a .component) (a .side) (blocked _ _ _ _ _ (k .block) .side-ok)) (run-long a) room small (run-good a k) in
+        (side-in-component (a .component) (a .side) (blocked _ _ _ _ _ (k .block) .side-ok)) (run-long a) room small (run-good a k) in
         rw side (ap (λ (o : ipred.Outcome). o .block) (q ∙ sym done))
 
   pub drawn-from : (lent : List ℕ) → LentAsked (a .component) (a .w) (a .h) lent → (kind : ℕ) (coded : Bool) (coef : List ℤ) (pred₁ plane₁ : List ℕ) (i : ℕ) → length coef ≡ sampleCount (a .component) (a .side)

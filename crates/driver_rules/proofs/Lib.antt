@@ -1,5 +1,7 @@
 pub mod Calls
+pub mod Checks
 pub mod Components
+pub mod Finished
 pub mod Lists
 pub mod Places
 pub mod Small

@@ -40,7 +40,7 @@ unfolding blockOk
 block-passes w h x y side s a b c d = rw (s, eq-eqb _ _ a, eq-eqb _ _ b, le-leb _ _ c, le-leb _ _ d)
 
 -- of a side of 2 ^ log units, at (x, y) in luma
-leaf-block : (w h log x y side : ℕ) → log ≤ 4 → x % 4 ≡ 0 → y % 4 ≡ 0 → x / 4 % 2 ^ log ≡ 0 → y / 4 % 2 ^ log ≡ 0 → side ≡ 4 * 2 ^ log → x / 4 + 2 ^ log ≤ w / 4 → y / 4 + 2 ^ log ≤ h / 4 → blockOk w h x y side ≡ true
+pub leaf-block : (w h log x y side : ℕ) → log ≤ 4 → x % 4 ≡ 0 → y % 4 ≡ 0 → x / 4 % 2 ^ log ≡ 0 → y / 4 % 2 ^ log ≡ 0 → side ≡ 4 * 2 ^ log → x / 4 + 2 ^ log ≤ w / 4 → y / 4 + 2 ^ log ≤ h / 4 → blockOk w h x y side ≡ true
 unfolding blockSideOk
 leaf-block w h zero x y side s p q a b e c d = rw e (block-passes w h x y 4 refl (omega arith) (omega arith) (omega arith) (omega arith))
 leaf-block w h (suc zero) x y side s p q a b e c d = rw e (block-passes w h x y 8 refl (omega arith) (omega arith) (omega arith) (omega arith))

@@ -51,7 +51,7 @@ pub within-units : (c : Component) (p side k : ℕ) → p % 4 ≡ 0 → side % 4
 within-units Luma p side k e f = along _ _ _ _ k (k / 4) (λ i. omega arith) (λ i. omega arith) (λ i j. (omega arith, omega arith))
 within-units Chroma p side k e f = along _ _ _ _ k (k / 2) (λ i. omega arith) (λ i. omega arith) (λ i j. (omega arith, omega arith))
 
-units-below : (c : Component) (k n : ℕ) → n % 4 ≡ 0 → k < n / scaleOf c → k / unitSide c < n / 4
+pub units-below : (c : Component) (k n : ℕ) → n % 4 ≡ 0 → k < n / scaleOf c → k / unitSide c < n / 4
 units-below Luma k n e p = omega arith
 units-below Chroma k n e p = omega arith
 

@@ -41,23 +41,31 @@ draw-leaf-requires : tie.Need-draw-leaf-requires Inv-loop μ-loop
 draw-leaf-requires c κs =
     let s = c .before .before .before .before .before .before .before .before .before .before .before .before .before .before .before .before .before .before .before .before in
     let l = c .before .before .before .before .before .before .before .before .before .loop in
-    let taken = c .before .before .before .before .before .before .before .before .loop-test .taken in
-    (s .pre .0, (l .inv .6 .asked, (s .pre .1 .1 .0 .blocks _ taken,
-    leaves-reach (s .args .leaves .now) (length (s .args .residual .now)) (s .args .list .now) (l .j) (s .args .n) (placeOf (s .args .at) (s .args .k)) (placeOf (l .end) (s .args .k + l .j)) taken
-    (sides (s .pre .1 .1 .0) .units _ taken) (leaves-asked (s .args .list .now) (s .args .k) (l .j) (l .inv .6)) (s .pre .1 .1 .1))))
+    let taken = c .before .before .before .before .before .before .before .before .loop-test .taken in (
+      s .pre .0,
+      (
+        l .inv .6 .asked,
+        (
+          s .pre .1 .1 .0 .blocks _ taken,
+          leaves-reach (s .args .leaves .now) (length (s .args .residual .now)) (s .args .list .now) (l .j) (s .args .n) (placeOf (s .args .at) (s .args .k)) (placeOf (l .end) (s .args .k + l .j)) taken
+              (sides (s .pre .1 .1 .0) .units _ taken) (leaves-asked (s .args .list .now) (s .args .k) (l .j) (l .inv .6)) (s .pre .1 .1 .1),
+        ),
+      ),
+    )
 
 loop-again : tie.Need-loop-again Inv-loop μ-loop
 loop-again c =
     let s = c .before .before .before .before .before .before .before .before .before .before .before .before .before .before .before .before .before .before .before .before .before .before .before .before .before .before .before .before .before .before .before in
     let l = c .before .before .before .before .before .before .before .before .before .before .before .before .before .before .before .before .before .before .before .before .loop in
-    let k = c .before .before .before .before .before .before .before .before .before .before .draw-leaf .kept in
-    (omega (arith, c .before .before .before .before .before .before .before .before .before .before .before .before .before .before .before .before .before .before .before .loop-test .taken),
-    k .1 .1 .1 .1 .1 .1 .1 .1 .1 .1 .1 .1 .1 .0 ∙ l .inv .1,
-    k .1 .1 .1 .1 .1 .1 .1 .1 .1 .1 .1 .1 .1 .1 .0 ∙ l .inv .2,
-    k .1 .1 .1 .1 .1 .1 .1 .1 .1 .1 .1 .1 .1 .1 .1 .0 ∙ l .inv .3,
-    k .1 .1 .1 .1 .1 .1 .1 .1 .1 .1 .1 .1 .1 .1 .1 .1 .0 ∙ l .inv .4,
-    k .1 .1 .1 .1 .1 .1 .1 .1 .1 .1 .1 .1 .1 .1 .1 .1 .1 .0 ∙ l .inv .5,
-    leaves-next (s .args .list .now) (s .args .k) (l .j) (l .inv .6) (c .before .before .before .before .before .before .before .before .before .before .draw-leaf .ensures))
+    let k = c .before .before .before .before .before .before .before .before .before .before .draw-leaf .kept in (
+      omega (arith, c .before .before .before .before .before .before .before .before .before .before .before .before .before .before .before .before .before .before .before .loop-test .taken),
+      k .1 .1 .1 .1 .1 .1 .1 .1 .1 .1 .1 .1 .1 .0 ∙ l .inv .1,
+      k .1 .1 .1 .1 .1 .1 .1 .1 .1 .1 .1 .1 .1 .1 .0 ∙ l .inv .2,
+      k .1 .1 .1 .1 .1 .1 .1 .1 .1 .1 .1 .1 .1 .1 .1 .0 ∙ l .inv .3,
+      k .1 .1 .1 .1 .1 .1 .1 .1 .1 .1 .1 .1 .1 .1 .1 .1 .0 ∙ l .inv .4,
+      k .1 .1 .1 .1 .1 .1 .1 .1 .1 .1 .1 .1 .1 .1 .1 .1 .1 .0 ∙ l .inv .5,
+      leaves-next (s .args .list .now) (s .args .k) (l .j) (l .inv .6) (c .before .before .before .before .before .before .before .before .before .before .draw-leaf .ensures),
+    )
 
 returns : tie.Need-returns Inv-loop μ-loop
 returns c =

@@ -43,26 +43,34 @@ draw-leaves-requires c κs =
     let s = c .before .before .before .before .before .before .before .before .before .before .before .before .before .before .before .before .before .before .before .before .before in
     let l = c .before .before .before .before .before .before .before .before .before .before .loop in
     let d = c .before .before .before .before .before .before .before .root-leaves .ensures in
-    let early : l .i < roots (s .args .w / 4) (s .args .h / 4) = omega (arith, c .before .before .before .before .before .before .before .before .before .loop-test .taken, roots-units (size s)) in
-    (s .pre .0, (l .inv .7 .asked, (d .blocks,
-    roots-reach (s .args .leaves .now) _ (s .args .splits .now) (s .args .w / 4) (s .args .h / 4) (l .i) _ _ _ first (placeOf (l .at) (l .k)) early (d .same)
-    (stepped-place _ (leavesOf (s .args .splits .now) (s .args .w / 4) (s .args .h / 4) (l .i)) _ _ (l .inv .7)) (s .pre .1 .1 .1))))
+    let early : l .i < roots (s .args .w / 4) (s .args .h / 4) = omega (arith, c .before .before .before .before .before .before .before .before .before .loop-test .taken, roots-units (size s)) in (
+      s .pre .0,
+      (
+        l .inv .7 .asked,
+        (
+          d .blocks,
+          roots-reach (s .args .leaves .now) _ (s .args .splits .now) (s .args .w / 4) (s .args .h / 4) (l .i) _ _ _ first (placeOf (l .at) (l .k)) early (d .same)
+              (stepped-place _ (leavesOf (s .args .splits .now) (s .args .w / 4) (s .args .h / 4) (l .i)) _ _ (l .inv .7)) (s .pre .1 .1 .1),
+        ),
+      ),
+    )
 
 loop-again : tie.Need-loop-again Inv-loop μ-loop
 loop-again c =
     let s = c .before .before .before .before .before .before .before .before .before .before .before .before .before .before .before .before .before .before .before .before .before .before .before .before .before .before .before .before .before .before .before .before in
     let l = c .before .before .before .before .before .before .before .before .before .before .before .before .before .before .before .before .before .before .before .before .before .loop in
     let d = c .before .before .before .before .before .before .before .before .before .before .before .before .before .before .before .before .before .before .root-leaves .ensures in
-    let k = c .before .before .before .before .before .before .before .before .before .before .draw-leaves .kept in
-    (omega (arith, c .before .before .before .before .before .before .before .before .before .before .before .before .before .before .before .before .before .before .before .before .loop-test .taken),
-    k .1 .1 .1 .1 .1 .1 .1 .1 .1 .1 .1 .1 .0 ∙ l .inv .1,
-    k .1 .1 .1 .1 .1 .1 .1 .1 .1 .1 .1 .1 .1 .0 ∙ l .inv .2,
-    k .1 .1 .1 .1 .1 .1 .1 .1 .1 .1 .1 .1 .1 .1 .0 ∙ l .inv .3,
-    k .1 .1 .1 .1 .1 .1 .1 .1 .1 .1 .1 .1 .1 .1 .1 .0 ∙ l .inv .4,
-    k .1 .1 .1 .1 .1 .1 .1 .1 .1 .1 .1 .1 .1 .1 .1 .1 .0 ∙ l .inv .5,
-    d .blocks .long,
-    roots-more _ (s .args .splits .now) (s .args .w / 4) (s .args .h / 4) (l .i) _ _ _ _ _ (d .same) (l .inv .7) (c .before .before .before .before .before .before .before .before .before .before .draw-leaves .ensures),
-    omega (arith, l .inv .8, d .blocks .few))
+    let k = c .before .before .before .before .before .before .before .before .before .before .draw-leaves .kept in (
+      omega (arith, c .before .before .before .before .before .before .before .before .before .before .before .before .before .before .before .before .before .before .before .before .loop-test .taken),
+      k .1 .1 .1 .1 .1 .1 .1 .1 .1 .1 .1 .1 .0 ∙ l .inv .1,
+      k .1 .1 .1 .1 .1 .1 .1 .1 .1 .1 .1 .1 .1 .0 ∙ l .inv .2,
+      k .1 .1 .1 .1 .1 .1 .1 .1 .1 .1 .1 .1 .1 .1 .0 ∙ l .inv .3,
+      k .1 .1 .1 .1 .1 .1 .1 .1 .1 .1 .1 .1 .1 .1 .1 .0 ∙ l .inv .4,
+      k .1 .1 .1 .1 .1 .1 .1 .1 .1 .1 .1 .1 .1 .1 .1 .1 .0 ∙ l .inv .5,
+      d .blocks .long,
+      roots-more _ (s .args .splits .now) (s .args .w / 4) (s .args .h / 4) (l .i) _ _ _ _ _ (d .same) (l .inv .7) (c .before .before .before .before .before .before .before .before .before .before .draw-leaves .ensures),
+      omega (arith, l .inv .8, d .blocks .few),
+    )
 
 returns : tie.Need-returns Inv-loop μ-loop
 returns c =

@@ -38,10 +38,11 @@ loop-again : tie.Need-loop-again Inv-loop μ-loop
 loop-again c =
     let s = c .before .before .before .before .before .before .before in
     let l = c .before .before .before .before .loop in
-    let e = rw (c .before .mask-at .ensures) at (c .leaf-end .ensures .0) in
-    (omega arith,
-    past-one (s .args .leaves .now) (s .args .list .now) (l .j) (placeOf (s .args .from .at) (s .args .from .k)) (l .at) (s .args .from .k + l .j) _ _ (s .pre .0 .units _ (c .before .before .before .loop-test .taken)) (l .inv .1) e (omega arith),
-    omega (arith, c .leaf-end .ensures .1, l .inv .2))
+    let e = rw (c .before .mask-at .ensures) at (c .leaf-end .ensures .0) in (
+      omega arith,
+      past-one (s .args .leaves .now) (s .args .list .now) (l .j) (placeOf (s .args .from .at) (s .args .from .k)) (l .at) (s .args .from .k + l .j) _ _ (s .pre .0 .units _ (c .before .before .before .loop-test .taken)) (l .inv .1) e (omega arith),
+      omega (arith, c .leaf-end .ensures .1, l .inv .2),
+    )
 
 returns : tie.Need-returns Inv-loop μ-loop
 returns c =

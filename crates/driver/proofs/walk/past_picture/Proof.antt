@@ -43,12 +43,13 @@ loop-again : tie.Need-loop-again Inv-loop μ-loop
 loop-again c =
     let l = c .before .before .before .before .before .before .loop in
     let r = c .before .before .before .root-leaves .ensures in
-    let p = c .past-leaves .ensures in
-    (omega (arith, c .before .before .before .before .before .loop-test .taken),
-    r .blocks .long,
-    past-listed (c .before .before .before .before .before .before .before .before .before .args .leaves .now) first (placeOf (l .place .at) (l .place .k)) (placeOf (c .past-leaves .result .at) (c .past-leaves .result .k)) r (l .inv .2) (p .0),
-    omega (arith, p .1, r .blocks .few, l .inv .3),
-    p .2)
+    let p = c .past-leaves .ensures in (
+      omega (arith, c .before .before .before .before .before .loop-test .taken),
+      r .blocks .long,
+      past-listed (c .before .before .before .before .before .before .before .before .before .args .leaves .now) first (placeOf (l .place .at) (l .place .k)) (placeOf (c .past-leaves .result .at) (c .past-leaves .result .k)) r (l .inv .2) (p .0),
+      omega (arith, p .1, r .blocks .few, l .inv .3),
+      p .2,
+    )
 
 returns : tie.Need-returns Inv-loop μ-loop
 returns c =

@@ -36,10 +36,11 @@ loop-again : tie.Need-loop-again Inv-loop μ-loop
 loop-again c =
     let s = c .before .before .before .before .before .before .before .before .before .before .before .before .before in
     let h = c .before .before .before .before .before .before .before .before .before .before .loop in
-    let e = c .before .before .before .before .tell-row .ensures in
-    (omega arith,
-    rows-more _ _ _ _ _ _ _ _ _ (h .r) _ _ (s .pre .right) (s .pre .some) refl (λ j p. refl) (e .0) (h .inv .1),
-    rows-more _ _ _ _ _ _ _ _ _ (h .r) _ _ (s .pre .right) (s .pre .some) refl (λ j p. refl) (e .1) (h .inv .2))
+    let e = c .before .before .before .before .tell-row .ensures in (
+      omega arith,
+      rows-more _ _ _ _ _ _ _ _ _ (h .r) _ _ (s .pre .right) (s .pre .some) refl (λ j p. refl) (e .0) (h .inv .1),
+      rows-more _ _ _ _ _ _ _ _ _ (h .r) _ _ (s .pre .right) (s .pre .some) refl (λ j p. refl) (e .1) (h .inv .2),
+    )
 
 returns : tie.Need-returns Inv-loop μ-loop
 returns c =
