@@ -55,6 +55,7 @@ enum {
     LOMSAKEUN_TABLE_LENGTH = 70,
     LOMSAKEUN_RANK_TABLE_LENGTH = 180,
     LOMSAKEUN_RANKS_LENGTH = 5,
+    LOMSAKEUN_STRENGTHS_LENGTH = 208,
     LOMSAKEUN_SPLITS_PER_ROOT = 1024,
     LOMSAKEUN_LEAVES_LENGTH = 768,
     LOMSAKEUN_LISTING_LENGTH = 81920
@@ -117,6 +118,16 @@ uint8_t lomsakeun_list_edges(
     size_t w, size_t h, const uint8_t *splits, size_t splits_len, uint8_t limit,
     uint16_t *vertical, size_t vertical_len, uint16_t *horizontal, size_t horizontal_len,
     size_t *vertical_count, size_t *horizontal_count);
+
+/* Deblocks a picture (df): its planes are filtered and done is set in every word; how many edges each pass visited.
+ * own: V's vertical edges read table1, and not table0 as the Rust does. */
+uint8_t lomsakeun_deblock(
+    size_t w, size_t h, uint16_t *y, size_t y_len, uint16_t *u, size_t u_len, uint16_t *v, size_t v_len,
+    uint32_t *words, size_t words_len, const uint8_t *splits, size_t splits_len,
+    const int16_t *motion, size_t motion_len, const int8_t *refs, size_t refs_len,
+    const int8_t *table0, size_t table0_len, const int8_t *table1, size_t table1_len,
+    const uint8_t *strengths, size_t strengths_len,
+    uint8_t limit, bool own, int8_t u_offset, int8_t v_offset, size_t *vertical_count, size_t *horizontal_count);
 
 /* The text that `edgelist` prints for a sheet (sheet), and its length. */
 uint8_t lomsakeun_listing(const uint8_t *input, size_t input_len, uint8_t *out, size_t out_len, size_t *length);

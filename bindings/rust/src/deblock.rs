@@ -1,39 +1,6 @@
-//! Deblocking. Behind the feature `deblock`, until the archive exports it.
+//! Deblocking.
 use crate::refusal::{answer, Refusal};
-
-extern "C" {
-    /// The archive's own call.
-    pub fn lomsakeun_deblock(
-        w: usize,
-        h: usize,
-        y: *mut u16,
-        y_len: usize,
-        u: *mut u16,
-        u_len: usize,
-        v: *mut u16,
-        v_len: usize,
-        words: *mut u32,
-        words_len: usize,
-        splits: *const u8,
-        splits_len: usize,
-        motion: *const i16,
-        motion_len: usize,
-        refs: *const i8,
-        refs_len: usize,
-        table0: *const i8,
-        table0_len: usize,
-        table1: *const i8,
-        table1_len: usize,
-        strengths: *const u8,
-        strengths_len: usize,
-        limit: u8,
-        own: bool,
-        u_offset: i8,
-        v_offset: i8,
-        vertical_count: *mut usize,
-        horizontal_count: *mut usize,
-    ) -> u8;
-}
+use crate::sys;
 
 /// A picture to be deblocked: its sides, its planes and its unit words, of which done is set in every unit.
 #[derive(Debug)]
@@ -88,7 +55,7 @@ pub fn deblock(picture: Picture, maps: Maps, settings: Settings) -> Result<(usiz
     let (mut vertical, mut horizontal) = (0, 0);
     // Each pointer comes from a slice that lives through the call, with its own length, or from a local.
     let number = unsafe {
-        lomsakeun_deblock(
+        sys::lomsakeun_deblock(
             w,
             h,
             y.as_mut_ptr(),

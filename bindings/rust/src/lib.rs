@@ -1,5 +1,5 @@
 //! Safe calls of the Lomsakeun decoder, whose proved archive this crate links: chroma QP tables, neighbour availability, mode ranks,
-//! gathering, intra prediction, residual addition, and the split tree with the edges that deblocking visits.
+//! gathering, intra prediction, residual addition, the split tree with its edges, and deblocking.
 //!
 //! Every call accepts every input. A bad one answers a [`Refusal`] and leaves every lent slice as it was; nothing is trusted, and each
 //! slice's length goes with it. Places and sizes are in luma samples unless a call says units (4x4 luma samples); planes and maps are flat,
@@ -39,7 +39,6 @@
 
 mod blocks;
 mod chroma;
-#[cfg(feature = "deblock")]
 mod deblock;
 mod neighbours;
 mod refusal;
@@ -48,8 +47,7 @@ mod tree;
 
 pub use blocks::{get_nbr, ipred_b, recon, recon_plane, Component};
 pub use chroma::{derived_chroma_qp_mapping_tables, Points};
-#[cfg(feature = "deblock")]
-pub use deblock::{deblock, lomsakeun_deblock, Maps, Picture, Settings};
+pub use deblock::{deblock, Maps, Picture, Settings};
 pub use neighbours::{get_avail_inter, get_avail_intra, get_mpm, Neighbours};
 pub use refusal::Refusal;
 pub use tree::{check, leaves, list_edges, listing, visiting_rank, LEAVES_LENGTH, LISTING_LENGTH};

@@ -203,3 +203,24 @@ fn sheets() {
     assert_eq!(text(b""), "refused=12 line=1\n");
     assert_eq!(text(b"width=260\nheight=8\ntr_log2=6\nv_edge=own\nsplits=\n"), "refused=1\n");
 }
+
+/// Two units of 4 beside each other, all intra, at QP 30, with a step between them: the paper's line at entry 3 and at 0.
+#[test]
+fn deblocking() {
+    let splits = splits();
+    let run = |entry: u8| {
+        let mut y: Vec<u16> = [100, 100, 100, 100, 120, 120, 120, 120].repeat(8);
+        let (mut u, mut v, mut words) = ([100; 16], [100; 16], [30 << 16 | INTRA; 4]);
+        let picture = Picture { w: 8, h: 8, y: &mut y, u: &mut u, v: &mut v, words: &mut words };
+        let (tables, strengths) = ([30; 70], [entry; 208]);
+        let maps =
+            Maps { splits: &splits, motion: &[0; 16], refs: &[0; 8], tables: [&tables; 2], strengths: &strengths };
+        let settings = Settings { limit: 6, own: false, u_offset: 0, v_offset: 0 };
+        assert_eq!(deblock(picture, maps, settings), Ok((2, 2)));
+        assert_eq!((u, v), ([100; 16], [100; 16]));
+        assert_eq!(words, [30 << 16 | INTRA | DONE; 4]);
+        y
+    };
+    assert_eq!(run(0), [100, 100, 100, 100, 120, 120, 120, 120].repeat(8));
+    assert_eq!(run(3), [100, 100, 103, 107, 113, 117, 120, 120].repeat(8));
+}

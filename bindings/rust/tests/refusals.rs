@@ -2,8 +2,8 @@
 use lomsakeun::Points as Given;
 use lomsakeun::Refusal::{self, *};
 use lomsakeun::{
-    check, derived_chroma_qp_mapping_tables, get_avail_inter, get_avail_intra, get_mpm, get_nbr, ipred_b, leaves,
-    list_edges, listing, recon, recon_plane, visiting_rank, Component, LISTING_LENGTH,
+    check, deblock, derived_chroma_qp_mapping_tables, get_avail_inter, get_avail_intra, get_mpm, get_nbr, ipred_b,
+    leaves, list_edges, listing, recon, recon_plane, visiting_rank, Component, Maps, Picture, Settings, LISTING_LENGTH,
 };
 use std::fmt::Debug;
 
@@ -281,4 +281,84 @@ fn sheets() {
     for wrong in [0, 1, LISTING_LENGTH - 1, LISTING_LENGTH + 1] {
         refused(Length, wrong, |out: &mut [u8]| listing(b"width=16\n", out));
     }
+}
+
+/// A picture of 8 by 8 that is accepted, and what it is deblocked with.
+#[derive(Clone)]
+struct Deblock {
+    w: usize,
+    h: usize,
+    planes: [Vec<u16>; 3],
+    words: Vec<u32>,
+    splits: Vec<u8>,
+    motion: Vec<i16>,
+    refs: Vec<i8>,
+    tables: [Vec<i8>; 2],
+    strengths: Vec<u8>,
+    settings: Settings,
+}
+
+impl Deblock {
+    fn good() -> Deblock {
+        Deblock {
+            w: 8,
+            h: 8,
+            planes: [vec![9; 64], vec![9; 16], vec![9; 16]],
+            words: vec![51 << 16; 4],
+            splits: root(&[(136, 1), (256 + 68, 1), (512 + 34, 1)]),
+            motion: vec![0; 16],
+            refs: vec![0; 8],
+            tables: [vec![51; 70], vec![51; 70]],
+            strengths: vec![3; 208],
+            settings: Settings { limit: 6, own: false, u_offset: 12, v_offset: -12 },
+        }
+    }
+
+    /// Requires that it is refused with this change, and that nothing was written.
+    fn refused(refusal: Refusal, change: impl FnOnce(&mut Deblock)) {
+        let mut case = Deblock::good();
+        change(&mut case);
+        let ([mut y, mut u, mut v], mut words) = (case.planes.clone(), case.words.clone());
+        let picture = Picture { w: case.w, h: case.h, y: &mut y, u: &mut u, v: &mut v, words: &mut words };
+        let maps = Maps {
+            splits: &case.splits,
+            motion: &case.motion,
+            refs: &case.refs,
+            tables: case.tables.each_ref().map(|table| &table[..]),
+            strengths: &case.strengths,
+        };
+        assert_eq!(deblock(picture, maps, case.settings), Err(refusal));
+        assert_eq!(([y, u, v], words), (case.planes, case.words));
+    }
+}
+
+#[test]
+fn deblocking() {
+    for (w, h) in BAD_SIZES {
+        Deblock::refused(Size, |case| (case.w, case.h) = (w, h));
+    }
+    for i in 0..3 {
+        Deblock::refused(Length, |case| drop(case.planes[i].pop()));
+        Deblock::refused(Sample, |case| case.planes[i][5] = 1024);
+    }
+    for i in 0..2 {
+        Deblock::refused(Length, |case| case.tables[i].push(0));
+        Deblock::refused(Qp, |case| case.tables[i].fill(52));
+        Deblock::refused(Qp, |case| case.tables[i].fill(-1));
+    }
+    Deblock::refused(Length, |case| case.words.push(0));
+    Deblock::refused(Length, |case| case.splits.push(0));
+    Deblock::refused(Length, |case| case.motion.clear());
+    Deblock::refused(Length, |case| case.refs.clear());
+    Deblock::refused(Length, |case| drop(case.strengths.pop()));
+    for limit in [0, 4, 7, 255] {
+        Deblock::refused(Setting, |case| case.settings.limit = limit);
+    }
+    for offset in [-128, -13, 13, 127] {
+        Deblock::refused(Setting, |case| case.settings.u_offset = offset);
+        Deblock::refused(Setting, |case| case.settings.v_offset = offset);
+    }
+    Deblock::refused(Split, |case| case.splits[136] = 2);
+    Deblock::refused(Leaf, |case| case.splits[136] = 0);
+    Deblock::refused(Qp, |case| case.words[3] = 52 << 16);
 }

@@ -1,7 +1,7 @@
 pub mod Bytes
 pub mod Checks
 pub mod Clipped
-pub mod Examples
+pub mod Highest
 pub mod Filled
 pub mod Fits
 pub mod Offsets

@@ -1,3 +1,4 @@
 pub mod Masks
 pub mod Ranks
 pub mod Once
+pub mod Deblocks

@@ -1,4 +1,5 @@
 pub mod Calls
 pub mod Demand3
 pub mod Edges
+pub mod Lanes
 pub mod Once

@@ -1,16 +1,18 @@
 -- What the functions of a unit's edge ask for and give, over the types of the code.
 -- Assumes nothing: these are definitions.
-use Prim.Native.Nat.{ℕ, _+_, _*_, _<_}
+use Prim.Native.Nat.{ℕ, _+_, _-_, _*_, _<_}
 use mathlib.Core.List.{List}
 use mathlib.Core.Path.{_≡_}
 use lib.ListN.{length}
 use Rattle.def.specs.declared.Component.the-variants.{Luma, Chroma}
 use Rattle.line.specs.Line.{maskOf}
+use Rattle.lanes.specs.Lanes.{laneOf}
 use Rattle.split.specs.Edges.{Pass, vertical, horizontal}
 use Rattle.df_rules.specs.Filter.{inY, inU, inV}
+use Rattle.df_rules.specs.Lanes.{samplesAt, Apart}
 use Rattle.df_rules.specs.Places.{stepAcross, stepAlong, lineStart}
 use Rattle.df_rules.specs.Strength.{Maps, strengthOf}
-use Rattle.df_rules.specs.Window.{windowAt}
+use Rattle.df_rules.specs.Window.{windowAt, Samples}
 use Rattle.df.specs.declared.edge.Pass as code
 use Rattle.df.specs.declared.edge.Pass.the-variants.{Vertical, Horizontal}
 use Rattle.df.specs.declared.window.Place.{Place}
@@ -33,6 +35,17 @@ pub record Strong (m : Maps) (entries : List ℕ) (q p : ℕ) (st : Strengths) :
 -- n further lines lie in the plane
 abbrev pub Inside : Place → ℕ → List ℕ → Type 0
 Inside p n xs = p .at + n * p .next + 3 * p .step < length xs
+
+-- n lines lie in a plane of samples, and no two of them share a place
+pub record Lying (p : Place) (n : ℕ) (xs : List ℕ) : Type 0 where
+  pub inside : Inside p (n - 1) xs
+  pub apart : Apart (p .step) (p .next) n
+  pub all : Samples xs
+
+-- n lines of the plane xs became the lanes of t from `first` on, and those before are as they were
+pub record Gathered (p : Place) (xs t : List ℕ) (first n : ℕ) (r : List ℕ) : Type 0 where
+  pub lines : (k : ℕ) → k < n → laneOf r (first + k) ≡ samplesAt (p .step) (p .at + k * p .next) xs
+  pub before : (j : ℕ) → j < first → laneOf r j ≡ laneOf t j
 
 -- a unit's edge in all three planes: four lines of luma, two of each chroma plane
 pub record Windowed (luma chroma : Place) (st : Strengths) (y₀ u₀ v₀ y₁ u₁ v₁ : List ℕ) : Type 0 where

@@ -3,6 +3,7 @@ pub mod Edges
 pub mod Example
 pub mod Finished
 pub mod Frames
+pub mod Lanes
 pub mod Leaves
 pub mod Local
 pub mod Marks

@@ -1,23 +1,11 @@
--- Laws of windows: a line and a window by their steps.
+-- Laws of windows: what a strength of 0 leaves, and any other filters.
 -- Assumes nothing.
-use Prim.Native.Nat.{ℕ, _+_, _*_}
-use mathlib.Core.Path.{_≡_, refl, sym, ap, _∙_}
-use mathlib.Core.Bool.{true, false}
+use Prim.Native.Nat.{ℕ}
+use mathlib.Core.Path.{_≡_}
 use mathlib.Core.List.{List}
-use lib.Dec.{eqb}
 use borrow.Author.Tests.{eq-eqb, ne-eqb}
 use Rattle.line.specs.declared.Mask.{Mask}
-use Rattle.line.specs.declared.Quad.{Quad}
-use Rattle.df_rules.specs.Window.{quadAt, putIf, lineAt, linesAt, windowAt}
-
--- a line put sample by sample
-pub line-put : (m : Mask) (st step at : ℕ) (q : Quad) (xs ka kb kc kd : List ℕ) → q ≡ quadAt st step at xs
-    → ka ≡ putIf (m .a) at (q .a) xs → kb ≡ putIf (m .b) (at + step) (q .b) ka → kc ≡ putIf (m .c) (at + 2 * step) (q .c) kb → kd ≡ putIf (m .d) (at + 3 * step) (q .d) kc
-    → kd ≡ lineAt m st step at xs
-unfolding lineAt
-line-put m st step at q xs ka kb kc kd e a b c d =
-    d ∙ ap (putIf (m .d) (at + 3 * step) (q .d)) (c ∙ ap (putIf (m .c) (at + 2 * step) (q .c)) (b ∙ ap (putIf (m .b) (at + step) (q .b)) a))
-    ∙ ap (λ (r : Quad). putIf (m .d) (at + 3 * step) (r .d) (putIf (m .c) (at + 2 * step) (r .c) (putIf (m .b) (at + step) (r .b) (putIf (m .a) at (r .a) xs)))) e
+use Rattle.df_rules.specs.Window.{linesAt, windowAt}
 
 pub untouched : (m : Mask) (st step next at n : ℕ) (xs : List ℕ) → st ≡ 0 → xs ≡ windowAt m st step next at n xs
 unfolding windowAt

@@ -1,6 +1,7 @@
 pub mod Demand3
 pub mod Filter
 pub mod Frame
+pub mod Lanes
 pub mod Leaves
 pub mod Places
 pub mod Strength

@@ -36,10 +36,8 @@ pub const CALLS: [Call; 12] = [
     call("listing", listing::draw, listing::damaged, 2),
 ];
 
-#[cfg(feature = "deblock")]
+/// The calls over whole pictures.
 pub const PICTURES: [Call; 1] = [call("deblock", deblock_cases::draw, deblock_cases::damaged, 1000)];
-#[cfg(not(feature = "deblock"))]
-pub const PICTURES: [Call; 0] = [];
 
 /// Two answers to one input that are not the same.
 pub struct Difference {
@@ -59,17 +57,17 @@ pub fn judge(case: &dyn Case) -> Result<Same, Difference> {
     let model = case.model();
     let product = match case.product(Lending::Padded) {
         Ok(line) => line,
-        Err(wrote) => return Err(Difference { from: "model", product: wrote, other: model.to_string() }),
+        Err(wrote) => return Err(Difference { from: "model", product: wrote, other: model.short() }),
     };
-    let differs = |from, other: String| Err(Difference { from, product: product.to_string(), other });
+    let differs = |from, other: String| Err(Difference { from, product: product.short(), other });
     if product != model {
-        return differs("model", model.to_string());
+        return differs("model", model.short());
     }
     let rust = model.accepted() && case.in_domain();
     if rust {
         match case.rust() {
             Some(line) if line == product => {}
-            other => return differs("Rust", other.as_ref().map_or("a panic".into(), Line::to_string)),
+            other => return differs("Rust", other.as_ref().map_or("a panic".into(), Line::short)),
         }
     }
     Ok(Same { number: model.0[0], rust })
@@ -110,7 +108,7 @@ fn say(name: &str, draw: Draw, own: u64) {
     let case = small::smallest(draw, own);
     if let Err(difference) = judge(&*case) {
         println!("{name}: DIFFERENCE from the {} (case seed {own})", difference.from);
-        println!("  input   {}", case.input());
+        println!("  input   {}", case.input().short());
         println!("  product {}", difference.product);
         println!("  {:7} {}", difference.from, difference.other);
     }

@@ -1,5 +1,4 @@
 //! Speed of both sides in one run, on the same inputs: the best of many rounds. The product's refusal scans are counted; the Rust has none.
-#[cfg(feature = "deblock")]
 use crate::cases::deblock::{picture, Picture};
 use crate::chart::{self, Series};
 use crate::rng::Rng;
@@ -115,7 +114,6 @@ fn copied(rng: &mut Rng, size: usize) -> f64 {
     best(&mut to, |_| {}, |to| to.copy_from_slice(black_box(&from))) / from.len() as f64
 }
 
-#[cfg(feature = "deblock")]
 fn deblocked(given: &Picture) -> (f64, f64) {
     let size = (given.w, given.h);
     let count = 1.5 * (given.w * given.h) as f64;
@@ -145,8 +143,23 @@ fn deblocked(given: &Picture) -> (f64, f64) {
     (theirs / count, ours / count)
 }
 
+/// The same kind of samples, words, motion and tables at every size, so that the sizes can be compared: noise around a middle grey, QP 37.
+fn alike(rng: &mut Rng, given: Picture, intra: bool) -> Picture {
+    let units = given.words.len();
+    let table: Vec<i8> = (-12..58).map(|qp: i8| qp.clamp(0, 51)).collect();
+    Picture {
+        planes: given.planes.map(|plane| plane.iter().map(|_| rng.range(500, 524) as u16).collect()),
+        words: vec![(intra as u32) << 15 | 37 << 16; units],
+        motion: (0..4 * units).map(|_| rng.pick(&[-2, 1, 2, 6])).collect(),
+        refs: (0..2 * units).map(|_| rng.pick(&[0, 1])).collect(),
+        tables: [table.clone(), table],
+        limit: 6,
+        offsets: [0, 0],
+        ..given
+    }
+}
+
 /// Deblocking of pictures of these leaves, all units intra or all inter.
-#[cfg(feature = "deblock")]
 fn deblocking(rng: &mut Rng) -> Vec<Series> {
     use crate::cases::trees::{FINEST, SIXTEENS, UNCUT};
     let mut all = Vec::new();
@@ -154,19 +167,13 @@ fn deblocking(rng: &mut Rng) -> Vec<Series> {
         for intra in [true, false] {
             let what = format!("deblocking, {}, leaves {leaves}", if intra { "intra" } else { "inter" });
             all.push(series(&what, |size| {
-                let mut given = Picture { limit: 6, ..picture(rng, size, size, taste) };
-                let mark = |word: u32| word & !(1 << 15 | 1 << 24) | (intra as u32) << 15;
-                given.words.iter_mut().for_each(|word| *word = mark(*word) & !(127 << 16) | 37 << 16);
+                let drawn = picture(rng, size, size, taste);
+                let given = alike(rng, drawn, intra);
                 deblocked(&given)
             }));
         }
     }
     all
-}
-
-#[cfg(not(feature = "deblock"))]
-fn deblocking(_: &mut Rng) -> Vec<Series> {
-    Vec::new()
 }
 
 fn series(what: &str, mut measure: impl FnMut(usize) -> (f64, f64)) -> Series {
@@ -237,8 +244,10 @@ fn machine() -> String {
         run.map_or(String::new(), |run| String::from_utf8_lossy(&run.stdout).trim().into())
     };
     let processors = info.matches("processor\t").count();
+    let load = fs::read_to_string("/proc/loadavg").unwrap_or_default();
+    let load = load.split(' ').next().unwrap_or_default();
     format!(
-        "Run on {} ({name}, {processors} processors, {}).\n\n",
+        "Run on {} ({name}, {processors} processors, load {load}, {}).\n\n",
         output("date", &["-u", "+%F"]),
         output("rustc", &["--version"])
     )

@@ -5,7 +5,7 @@ use std::path::Path;
 
 type Recorder = fn(&mut Tape);
 
-const ALL: [(&str, Recorder); 9] = [
+const ALL: [(&str, Recorder); 10] = [
     ("chroma_qp", chroma_qp::record),
     ("avail", avail::record),
     ("ranks", ranks::record),
@@ -14,10 +14,11 @@ const ALL: [(&str, Recorder); 9] = [
     ("recon_block", recon::record_block),
     ("recon_plane", recon::record_plane),
     ("deblock", deblock_cases::record),
+    ("driver", driver::record),
     ("sheet", sheet::record),
 ];
 
-/// Records one name, or all of them, each in its own folder. True if the Rust and the model never differed.
+/// Records one name, or all of them, each to its replay's folder where the repository has one. True if the Rust and the model never differed.
 pub fn record(name: &str, dir: &Path) -> std::io::Result<bool> {
     let mut agreed = true;
     let mut known = false;
@@ -28,6 +29,9 @@ pub fn record(name: &str, dir: &Path) -> std::io::Result<bool> {
             _ => continue,
         };
         known = true;
+        if name == "all" && !dir.is_dir() {
+            continue;
+        }
         let mut tape = Tape::new(each);
         recorder(&mut tape);
         // A recording that the Rust and the model do not agree on is not written.

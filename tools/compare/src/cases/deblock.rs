@@ -3,10 +3,8 @@ use super::data::*;
 use super::tape::{Case, Line};
 use super::trees::{self, Taste};
 use crate::model::deblock::{self as model, Given};
-#[cfg(feature = "deblock")]
-use crate::product::Lent;
 #[cfg(feature = "archive")]
-use crate::product::{Answer, Lending};
+use crate::product::{sys, Answer, Lending, Lent};
 use crate::rng::Rng;
 use oracle::deblock as rust;
 
@@ -85,13 +83,7 @@ impl Case for Picture {
         !self.own && self.strengths == rust::strengths() && model::fits(&self.given(), &self.words)
     }
 
-    /// The archive has no deblocking yet.
-    #[cfg(all(feature = "archive", not(feature = "deblock")))]
-    fn product(&self, _: Lending) -> Answer {
-        Ok(self.model())
-    }
-
-    #[cfg(feature = "deblock")]
+    #[cfg(feature = "archive")]
     fn product(&self, lending: Lending) -> Answer {
         let [mut y, mut u, mut v] = self.planes.each_ref().map(|plane| Lent::new(lending, plane));
         let mut words = Lent::new(lending, &self.words);
@@ -100,7 +92,7 @@ impl Case for Picture {
         let [t0, t1] = self.tables.each_ref().map(|table| Lent::new(lending, table));
         let (mut vertical, mut horizontal) = (77, 78);
         let number = unsafe {
-            lomsakeun::lomsakeun_deblock(
+            sys::lomsakeun_deblock(
                 self.w,
                 self.h,
                 y.mut_ptr(),
@@ -192,7 +184,7 @@ fn texture(rng: &mut Rng, w: usize, h: usize) -> Vec<u16> {
 
 /// Unit words with a QP of low..=high, intra and luma-coded sometimes, the other bits anything.
 fn deblock_words(rng: &mut Rng, units: usize, low: i64, high: i64) -> Vec<u32> {
-    let (intra, coded) = (rng.pick(&[0, 1, 3, 8]), rng.pick(&[0, 2, 4, 8]));
+    let (intra, coded) = (rng.pick(&[0, 0, 1, 3, 8]), rng.pick(&[0, 0, 1, 2, 4, 8]));
     let one = |rng: &mut Rng| {
         let coded = (rng.below(8) < coded) as u32;
         let word = word(rng, 4, intra) & !(127 << 16 | 1 << 24);

@@ -12,37 +12,79 @@ use oracle::deblock as rust;
 pub fn record(tape: &mut Tape) {
     let rng = &mut Rng::new(0xdeb10c);
     worked(tape, rng);
-    for i in 0..170 {
+    motions(tape, rng);
+    for i in 0..180 {
         let most = rng.pick(&[8, 12, 16, 24, 36]);
-        tape.record(&varied(rng, most, i));
+        let size = square(rng, most);
+        tape.record(&varied(rng, size, i));
     }
-    for (w, h) in [(4, 4), (4, 8), (8, 4), (64, 4), (4, 64), (64, 64), (68, 64), (96, 100), (100, 68), (128, 64)] {
+    for i in 0..60 {
+        let size = strip(rng);
+        tape.record(&varied(rng, size, i));
+    }
+    for (w, h) in [(4, 4), (4, 8), (8, 4), (64, 4), (4, 64), (64, 64)] {
         tape.record(&picture(rng, w, h, trees::MIXED));
-        if w * h <= 4096 {
-            tape.record(&Picture { limit: 5, ..picture(rng, w, h, trees::UNCUT) });
-        }
+        tape.record(&Picture { limit: 5, ..picture(rng, w, h, trees::UNCUT) });
     }
-    tape.record(&picture(rng, 260, 196, trees::COARSE));
+    roots(tape, rng);
+    longest(tape, rng);
     super::deblock_refusals::record(tape, rng);
     compare(tape, rng);
 }
 
+/// Several roots in a row and in a column, most of them cut off by the picture's end, and large leaves by both limits.
+fn roots(tape: &mut Tape, rng: &mut Rng) {
+    for (w, h, taste, limit) in [
+        (68, 64, trees::UNCUT, 6),
+        (64, 72, trees::UNCUT, 5),
+        (68, 68, trees::COARSE, 6),
+        (76, 68, trees::FINE, 5),
+        (132, 68, trees::MIXED, 5),
+        (68, 132, trees::COARSE, 6),
+        (132, 132, trees::COARSE, 5),
+        (260, 20, trees::MIXED, 6),
+    ] {
+        tape.record(&Picture { limit, ..picture(rng, w, h, taste) });
+    }
+}
+
+/// A size up to `most` in both directions.
+fn square(rng: &mut Rng, most: usize) -> (usize, usize) {
+    (size(rng, most), size(rng, most))
+}
+
+/// A size up to 260 in one direction, with few samples in all.
+fn strip(rng: &mut Rng) -> (usize, usize) {
+    let long = size(rng, 260);
+    let short = size(rng, (1600 / long).min(260));
+    rng.pick(&[(long, short), (short, long)])
+}
+
 /// A picture in `source` or `own`, with the Rust's strengths or others, with motion that fits or does not.
-fn varied(rng: &mut Rng, most: usize, i: usize) -> Picture {
-    let (w, h) = (size(rng, most), size(rng, most));
+fn varied(rng: &mut Rng, (w, h): (usize, usize), i: usize) -> Picture {
     let taste = trees::taste(rng);
     let mut picture = picture(rng, w, h, taste);
-    if i % 5 == 0 {
+    if i % 8 == 0 {
         picture.own = true;
     }
-    if i % 7 == 0 {
+    if i % 10 == 0 {
         let high = rng.pick(&[1, 4, 64, 255]);
         picture.strengths = (0..208).map(|_| rng.range(0, high) as u8).collect();
     }
-    if i % 11 == 0 {
+    if i % 15 == 0 {
         picture.motion.iter_mut().for_each(|v| *v = rng.pick(&[-32768, -32767, -1, 0, 32767, 32766, -32764]));
     }
     picture
+}
+
+/// The largest side is accepted; four more are refused, and nothing else is wrong with that picture. Samples of one digit
+/// keep the recording short.
+fn longest(tape: &mut Tape, rng: &mut Rng) {
+    for (w, h) in [(4096, 4), (4, 4096), (4100, 4)] {
+        let mut picture = picture(rng, w, h, trees::FINEST);
+        picture.planes.iter_mut().flatten().for_each(|sample| *sample = rng.range(0, 9) as u16);
+        tape.record(&picture);
+    }
 }
 
 /// The paper's lines, across the upright edge and the level edge of four units, one strength for all rows.
@@ -69,36 +111,36 @@ fn worked(tape: &mut Tape, rng: &mut Rng) {
             tape.record(&picture);
         }
     }
-    motions(tape, rng);
 }
 
-/// Two units beside each other at a QP where the strength rows differ, with this motion and these references.
-fn pair(rng: &mut Rng, motion: [i16; 8], refs: [i8; 4]) -> Picture {
-    let mut picture = picture(rng, 8, 4, trees::FINEST);
+/// Two units, P first, on the two sides of an upright edge or of a level one, with this motion and these references. At
+/// this QP each strength row makes other samples of this step.
+fn pair(rng: &mut Rng, upright: bool, motion: [i16; 8], refs: [i8; 4]) -> Picture {
+    let (w, h) = if upright { (8, 4) } else { (4, 8) };
+    let mut picture = picture(rng, w, h, trees::FINEST);
     picture.words.fill(40 << 16);
-    picture.planes[0] = [100, 100, 100, 100, 120, 120, 120, 120].repeat(4);
+    let q = |i: usize| if upright { i % 8 >= 4 } else { i >= 16 };
+    picture.planes[0] = (0..32).map(|i| if q(i) { 156 } else { 100 }).collect();
     Picture { motion: motion.to_vec(), refs: refs.to_vec(), ..picture }
 }
 
-/// Motion that differs by 3 and by 4 in each component, in place and crosswise, and at the Rust's bounds.
+/// Motion that differs by 3 and by 4 in each component, up and down, in place and crosswise, and at the Rust's bounds.
 fn motions(tape: &mut Tape, rng: &mut Rng) {
     let refs =
         [[0, 1, 0, 1], [0, 1, 1, 0], [0, 0, 0, 0], [-1, 0, 0, -1], [-1, 0, -1, 0], [-1, -2, -2, -1], [0, 1, 0, 2]];
-    for refs in refs {
+    for (i, refs) in refs.into_iter().enumerate() {
         for at in 0..4 {
-            for by in [3, 4, -4] {
+            for by in [3, 4, -3, -4] {
                 let mut motion = [7; 8];
                 motion[at] += by;
-                if at == 0 || rng.one_in(2) {
-                    tape.record(&pair(rng, motion, refs));
-                }
+                tape.record(&pair(rng, (i + at) % 2 == 0, motion, refs));
             }
         }
     }
     for (p, q) in [(0, 32767), (0, -32767), (0, -32768), (-1, 32767), (-32768, 32767), (32767, -32768)] {
-        tape.record(&pair(rng, [p, 0, 0, 0, q, 0, 0, 0], [0; 4]));
-        tape.record(&pair(rng, [0, 4, 0, p, 0, 0, 0, q], [0; 4]));
-        tape.record(&pair(rng, [p, p, 0, 0, q, q, 0, 0], [-1, 0, -1, 0]));
+        tape.record(&pair(rng, true, [p, 0, 0, 0, q, 0, 0, 0], [0; 4]));
+        tape.record(&pair(rng, false, [0, 4, 0, p, 0, 0, 0, q], [0; 4]));
+        tape.record(&pair(rng, true, [p, p, 0, 0, q, q, 0, 0], [-1, 0, -1, 0]));
     }
 }
 
@@ -107,7 +149,8 @@ fn compare(tape: &mut Tape, rng: &mut Rng) {
     tape.say("recorded pictures compared");
     for i in 0..1500 {
         let most = rng.pick(&[8, 16, 36, 72, 140]);
-        tape.compare(&varied(rng, most, i));
+        let size = square(rng, most);
+        tape.compare(&varied(rng, size, i));
     }
     tape.say("further pictures up to 140 by 140 compared");
     tape.compare(&picture(rng, 1024, 1024, trees::MIXED));
@@ -220,16 +263,16 @@ impl Case for Window {
     }
 }
 
-#[cfg(feature = "deblock")]
 pub fn draw(rng: &mut Rng) -> Box<dyn Case> {
     let most = rng.pick(&[8, 16, 36, 72, 140]);
     let i = 1 + rng.below(64);
-    Box::new(varied(rng, most, i))
+    let size = square(rng, most);
+    Box::new(varied(rng, size, i))
 }
 
-#[cfg(feature = "deblock")]
 pub fn damaged(rng: &mut Rng) -> Box<dyn Case> {
-    let mut case = varied(rng, 24, 1);
+    let size = square(rng, 24);
+    let mut case = varied(rng, size, 1);
     for _ in 0..1 + rng.below(2) {
         let plane = rng.below(3);
         let table = rng.below(2);

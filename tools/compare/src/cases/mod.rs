@@ -5,6 +5,7 @@ mod data;
 pub mod deblock;
 pub mod deblock_cases;
 mod deblock_refusals;
+pub mod driver;
 pub mod gather;
 #[cfg(feature = "archive")]
 pub mod listing;

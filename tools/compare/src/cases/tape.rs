@@ -74,6 +74,21 @@ impl Line {
     }
 }
 
+impl Line {
+    /// For a reader: a run of one number is written once, with its length.
+    #[cfg(feature = "archive")]
+    pub fn short(&self) -> String {
+        let each = |run: &[i64]| {
+            if run.len() < 4 {
+                Line(run.to_vec()).to_string()
+            } else {
+                format!("{}*{}", run[0], run.len())
+            }
+        };
+        self.0.chunk_by(|a, b| a == b).map(each).collect::<Vec<_>>().join(" ")
+    }
+}
+
 impl Display for Line {
     fn fmt(&self, f: &mut fmt::Formatter<'_>) -> fmt::Result {
         let numbers: Vec<String> = self.0.iter().map(i64::to_string).collect();

@@ -10,7 +10,6 @@ pub const MIXED: Taste = [8, 6, 5, 4];
 pub const FINE: Taste = [10, 10, 9, 8];
 pub const FINEST: Taste = [10, 10, 10, 10];
 /// Leaves of 16 and of 8, as many blocks of 16 cut as not.
-#[cfg(feature = "deblock")]
 pub const SIXTEENS: Taste = [10, 10, 5, 0];
 pub const UNCUT: Taste = [0, 0, 0, 0];
 

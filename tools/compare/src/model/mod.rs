@@ -4,6 +4,7 @@
 pub mod avail;
 pub mod chroma;
 pub mod deblock;
+pub mod driver;
 pub mod gather;
 pub mod predict;
 pub mod ranks;
@@ -25,6 +26,7 @@ pub const MODE: u32 = 9;
 pub const POINTS: u32 = 10;
 pub const PIVOT: u32 = 11;
 pub const SHEET: u32 = 12;
+pub const RECORD: u32 = 13;
 
 /// Width and height: multiples of 4, from 4 to 4096.
 pub fn size_ok(w: usize, h: usize) -> bool {

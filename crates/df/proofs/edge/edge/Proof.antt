@@ -9,6 +9,8 @@ use Rattle.df.specs.Edges.{passOf, placeOf, Strong}
 use Rattle.split.specs.Edges.{edgeAt}
 use Rattle.df_rules.specs.Places.{unitQ, unitP}
 use Rattle.df.specs.Edges.{Inside}
+use Rattle.df_rules.specs.Lanes.{Apart}
+use Rattle.df_rules.proofs.Lanes.{apart-pass}
 use Rattle.df_rules.proofs.Edges.{Spot, spot, unit-q, unit-p, p-before, inside}
 use Rattle.df.proofs.Edges.{strong-at, edge-is}
 use Rattle.df.proofs.edge.edge.Statement.{statement}
@@ -88,7 +90,9 @@ unit-requires c κs =
     let chroma = inside 2 (a .size .columns) (a .size .rows) (omega arith) (passOf (a .pass)) (a .across .0 / 4) (a .along .0 / 4) (k .inner) (k .across) (k .along) in
     let u : Inside (c .before .before .before .place2 .result) 1 (a .u .now) = subst (λ (p : Place). Inside p 1 (a .u .now)) (sym (is-chroma (c .before .before .before))) (omega (arith, f .long-u)) in
     let v : Inside (c .before .before .before .place2 .result) 1 (a .v .now) = subst (λ (p : Place). Inside p 1 (a .v .now)) (sym (is-chroma (c .before .before .before))) (omega (arith, f .long-v)) in
-    (y, u, v)
+    let four : Apart (c .before .before .before .before .place .result .step) (c .before .before .before .before .place .result .next) 4 = subst (λ (p : Place). Apart (p .step) (p .next) 4) (sym (is-luma (c .before .before .before .before))) (apart-pass 4 (a .size .columns) (a .size .rows) (omega arith) (passOf (a .pass)) (a .across .0 / 4) (a .along .0 / 4) (k .inner) (k .across) (k .along)) in
+    let two : Apart (c .before .before .before .place2 .result .step) (c .before .before .before .place2 .result .next) 2 = subst (λ (p : Place). Apart (p .step) (p .next) 2) (sym (is-chroma (c .before .before .before))) (apart-pass 2 (a .size .columns) (a .size .rows) (omega arith) (passOf (a .pass)) (a .across .0 / 4) (a .along .0 / 4) (k .inner) (k .across) (k .along)) in
+    (record { inside = y; apart = four; all = f .all-y }, record { inside = u; apart = two; all = f .all-u }, record { inside = v; apart = two; all = f .all-v })
 
 -- the strengths are those of Q and P
 strong : (c : tie.After-strengths-at) → let a = c .before .before .before .before .before .before .before .before .args in let e = edgeAt (passOf (a .pass)) (a .across .0 / 4) (a .along .0 / 4) in

@@ -1,0 +1,34 @@
+-- `decoder_c::deblock::lomsakeun_deblock` meets its contract: that of the call it makes, whose answer it reads as numbers. Assumes nothing.
+use mathlib.Core.Path.{_≡_, ap₂, _∙_}
+use lib.IntN.{ℤ}
+use mir.Syntax.{w8}
+use borrow.Author.Needs.{needs}
+use Rattle.laws.proofs.Widths.{back}
+use Rattle.decoder_c.specs.Flags.{settingsOf}
+use Rattle.decoder_c.proofs.Deblocks.{deblocked-gives}
+use Rattle.decoder_c.proofs.deblock.lomsakeun_deblock.Statement.{statement}
+use Rattle.decoder_c.proofs.deblock.lomsakeun_deblock.Tie as tie
+
+-- the settings that are handed on are those of the flags
+settings : (c : tie.After-settings-of) → let a = c .before .before .before .before .before .before .before .args in c .settings-of .result ≡ settingsOf (a .limit) (a .own) (a .u-offset) (a .v-offset)
+settings c =
+    let start = c .before .before .before .before .before .before .before in
+    c .settings-of .ensures ∙ ap₂ (λ (u v : ℤ). settingsOf (start .args .limit) (start .args .own) u v) (back w8 _ (start .fits .u-offset)) (back w8 _ (start .fits .v-offset))
+
+returns : tie.Need-returns
+returns c =
+    let called = c .before .before .before .before .before .before .before .before .before in
+    deblocked-gives _ _ (called .deblock .result) _ _ _ _ _ _ _ (settings (called .before .before .before .before .before)) (called .deblock .ensures) (c .counts-of .ensures)
+
+pub lomsakeun-deblock-spec : {M : Type 1} → statement M
+lomsakeun-deblock-spec =
+    tie.close
+    (tie.spec
+    (λ c κs. search needs)
+    (λ c κs. search needs)
+    (λ c κs. search needs)
+    (λ c. search needs)
+    (λ c. search needs)
+    (λ c. search needs)
+    (λ c. search needs)
+    returns)

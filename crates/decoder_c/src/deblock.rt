@@ -1,0 +1,119 @@
+// Deblocking.
+ghost use mathlib.Core.Path.{_≡_};
+ghost use Rattle.laws.specs.Call.{Gives};
+ghost use Rattle.df.specs.Deblock as deblocking;
+ghost use Rattle.decoder_c.specs.Flags.{vEdgeOf, settingsOf};
+use df::Deblocked;
+use df_check::Settings;
+use df_check::VEdge;
+
+// Where V's vertical edges look their QP up, by its flag.
+fn v_edge(own: bool) -> VEdge
+    ensures { λ r. ⌜ r ≡ vEdgeOf own ⌝ }
+{
+    if own { VEdge::Own } else { VEdge::Source }
+}
+
+fn settings_of(limit: u8, own: bool, u_offset: i8, v_offset: i8) -> Settings
+    ensures { λ r. ⌜ r ≡ settingsOf limit own «u_offset» «v_offset» ⌝ }
+{
+    Settings {
+        limit,
+        v_edge: v_edge(own),
+        u_offset,
+        v_offset,
+    }
+}
+
+// An answer in numbers: the counts are 0 where refused.
+struct Counts {
+    number: u8,
+    vertical: usize,
+    horizontal: usize,
+}
+
+fn counts_of(a: Deblocked) -> Counts
+    ensures { λ r. ⌜ (r .number ≡ deblocking.readingOf a .number) × (r .vertical ≡ deblocking.readingOf a .vertical) × (r .horizontal ≡ deblocking.readingOf a .horizontal) ⌝ }
+{
+    match a {
+        Deblocked::Done {
+            vertical,
+            horizontal,
+        } => Counts {
+            number: 0,
+            vertical,
+            horizontal,
+        },
+        Deblocked::Refused(r) => Counts {
+            number: def::refusal_number(r),
+            vertical: 0,
+            horizontal: 0,
+        },
+    }
+}
+
+#[no_mangle]
+pub extern "C" fn lomsakeun_deblock(
+    w: usize,
+    h: usize,
+    y: &mut [u16],
+    u: &mut [u16],
+    v: &mut [u16],
+    words: &mut [u32],
+    splits: &[u8],
+    motion: &[i16],
+    refs: &[i8],
+    table0: &[i8],
+    table1: &[i8],
+    strengths: &[u8],
+    limit: u8,
+    own: bool,
+    u_offset: i8,
+    v_offset: i8,
+    vertical_count: &mut usize,
+    horizontal_count: &mut usize,
+) -> u8
+    ensures { λ n. ⌜ Gives deblocking.outcome
+        (record {
+          w = w;
+          h = h;
+          y = now (y .entry);
+          u = now (u .entry);
+          v = now (v .entry);
+          words = now (words .entry);
+          splits = now (splits .entry);
+          motion = now (motion .entry);
+          refs = now (refs .entry);
+          table0 = now (table0 .entry);
+          table1 = now (table1 .entry);
+          strengths = now (strengths .entry);
+          settings = settingsOf limit own «u_offset» «v_offset»;
+        })
+        (record {
+          reading = record { number = n; vertical = now («vertical_count» .exit); horizontal = now («horizontal_count» .exit) };
+          y = now (y .exit);
+          u = now (u .exit);
+          v = now (v .exit);
+          words = now (words .exit);
+        }) ⌝ }
+{
+    let settings = settings_of(limit, own, u_offset, v_offset);
+    let seen = counts_of(df::deblock(
+        w,
+        h,
+        y,
+        u,
+        v,
+        words,
+        splits,
+        motion,
+        refs,
+        table0,
+        table1,
+        strengths,
+        settings,
+    ));
+    *vertical_count = seen.vertical;
+    *horizontal_count = seen.horizontal;
+    seen.number
+}

@@ -1,0 +1,53 @@
+-- `df::window::gather` meets its contract: a turn lays one line more. Assumes nothing.
+use Prim.Native.Nat.{_≤_, _-_}
+use mathlib.Core.Path.{_≡_, _∙_}
+use native.Mathlib.Omega.{arith}
+use borrow.Author.Needs.{needs}
+use lib.ListN.{length}
+use Rattle.lanes.proofs.ByLane.{laid-long}
+use Rattle.df.specs.Edges.{Inside, Gathered}
+use Rattle.df.proofs.Lanes.{line-inside, gather-none, gather-more}
+use Rattle.df.proofs.window.gather.Statement.{statement}
+use Rattle.df.proofs.window.gather.Tie as tie
+
+abbrev Inv-loop : tie.InvT-loop
+Inv-loop s first n step next at r₀ k₀ r k = (k ≤ n) × (length r ≡ 32) × Gathered (record { at = at; step = step; next = next }) s r₀ first k r
+
+abbrev μ-loop : tie.MeasureT-loop
+μ-loop s first n step next at r₀ k₀ r k = n - k
+
+-- where a turn's line lies
+turn : (c : tie.In-loop Inv-loop μ-loop) → Inside (c .before .before .before .args .p) (c .before .loop .k) (c .before .before .before .args .s .now)
+turn c =
+    let s = c .before .before .before in
+    line-inside (s .args .p) (s .args .n) (c .before .loop .k) (s .args .s .now) (s .pre .1) (c .loop-test .taken)
+
+loop-holds : tie.Need-loop-holds Inv-loop μ-loop
+loop-holds c = (omega arith, search needs, gather-none _ _ _ _)
+
+mul-samples-at : tie.Need-mul-samples-at Inv-loop μ-loop
+mul-samples-at c = omega (arith, turn c)
+
+add-samples-at : tie.Need-add-samples-at Inv-loop μ-loop
+add-samples-at c = omega (arith, turn c)
+
+samples-at-requires : tie.Need-samples-at-requires Inv-loop μ-loop
+samples-at-requires c κs = turn c
+
+loop-again : tie.Need-loop-again Inv-loop μ-loop
+loop-again c =
+    let l = c .before .before .loop in
+    let q = c .samples-at .result in
+    (omega arith, laid-long (l .r) _ q ∙ l .inv .1, gather-more _ _ _ (l .r) _ (l .k) q (omega arith) (l .inv .1) (c .samples-at .ensures) (l .inv .2))
+
+returns : tie.Need-returns Inv-loop μ-loop
+returns c =
+    let e : c .before .loop .k ≡ c .before .before .before .args .n = omega arith in
+    rw (← e) (c .before .loop .inv .2)
+
+pub gather-spec : {M : Type 1} → statement M
+gather-spec =
+    tie.close
+    (tie.spec Inv-loop μ-loop loop-holds mul-samples-at add-samples-at samples-at-requires (λ c. search needs) (λ c. search needs) (λ c. search needs) (λ c. search needs)
+    (λ c. search needs) (λ c. search needs) (λ c. search needs) (λ c. search needs) (λ c. search needs) (λ c. search needs)
+    (λ c. search needs) (λ c. search needs) (λ c. search needs) (λ c. search needs) loop-again returns)

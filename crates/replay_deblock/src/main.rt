@@ -1,0 +1,224 @@
+// Replays recorded cases of deblocking. A line of data/cases is a call; the line printed for it is the number that it answers, both
+// passes' edge counts, and the planes and the unit words as it leaves them.
+use df::Deblocked;
+use df_check::Settings;
+use df_check::VEdge;
+
+// The picture's size, its planes and its unit words come first in a case.
+fn one(s: &[u8], at: usize) -> usize {
+    let w = cases::number(s, at);
+    let h = cases::number(s, w.next);
+    let mut y = [0u16; 20000];
+    let py = cases::slice_u16(s, h.next, &mut y);
+    let mut u = [0u16; 5000];
+    let pu = cases::slice_u16(s, py.next, &mut u);
+    let mut v = [0u16; 5000];
+    let pv = cases::slice_u16(s, pu.next, &mut v);
+    let mut words = [0u32; 1300];
+    let pw = cases::slice_u32(s, pv.next, &mut words);
+    let ny = py.len;
+    let nu = pu.len;
+    let nv = pv.len;
+    let nw = pw.len;
+    maps(
+        s,
+        pw.next,
+        w.size,
+        h.size,
+        &mut y[..ny],
+        &mut u[..nu],
+        &mut v[..nv],
+        &mut words[..nw],
+    )
+}
+
+// Then what lies over the picture: its split bytes, its motion and its references.
+fn maps(
+    s: &[u8],
+    at: usize,
+    w: usize,
+    h: usize,
+    y: &mut [u16],
+    u: &mut [u16],
+    v: &mut [u16],
+    words: &mut [u32],
+) -> usize {
+    let mut splits = [0u8; 67000];
+    let ps = cases::slice_u8(s, at, &mut splits);
+    let mut motion = [0i16; 5200];
+    let pm = cases::slice_i16(s, ps.next, &mut motion);
+    let mut refs = [0i8; 2600];
+    let pr = cases::slice_i8(s, pm.next, &mut refs);
+    let ns = ps.len;
+    let nm = pm.len;
+    let nr = pr.len;
+    tables(
+        s,
+        pr.next,
+        w,
+        h,
+        y,
+        u,
+        v,
+        words,
+        &splits[..ns],
+        &motion[..nm],
+        &refs[..nr],
+    )
+}
+
+// Then the chroma QP tables and the strengths.
+fn tables(
+    s: &[u8],
+    at: usize,
+    w: usize,
+    h: usize,
+    y: &mut [u16],
+    u: &mut [u16],
+    v: &mut [u16],
+    words: &mut [u32],
+    splits: &[u8],
+    motion: &[i16],
+    refs: &[i8],
+) -> usize {
+    let mut t0 = [0i8; 128];
+    let p0 = cases::slice_i8(s, at, &mut t0);
+    let mut t1 = [0i8; 128];
+    let p1 = cases::slice_i8(s, p0.next, &mut t1);
+    let mut strengths = [0u8; 256];
+    let ps = cases::slice_u8(s, p1.next, &mut strengths);
+    let n0 = p0.len;
+    let n1 = p1.len;
+    let ns = ps.len;
+    deblocked(
+        s,
+        ps.next,
+        w,
+        h,
+        y,
+        u,
+        v,
+        words,
+        splits,
+        motion,
+        refs,
+        &t0[..n0],
+        &t1[..n1],
+        &strengths[..ns],
+    )
+}
+
+// The settings come last, and the call is made.
+fn deblocked(
+    s: &[u8],
+    at: usize,
+    w: usize,
+    h: usize,
+    y: &mut [u16],
+    u: &mut [u16],
+    v: &mut [u16],
+    words: &mut [u32],
+    splits: &[u8],
+    motion: &[i16],
+    refs: &[i8],
+    t0: &[i8],
+    t1: &[i8],
+    strengths: &[u8],
+) -> usize {
+    let last = settings(s, at);
+    print(df::deblock(
+        w,
+        h,
+        &mut *y,
+        &mut *u,
+        &mut *v,
+        &mut *words,
+        splits,
+        motion,
+        refs,
+        t0,
+        t1,
+        strengths,
+        last.settings,
+    ));
+    replay::print_u16(y);
+    replay::print_u16(u);
+    replay::print_u16(v);
+    replay::print_u32(words);
+    replay::print_end();
+    last.next
+}
+
+// Settings, and the place after them.
+struct Last {
+    settings: Settings,
+    next: usize,
+}
+
+fn settings(s: &[u8], at: usize) -> Last {
+    let mut bytes = [0u8; 2];
+    let middle = cases::fill_u8(s, at, &mut bytes);
+    let mut offsets = [0i8; 2];
+    let next = cases::fill_i8(s, middle, &mut offsets);
+    Last {
+        settings: Settings {
+            limit: bytes[0],
+            v_edge: v_edge(bytes[1]),
+            u_offset: offsets[0],
+            v_offset: offsets[1],
+        },
+        next,
+    }
+}
+
+fn v_edge(own: u8) -> VEdge {
+    if own == 1 {
+        return VEdge::Own;
+    }
+    VEdge::Source
+}
+
+// The number and the counts, which are 0 where it refused.
+fn print(answer: Deblocked) {
+    match answer {
+        Deblocked::Done {
+            vertical,
+            horizontal,
+        } => {
+            replay::print_first(0);
+            replay::print_usize(vertical);
+            replay::print_usize(horizontal);
+        }
+        Deblocked::Refused(r) => {
+            replay::print_first(def::refusal_number(r));
+            replay::print_usize(0);
+            replay::print_usize(0);
+        }
+    }
+}
+
+// Every case in turn: a newline ends each.
+fn every(s: &[u8]) {
+    let mut at = 0;
+    while at < s.len() {
+        let next = one(s, at);
+        if next < at {
+            return;
+        }
+        if s.len() <= next {
+            return;
+        }
+        at = next + 1;
+    }
+}
+
+// A call keeps the checker from looking into the array.
+fn room() -> [u8; 5000000] {
+    [0u8; 5000000]
+}
+
+fn main() {
+    let mut all = room();
+    let n = replay::load(&mut all);
+    every(&all[..n]);
+}
