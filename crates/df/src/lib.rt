@@ -1,4 +1,4 @@
-// Deblocking: which edges are filtered, in which order, and with which strength. How a line is filtered is `line`'s matter.
+// Deblocking: which edges are filtered, in which order, and with which strength. How lines are filtered is the matter of `line` and `lanes`.
 // The Rust beside it: df.rs.
 ghost use mathlib.Core.Path.{_≡_};
 ghost use Prim.Native.Nat.{_/_};
@@ -20,7 +20,7 @@ use df_check::VEdge;
 use df_check::checked;
 use df_check::entries;
 
-mod window; // window.rt: the lines of a unit's edge, in one plane and in all three
+mod window; // window.rt: a unit's edge in all three planes, by eight lanes
 mod edge; // edge.rt: a unit's edge, its strengths, and the edges of a block's side
 mod pass; // pass.rt: done bits, and the edges of a leaf or half, of a root and of the picture
 
