@@ -4,13 +4,12 @@
 --     leaves-start, leaves-next, leaves-asked    the first leaves of a list
 --     ended, done-ended    the planes and the maps of the last state, and the call's outcome
 -- Assumes nothing.
-use Prim.Native.Nat.{ℕ, _+_, _*_, _/_, _≤_, _<_}
-use mathlib.Core.Path.{_≡_, refl, sym, ap, _∙_}
+use Prim.Native.Nat.{ℕ, _+_, _/_, _≤_}
+use mathlib.Core.Path.{_≡_, sym, ap, _∙_}
 use mathlib.Core.Bool.{Bool, true}
 use mathlib.Core.List.{List, [], _∷_}
 use native.Mathlib.Nat.{mul-le-mul-right, mul-comm}
 use native.Mathlib.Omega.{arith}
-use lib.Dec.{leb}
 use lib.IntN.{ℤ}
 use lib.ListN.{length}
 use Rattle.laws.specs.Index.{pick, tabulate}
@@ -56,16 +55,16 @@ told w h x z side cx cz words modes s b e f p q =
       rows = omega (arith, n .high);
     }
 
-module _ (w h : ℕ) (constrained : Bool) (leaves : List ℕ) (residual : List ℤ) (py pu pv : List ℕ) (x z side k at : ℕ) (y u v words modes y′ u′ v′ words′ modes′ : List ℕ) (end kind qp mask cx cz word mode : ℕ) (coded : Bool) where
+module _ (w h : ℕ) (constrained : Bool) (leaves : List ℕ) (residual : List ℤ) (py pu pv : List ℕ) (x z side k at : ℕ) (y u v words modes y′ u′ v′ words′ modes′ : List ℕ) (end kind qp mask cx cz word mode : ℕ) where
   pub leaf-drawn : kind ≡ kindAt leaves k → qp ≡ qpAt leaves k → mask ≡ maskAt leaves k
       → Drawn (givenOf w h constrained [] residual py pu pv) x z side kind mask at words y u v y′ u′ v′ end
-      → coded ≡ codedY mask → word ≡ leafWord (leb kind 4) qp coded → mode ≡ pick (isMode kind) kind 255 → cx ≡ x / 4 → cz ≡ z / 4
+      → word ≡ leafWord (isMode kind) qp (codedY mask) → mode ≡ pick (isMode kind) kind 255 → cx ≡ x / 4 → cz ≡ z / 4
       → words′ ≡ withBlock 0 (w / 4) cx cz (side / 4) (side / 4) (λ (r c : ℕ). word) words
       → modes′ ≡ withBlock 0 (w / 4) cx cz (side / 4) (side / 4) (λ (r c : ℕ). mode) modes
       → stateOf y′ u′ v′ words′ modes′ end (k + 1) ≡ stepAt (givenOf w h constrained leaves residual py pu pv) x z side (stateOf y u v words modes at k)
   unfolding stepAt
-  leaf-drawn ek eq em d ec ew eo ex ez e f =
-      rw (d .y-drawn, d .u-drawn, d .v-drawn, d .ends, e, f, ew, eo, ex, ez, ec, ek, eq, em)
+  leaf-drawn ek eq em d ew eo ex ez e f =
+      rw (d .y-drawn, d .u-drawn, d .v-drawn, d .ends, e, f, ew, eo, ex, ez, ek, eq, em)
 
 -- ---- one leaf more of a list, and one root more of a picture: leaf k + n is numbered from the list's first
 

@@ -6,7 +6,6 @@ use mathlib.Core.Bool.{true}
 use mathlib.Core.List.{List}
 use lib.ListN.{length}
 use Rattle.def.specs.Blocks.{blockOk}
-use Rattle.def.specs.Components.{planeLength}
 use Rattle.def.specs.Picture.{sizeOk}
 use Rattle.nbr.specs.Gather.{Around}
 use Rattle.driver_rules.specs.Asked.{LentAsked}

@@ -65,7 +65,7 @@ fn copy_lent(block: Block, lent: &[u16], pred: &mut [u16])
 
 // ---- a mode
 
-// Room for the longest run.
+// Room for the longest run. A function of its own: what calls it knows the array's length, and does not look into it.
 fn blank_run() -> [u16; 257] {
     [0; 257]
 }
@@ -260,11 +260,11 @@ pub(crate) fn component(
     let part = block.component;
     let n = def::in_component(part, block.side);
     let long = n * n;
-    if coded {
-        let end = at + long;
-        draw(block, kind, true, lent, &residual[at..end], map_scu, plane);
-        return end;
+    if !coded {
+        draw_uncoded(block, kind, long, lent, map_scu, plane);
+        return at;
     }
-    draw_uncoded(block, kind, long, lent, map_scu, plane);
-    at
+    let end = at + long;
+    draw(block, kind, true, lent, &residual[at..end], map_scu, plane);
+    end
 }

@@ -8,6 +8,7 @@ ghost use Rattle.laws.specs.Index.{pick, tabulate};
 ghost use Rattle.laws.specs.Plane.{withRow, withBlock};
 ghost use Rattle.def.specs.Blocks.{blockOk};
 ghost use Rattle.def.specs.Picture.{rootCount};
+ghost use Rattle.def.specs.Word.{leafWord};
 ghost use Rattle.split.specs.Stored.{leavesFrom};
 ghost use Rattle.split.specs.Walk.{leaf};
 ghost use Rattle.driver_rules.specs.Asked.{GivenAsked, StateAsked, Reaches, Blocks, Sides, Accepted, Listed, Stepped};
@@ -35,7 +36,7 @@ pub(crate) struct Place {
 fn coded_y(mask: u8) -> bool
     ensures { λ r. ⌜ r ≡ codedY mask ⌝ }
 {
-    mask / 1 % 2 == 1
+    mask % 2 == 1
 }
 
 fn coded_u(mask: u8) -> bool
@@ -58,6 +59,13 @@ fn mode_of(kind: u8) -> u8
         return kind;
     }
     255
+}
+
+// The word of a leaf's units: intra for a mode, the QP, luma-coded and done.
+fn word_of(kind: u8, qp: u8, mask: u8) -> u32
+    ensures { λ r. ⌜ r ≡ leafWord (isMode kind) qp (codedY mask) ⌝ }
+{
+    def::leaf_word(kind <= 4, qp, coded_y(mask))
 }
 
 // The mask of leaf k, 0 where the list ends before it.
@@ -282,7 +290,7 @@ fn draw_leaf(
         u,
         v,
     );
-    let word = def::leaf_word(kind <= 4, qp, coded_y(mask));
+    let word = word_of(kind, qp, mask);
     let mode = mode_of(kind);
     tell(
         map_scu,

@@ -4,9 +4,9 @@
 --     walk-answer, onward    the answer of the walk, where size and splits passed
 --     data-row, records-long    the data's checks, by where the walk ended
 -- Assumes nothing.
-use Prim.Native.Nat.{ℕ, _*_, _/_, _≤_}
+use Prim.Native.Nat.{ℕ, _*_, _/_}
 use mathlib.Core.Path.{_≡_, refl, sym, ap, _∙_}
-use mathlib.Core.Bool.{Bool, true}
+use mathlib.Core.Bool.{true}
 use mathlib.Core.List.{List}
 use native.Mathlib.Nat.{div-one, le-of-eq, zero-add}
 use native.Mathlib.Omega.{arith}
@@ -22,7 +22,6 @@ use Rattle.def.specs.Picture.{sizeOk, lumaLength, rootCount, unitCount}
 use Rattle.def.specs.declared.Answer.{Answer}
 use Rattle.def.specs.declared.Answer.the-variants.{Done, Refused}
 use Rattle.def.specs.declared.Component.the-variants.{Luma, Chroma}
-use Rattle.def.specs.declared.Refusal.{Refusal}
 use Rattle.def.specs.declared.Refusal.the-variants.{Size, Length, Record, Mode, Qp, Sample}
 use Rattle.def.proofs.Ladders.{passes}
 use Rattle.split.specs.CheckCall as check-call
@@ -31,7 +30,6 @@ use Rattle.split.specs.Walk.{Leaf}
 use Rattle.driver_rules.specs.Asked.{GivenAsked, StateAsked, Reaches, Accepted}
 use Rattle.driver_rules.specs.Call.{Input, readTests, readOk, writtenTests, writtenOk, recordTests, recordsOk, lentTests, lentOk, dataCheck, checkOf, check, leavesOf, start}
 use Rattle.driver_rules.specs.Records.{bytesOk, Place, first, passed}
-use Rattle.driver_rules.specs.Steps.{Given}
 use Rattle.driver_rules.proofs.Places.{passed-count}
 use Rattle.driver_rules.proofs.Small.{done-none}
 

@@ -1,9 +1,10 @@
 -- What is proved of every picture that the driver finishes.
---     words-kept, modes-kept    a leaf that does not hold a unit leaves it
+--     steps-asked    what each leaf asks of the state holds of the last
 --     unit-told    each leaf of the list has told its units, by the record of its number
 --     finished    the theorem
+--     reconstructed    the same from an answer of 0 of the call
 -- Assumes nothing.
-use Prim.Native.Nat.{ℕ, zero, suc, _+_, _*_, _/_, _%_, _≤_, _<_}
+use Prim.Native.Nat.{ℕ, suc, _+_, _*_, _/_, _%_, _≤_, _<_}
 use mathlib.Core.Path.{_≡_, refl, sym, ap, _∙_, subst}
 use mathlib.Core.Bool.{Bool, true, false}
 use mathlib.Core.Logic.{_⊎_, ⊎-elim}
@@ -13,26 +14,29 @@ use native.Mathlib.Omega.{arith}
 use borrow.Author.Tests.{le-leb, leb-true}
 use lib.Dec.{leb}
 use lib.ListN.{length, getD}
+use Rattle.laws.specs.Call.{Gives}
 use Rattle.laws.specs.Index.{pick}
 use Rattle.laws.specs.Orders.{Pairwise, run}
-use Rattle.laws.specs.Plane.{within, withBlock}
-use Rattle.laws.proofs.Planes.{within-yes, within-low, within-high}
+use Rattle.laws.specs.Plane.{within}
+use Rattle.laws.proofs.Planes.{within-yes, within-low}
 use Rattle.laws.proofs.ScanAll.{scan-pass}
 use Rattle.laws.proofs.Scans.{scan-at}
 use Rattle.def.specs.Blocks.{blockOk}
 use Rattle.def.specs.Components.{scaleOf, planeLength}
 use Rattle.def.specs.Picture.{sizeOk, unitCount}
 use Rattle.def.specs.Word.{qpOf, doneOf}
-use Rattle.def.specs.declared.Answer.the-variants.{Done}
+use Rattle.def.specs.Answers.{afterChecks}
+use Rattle.def.specs.declared.Answer.{Answer}
+use Rattle.def.specs.declared.Answer.the-variants.{Done, Refused}
+use Rattle.def.proofs.Answers.{number-some}
 use Rattle.def.specs.declared.Component.{Component}
 use Rattle.def.specs.declared.Component.the-variants.{Luma, Chroma}
 use Rattle.def.proofs.Sizes.{sized}
 use Rattle.def.proofs.Words.{leaf-word}
-use Rattle.nbr.specs.Gather.{unitSide}
 use Rattle.nbr.specs.Units.{unitAt}
 use Rattle.samples.specs.Samples.{samplesOk}
 use Rattle.samples.proofs.Samples.{samples-pass}
-use Rattle.split.specs.Picture.{roots, rootWalk, allLeaves}
+use Rattle.split.specs.Picture.{roots, rootWalk}
 use Rattle.split.specs.Tiling.{Holds}
 use Rattle.split.specs.Walk.{Leaf, leaf}
 use Rattle.split.proofs.Demand3.{demand-3}
@@ -40,9 +44,9 @@ use Rattle.split.proofs.Places.{Before, leaves-order}
 use Rattle.split.proofs.Roots.{some-wide}
 use Rattle.split.proofs.Walks.{each-done}
 use Rattle.driver_rules.specs.Asked.{DoneSmall, GivenAsked, StateAsked}
-use Rattle.driver_rules.specs.Call.{Input, check, leavesOf, start, end}
+use Rattle.driver_rules.specs.Call.{Input, Outcome, check, leavesOf, start, end, refused, done, outcome}
 use Rattle.driver_rules.specs.Finished.{Told, Finished}
-use Rattle.driver_rules.specs.Records.{byteAt, qpAt, bytesOk, wordAt, modeAt, first, passed}
+use Rattle.driver_rules.specs.Records.{byteAt, qpAt, bytesOk, wordAt, modeAt}
 use Rattle.driver_rules.specs.Steps.{Given, State, withUnits, stepAt, step, steps}
 use Rattle.driver_rules.proofs.Checks.{Passed, all-passed}
 use Rattle.driver_rules.proofs.Lists.{leaf-block}
@@ -209,8 +213,8 @@ module _ (i : Input) (accepted : check i ≡ Done) where
         done = ap doneOf word ∙ leaf-word _ _ _ .done-bit;
       }
 
-  done : (u v : ℕ) → u < w / 4 → v < h / 4 → doneOf (unitAt w (end i .words) u v) ≡ true
-  done u v cu cv = units u v cu cv .done
+  all-done : (u v : ℕ) → u < w / 4 → v < h / 4 → doneOf (unitAt w (end i .words) u v) ≡ true
+  all-done u v cu cv = units u v cu cv .done
 
   -- the QP of a leaf's record
   record-qp : (k : ℕ) → k < length l → qpAt (i .given .leaves) k ≤ 51
@@ -229,9 +233,23 @@ module _ (i : Input) (accepted : check i ≡ Done) where
   pub finished : Finished i
   finished =
       record {
-        y-small = plane-small Luma w h _ _ (p .accepted .size) (last .y-long) (last .y-done) done;
-        u-small = plane-small Chroma w h _ _ (p .accepted .size) (last .u-long) (last .u-done) done;
-        v-small = plane-small Chroma w h _ _ (p .accepted .size) (last .v-long) (last .v-done) done;
+        y-small = plane-small Luma w h _ _ (p .accepted .size) (last .y-long) (last .y-done) all-done;
+        u-small = plane-small Chroma w h _ _ (p .accepted .size) (last .u-long) (last .u-done) all-done;
+        v-small = plane-small Chroma w h _ _ (p .accepted .size) (last .v-long) (last .v-done) all-done;
         units = units;
         qps = scan-pass _ (length (end i .words)) (λ k q. le-leb _ _ (word-qp k q));
       }
+
+-- ---- what a caller learns from an answer of 0
+
+pub record Reconstructed (i : Input) (o : Outcome) : Type 0 where
+  pub made : o ≡ done i
+  pub whole : Finished i
+
+told-by : (i : Input) (o : Outcome) (k : Answer) → check i ≡ k → o ≡ afterChecks (refused i) (done i) k → o .number ≡ 0 → Reconstructed i o
+told-by i o Done e g n = record { made = g; whole = finished i e }
+told-by i o (Refused r) e g n = absurd (omega (arith, number-some r, ap (λ (q : Outcome). q .number) g))
+
+pub reconstructed : (i : Input) (o : Outcome) → Gives outcome i o → o .number ≡ 0 → Reconstructed i o
+unfolding outcome
+reconstructed i o g n = told-by i o (check i) refl g n

@@ -9,9 +9,8 @@ use mathlib.Core.List.{List, [], _∷_, _++_, List·Memᴰ, List·Memᴰ·head, 
 use native.Mathlib.Decide.{decLt}
 use native.Mathlib.Omega.{arith}
 use borrow.Author.Tests.{eq-eqb, le-leb}
-use lib.ListN.{length, getD}
+use lib.ListN.{length}
 use lib.Seq.{length-sets}
-use Rattle.def.specs.Answers.{afterChecks}
 use Rattle.def.specs.Blocks.{blockSideOk, blockOk}
 use Rattle.def.specs.Picture.{rootsAlong, rootCount}
 use Rattle.def.specs.Refusals.{numberOf}
@@ -23,7 +22,6 @@ use Rattle.laws.specs.Orders.{each}
 use Rattle.split.specs.LeavesCall as leaves-call
 use Rattle.split.specs.Picture.{roots, rootBytes, rootX, rootY, rootWalk, rootLeaves}
 use Rattle.split.specs.Stored.{leafNumbers, leafFrom, leavesFrom}
-use Rattle.split.specs.Walk.{Leaf, leaf}
 use Rattle.split.specs.declared.Walked.{Walked}
 use Rattle.split.specs.declared.Walked.the-variants.{Done as Counted, Refused as NotCounted}
 use Rattle.split.proofs.Callers.{leaves-told, leaves-given, index-back}
@@ -31,7 +29,7 @@ use Rattle.split.proofs.Places.{sound-at, stands-at}
 use Rattle.split.proofs.Ranks.{in-picture}
 use Rattle.split.proofs.Roots.{roots-units, some-wide, root-column, root-row}
 use Rattle.split.proofs.Walks.{each-done, few-leaves}
-use Rattle.driver_rules.specs.Asked.{Accepted, Blocks, Listed}
+use Rattle.driver_rules.specs.Asked.{Accepted, Listed}
 
 -- ---- a block of the picture
 

@@ -4,22 +4,20 @@
 --     passed-grows    where a list of leaves has come is not past where a longer one comes
 --     passed-few    a leaf takes at most 6144 residuals
 -- Assumes nothing.
-use Prim.Native.Nat.{ℕ, zero, suc, _+_, _*_, _/_, _≤_, _<_}
-use mathlib.Core.Path.{_≡_, refl, sym, ap, _∙_, subst}
+use Prim.Native.Nat.{ℕ, zero, suc, _+_, _*_, _≤_, _<_}
+use mathlib.Core.Path.{_≡_, sym, _∙_}
 use mathlib.Core.Bool.{Bool, true, false}
 use mathlib.Core.List.{List, [], _∷_, _++_}
 use native.Mathlib.Nat.{add-zero, mul-le-mul, le-trans, le-refl}
 use native.Mathlib.Decide.{decLt}
 use native.Mathlib.Omega.{arith}
-use lib.ListN.{length, length-append}
+use lib.ListN.{length}
 use Rattle.laws.specs.Index.{pick}
 use Rattle.laws.specs.Orders.{run}
 use Rattle.laws.proofs.Orders.{run-append}
-use Rattle.def.specs.declared.Component.{Component}
-use Rattle.def.specs.declared.Component.the-variants.{Luma, Chroma}
 use Rattle.split.specs.Walk.{Leaf}
 use Rattle.driver_rules.specs.Asked.{Reaches}
-use Rattle.driver_rules.specs.Records.{sampleCount, residualCount, maskAt, endV, Place, past, advance, passed}
+use Rattle.driver_rules.specs.Records.{Place, advance, passed}
 
 pub run-more : {E A : Type 0} (op : E → A → A) (l : List E) (e : E) (a : A) → run op (l ++ (e ∷ [])) a ≡ op e (run op l a)
 unfolding run

@@ -3,7 +3,7 @@
 --     done-more    after a block of small samples, whose units are then told
 -- Assumes nothing.
 use Prim.Native.Nat.{ℕ, _+_, _-_, _*_, _/_, _%_, _≤_, _<_}
-use mathlib.Core.Path.{_≡_, refl, sym, ap, _∙_, subst}
+use mathlib.Core.Path.{_≡_, refl, sym, _∙_}
 use mathlib.Core.Bool.{Bool, true, false}
 use mathlib.Core.List.{List}
 use native.Mathlib.Decide.{decLt}
@@ -16,14 +16,14 @@ use Rattle.laws.specs.Plane.{within, withBlock}
 use Rattle.laws.proofs.Places.{place-below}
 use Rattle.laws.proofs.Planes.{within-yes, within-low, within-high, getD-block}
 use Rattle.laws.proofs.Tabulate.{getD-tabulate}
-use Rattle.def.specs.Blocks.{blockOk, blockSideOk}
+use Rattle.def.specs.Blocks.{blockOk}
 use Rattle.def.specs.Components.{scaleOf, planeLength}
 use Rattle.def.specs.Picture.{sizeOk, unitCount}
 use Rattle.def.specs.Word.{flagAt, doneOf}
 use Rattle.def.specs.declared.Component.{Component}
 use Rattle.def.specs.declared.Component.the-variants.{Luma, Chroma}
-use Rattle.def.proofs.Blocks.{Blocked, blocked}
-use Rattle.def.proofs.Sizes.{Sized, sized}
+use Rattle.def.proofs.Blocks.{blocked}
+use Rattle.def.proofs.Sizes.{sized}
 use Rattle.nbr.specs.Gather.{unitSide}
 use Rattle.nbr.specs.Units.{unitAt}
 use Rattle.nbr.proofs.Sides.{four}

@@ -3,25 +3,20 @@
 --     steps-place    how far the walk has come
 --     Stepped, stepped-none, stepped-one, stepped-then    the leaves of a list, one more, and another list's after them
 -- Assumes nothing.
-use Prim.Native.Nat.{ℕ, _+_, _*_, _/_, _≤_, _<_}
+use Prim.Native.Nat.{ℕ, _+_}
 use mathlib.Core.Path.{_≡_, refl, sym, ap, _∙_, subst}
 use mathlib.Core.Bool.{Bool, true}
 use mathlib.Core.List.{List, [], _∷_, _++_}
 use lib.IntN.{ℤ}
 use lib.ListN.{length}
 use Rattle.laws.specs.Orders.{run}
-use Rattle.laws.specs.Plane.{withBlock}
 use Rattle.laws.proofs.Orders.{run-append}
 use Rattle.laws.proofs.Planes.{length-block}
 use Rattle.def.specs.Blocks.{blockOk}
-use Rattle.def.specs.Components.{scaleOf, planeLength}
-use Rattle.def.specs.Picture.{sizeOk, unitCount}
-use Rattle.def.specs.declared.Component.{Component}
 use Rattle.def.specs.declared.Component.the-variants.{Luma, Chroma}
 use Rattle.nbr.specs.Gather.{Around}
 use Rattle.recon.specs.Recon.{blockAt}
 use Rattle.recon.proofs.Promises.{recon-at-small}
-use Rattle.samples.specs.Samples.{samplesOk}
 use Rattle.split.specs.Walk.{Leaf}
 use Rattle.driver_rules.specs.Asked.{DoneSmall, BlockAsked, LentAsked, GivenAsked, StateAsked, Stepped}
 use Rattle.driver_rules.specs.Records.{passed}

@@ -5,24 +5,24 @@
 --     roots-none, roots-more, roots-reach    the first i roots of a picture
 --     Measured and its laws    the same of the places alone
 -- Assumes nothing.
-use Prim.Native.Nat.{ℕ, suc, _+_, _*_, _/_, _%_, _≤_, _<_}
-use mathlib.Core.Path.{_≡_, refl, sym, ap, _∙_, subst}
+use Prim.Native.Nat.{ℕ, suc, _+_, _*_, _/_, _%_, _<_}
+use mathlib.Core.Path.{_≡_, refl, sym, ap, _∙_}
 use mathlib.Core.Bool.{true}
 use mathlib.Core.List.{List, [], _∷_, _++_}
 use native.Mathlib.Numerals.{add-one}
 use native.Mathlib.Omega.{arith}
-use lib.ListN.{length, getD}
+use lib.ListN.{getD}
 use Rattle.laws.specs.Orders.{run}
 use Rattle.laws.proofs.Orders.{run-append}
 use Rattle.def.specs.Blocks.{blockOk}
 use Rattle.def.proofs.Blocks.{blocked}
 use Rattle.nbr.proofs.Sides.{four}
-use Rattle.split.specs.Picture.{roots, rootLeaves, leavesOf}
+use Rattle.split.specs.Picture.{rootLeaves, leavesOf}
 use Rattle.split.specs.Stored.{leafFrom, leavesFrom}
 use Rattle.split.specs.Walk.{Leaf, leaf}
 use Rattle.driver_rules.specs.Asked.{GivenAsked, StateAsked, Reaches, Blocks, Sides, Listed, Stepped}
 use Rattle.driver_rules.specs.Records.{maskAt, endV, Place, past, advance, passed}
-use Rattle.driver_rules.specs.Steps.{Given, State, stepAt, step, steps}
+use Rattle.driver_rules.specs.Steps.{Given, State, stepAt}
 use Rattle.driver_rules.proofs.Places.{run-more, reaches-grows}
 use Rattle.driver_rules.proofs.States.{step-asked, steps-place, stepped-none, stepped-then, stepped-as}
 

@@ -1,10 +1,8 @@
 -- `driver::bytes_ok` meets its contract: after k turns the flag is the test of the first k records. Assumes nothing.
-use Prim.Native.Nat.{ℕ, _+_, _-_, _*_, _≤_, _<_}
+use Prim.Native.Nat.{ℕ, _-_, _≤_}
 use mathlib.Core.Path.{_≡_, sym, _∙_}
 use native.Mathlib.Omega.{arith}
-use borrow.Author.Needs.{needs}
 use lib.Dec.{leb}
-use lib.ListN.{length}
 use Rattle.laws.specs.Scan.{allBelow}
 use Rattle.laws.proofs.Scans.{scan-none}
 use Rattle.laws.proofs.ScanAll.{scan-step}

@@ -1,19 +1,18 @@
 -- `driver::checked` meets its contract: a row of checks, the walk's among them. Assumes nothing.
-use Prim.Native.Nat.{_*_, _/_}
+use Prim.Native.Nat.{_/_}
 use mathlib.Core.Path.{_≡_, sym, _∙_}
 use mathlib.Core.Bool.{true}
 use borrow.Author.Needs.{needs}
 use borrow.Author.Tests.{not-false}
 use Rattle.laws.proofs.Calls.{stops, goes-on}
 use Rattle.def.specs.Picture.{sizeOk}
-use Rattle.def.specs.declared.Answer.{Answer}
 use Rattle.def.specs.declared.Answer.the-variants.{Refused}
 use Rattle.def.proofs.Answers.{on-refusal, on-done}
 use Rattle.def.proofs.Sizes.{sized}
 use Rattle.split.specs.Picture.{pictureWalk}
 use Rattle.driver_rules.specs.Call.{checkOf}
 use Rattle.driver_rules.proofs.Calls.{check-is}
-use Rattle.driver_rules.proofs.Checks.{Read, read-told, walk-answer}
+use Rattle.driver_rules.proofs.Checks.{read-told, walk-answer}
 use Rattle.driver.proofs.checked.Statement.{statement}
 use Rattle.driver.proofs.checked.Tie as tie
 

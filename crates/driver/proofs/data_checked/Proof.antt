@@ -1,10 +1,9 @@
 -- `driver::data_checked` meets its contract: a row of checks, by where the walk ended. Assumes nothing.
-use Prim.Native.Nat.{_*_, _≤_}
+use Prim.Native.Nat.{_*_}
 use mathlib.Core.Path.{_≡_, refl, sym, _∙_}
 use native.Mathlib.Omega.{arith}
 use borrow.Author.Needs.{needs}
 use borrow.Author.Tests.{not-false}
-use denote.Ref.{now}
 use lib.ListN.{length}
 use Rattle.laws.proofs.Calls.{stops, goes-on}
 use Rattle.driver_rules.specs.Call.{dataCheck, leavesOf}

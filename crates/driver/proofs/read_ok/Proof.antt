@@ -3,7 +3,6 @@ use Prim.Native.Nat.{_+_, _*_, _/_, _≤_}
 use mathlib.Core.Path.{refl}
 use native.Mathlib.Nat.{mul-le-mul}
 use native.Mathlib.Omega.{arith}
-use borrow.Author.Needs.{needs}
 use Rattle.split.proofs.Roots.{few-roots}
 use Rattle.driver_rules.specs.Call.{readOk}
 use Rattle.driver.proofs.read_ok.Statement.{statement}

@@ -1,5 +1,5 @@
 -- `driver::reconstruct` meets its contract: the checks, and past them the words cleared and all leaves drawn. Assumes nothing.
-use mathlib.Core.Path.{_≡_, sym, _∙_}
+use mathlib.Core.Path.{sym, _∙_}
 use borrow.Author.Needs.{needs}
 use Rattle.def.proofs.Answers.{on-refusal, on-done}
 use Rattle.driver_rules.specs.Call.{Input, outcome}

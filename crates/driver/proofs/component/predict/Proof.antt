@@ -1,9 +1,9 @@
 -- `driver::component::predict` meets its contract: the run is a part of an array, as long as the side asks. Assumes nothing.
-use Prim.Native.Nat.{ℕ, _+_, _*_, _≤_}
-use mathlib.Core.Path.{_≡_, sym, ap, _∙_}
+use Prim.Native.Nat.{_≤_}
+use mathlib.Core.Path.{_∙_}
 use native.Mathlib.Omega.{arith}
 use borrow.Author.Needs.{needs}
-use lib.ListN.{length, length-take, length-drop}
+use lib.ListN.{length-take}
 use Rattle.driver_rules.proofs.Components.{side-short}
 use Rattle.driver.proofs.component.predict.Statement.{statement}
 use Rattle.driver.proofs.component.predict.Tie as tie

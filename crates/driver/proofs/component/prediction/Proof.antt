@@ -1,5 +1,4 @@
 -- `driver::component::prediction` meets its contract: the arm of a mode, and that of the lent prediction. Assumes nothing.
-use mathlib.Core.Path.{_∙_, sym}
 use native.Mathlib.Omega.{arith}
 use borrow.Author.Needs.{needs}
 use borrow.Author.Tests.{le-leb, lt-leb}

@@ -1,5 +1,8 @@
 -- `driver::walk::coded_y` meets its contract: the flag at its place. Assumes nothing.
-use mathlib.Core.Path.{refl}
+use Prim.Native.Nat.{ℕ, _%_}
+use mathlib.Core.Path.{sym, ap}
+use native.Mathlib.Nat.{div-one}
+use lib.Dec.{eqb}
 use Rattle.laws.specs.Bits.{fieldOf}
 use Rattle.def.specs.Word.{flagAt}
 use Rattle.driver.proofs.walk.coded_y.Statement.{statement}
@@ -7,7 +10,7 @@ use Rattle.driver.proofs.walk.coded_y.Tie as tie
 
 returns : tie.Need-returns
 unfolding flagAt fieldOf
-returns c = refl
+returns c = ap (λ (n : ℕ). eqb (n % 2) 1) (sym (div-one (c .args .mask)))
 
 pub coded-y-spec : {M : Type 1} → statement M
 coded-y-spec = tie.close (tie.spec returns)

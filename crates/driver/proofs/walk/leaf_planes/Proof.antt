@@ -1,9 +1,7 @@
 -- `driver::walk::leaf_planes` meets its contract: the three components, each where the one before ended in the residual list. Assumes nothing.
-use Prim.Native.Nat.{ℕ, _+_, _≤_}
 use mathlib.Core.Path.{_≡_, _∙_}
 use native.Mathlib.Omega.{arith}
 use borrow.Author.Needs.{needs}
-use Rattle.def.specs.declared.Component.the-variants.{Luma, Chroma}
 use Rattle.driver_rules.specs.Records.{startU, startV}
 use Rattle.driver.proofs.walk.leaf_planes.Statement.{statement}
 use Rattle.driver.proofs.walk.leaf_planes.Tie as tie

@@ -1,11 +1,10 @@
 -- `driver::walk::past_leaves` meets its contract: a turn goes past one leaf more. Assumes nothing.
-use Prim.Native.Nat.{ℕ, _+_, _-_, _*_, _≤_, _<_}
+use Prim.Native.Nat.{_+_, _-_, _*_, _≤_, _<_}
 use mathlib.Core.Path.{_≡_, refl, ap, _∙_}
 use native.Mathlib.Omega.{arith}
-use borrow.Author.Needs.{needs}
 use lib.ListN.{length}
 use Rattle.split.specs.Stored.{leavesFrom}
-use Rattle.driver_rules.specs.Records.{passed, endV}
+use Rattle.driver_rules.specs.Records.{passed}
 use Rattle.driver_rules.proofs.Walked.{passed-none, past-one}
 use Rattle.driver.specs.Lends.{placeOf}
 use Rattle.driver.proofs.walk.past_leaves.Statement.{statement}

@@ -1,13 +1,11 @@
 -- `driver::walk::past_picture` meets its contract: a turn goes past one root more. Assumes nothing.
-use Prim.Native.Nat.{ℕ, _+_, _-_, _*_, _/_, _≤_, _<_}
-use mathlib.Core.Path.{_≡_, refl, sym, ap, _∙_}
+use Prim.Native.Nat.{_+_, _-_, _*_, _/_, _≤_}
+use mathlib.Core.Path.{_≡_, refl}
 use native.Mathlib.Omega.{arith}
 use borrow.Author.Needs.{needs}
 use lib.ListN.{length}
-use Rattle.def.specs.Picture.{rootCount}
 use Rattle.def.proofs.Sizes.{Sized, sized}
 use Rattle.split.specs.Picture.{roots, leavesOf}
-use Rattle.split.specs.Stored.{leavesFrom}
 use Rattle.split.proofs.Roots.{few-roots, roots-units}
 use Rattle.driver_rules.specs.Records.{first, passed}
 use Rattle.driver_rules.proofs.Walked.{sides, passed-no-root, past-listed}

@@ -1,5 +1,5 @@
 -- `driver::walk::root_leaves` meets its contract: the walk was accepted, so the call lists the root's leaves. Assumes nothing.
-use Prim.Native.Nat.{ℕ, _+_, _*_, _/_, _%_, _<_}
+use Prim.Native.Nat.{_+_, _*_, _/_, _%_, _<_}
 use native.Mathlib.Omega.{arith}
 use borrow.Author.Needs.{needs}
 use Rattle.def.proofs.Sizes.{Sized, sized}

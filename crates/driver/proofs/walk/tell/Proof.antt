@@ -1,9 +1,7 @@
 -- `driver::walk::tell` meets its contract: a turn tells one row more of the block. Assumes nothing.
 use Prim.Native.Nat.{ℕ, _+_, _-_, _*_, _≤_}
-use mathlib.Core.Path.{_≡_, refl}
-use native.Mathlib.Nat.{mul-le-mul-left, mul-one}
+use mathlib.Core.Path.{refl}
 use native.Mathlib.Omega.{arith}
-use borrow.Author.Needs.{needs}
 use lib.ListN.{length}
 use Rattle.laws.proofs.Flat.{row-below}
 use Rattle.laws.proofs.Whole.{Rows, rows-none, rows-more, rows-all}

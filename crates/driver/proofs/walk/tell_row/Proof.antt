@@ -1,8 +1,7 @@
 -- `driver::walk::tell_row` meets its contract: a turn stores one unit more in both maps. Assumes nothing.
-use Prim.Native.Nat.{ℕ, _+_, _-_, _≤_}
+use Prim.Native.Nat.{ℕ, _-_, _≤_}
 use mathlib.Core.Path.{refl}
 use native.Mathlib.Omega.{arith}
-use borrow.Author.Needs.{needs}
 use Rattle.laws.proofs.Planes.{Rowed, rowed-none, rowed-more, rowed-all}
 use Rattle.driver.proofs.walk.tell_row.Statement.{statement}
 use Rattle.driver.proofs.walk.tell_row.Tie as tie
