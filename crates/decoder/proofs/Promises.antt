@@ -1,13 +1,13 @@
 -- Every public call in one place.
 --     NAME-once        over the contract as the checker reads it from the source: the arguments determine the answer and every slice that the call may write
 --     NAME-refusals    the refusals that the call gives, in the order of its ladder, each with an input that meets it; of a call that gives none, nothing
--- The answer is determined, and not its reading alone, because each reading tells all answers apart: `answer-apart` (def), `reading-apart` (avail, sheet),
--- `leaves-apart`, `rank-apart`, `list-apart` (split), and `number-apart` (def) of the refusals.
+-- The answer is determined, and not its reading alone, because each reading tells all answers apart: `answer-apart` (def), `reading-apart` (avail, df,
+-- sheet_lines, sheet), `leaves-apart`, `rank-apart`, `list-apart` (split), and `number-apart` (def) of the refusals.
 -- Assumes nothing.
 use Prim.Native.Nat.{ℕ, _*_, _/_}
 use mathlib.Core.Path.{refl, sym, ap, ap₂, _∙_}
 use mathlib.Core.Bool.{true, false, _||_}
-use mathlib.Core.List.{List, [], _∷_, _++_}
+use mathlib.Core.List.{List, [], _∷_, _++_, map}
 use denote.Ref.{now, ptr}
 use lib.Dec.{ltb, eqb}
 use lib.IntN.{ℤ, pos}
@@ -15,13 +15,15 @@ use lib.ListN.{length, replicate}
 use Rattle.laws.proofs.Calls.{one-outcome}
 use Rattle.laws.specs.Bits.{fieldOf}
 use Rattle.laws.specs.Call.{allOf}
+use Rattle.laws.specs.Clip.{maxZ, minZ, clipZ}
 use Rattle.laws.specs.Scan.{allBelow}
+use Rattle.def.specs.Answers.{answerNumber}
 use Rattle.def.specs.Blocks.{blockSideOk, componentSideOk, blockOk, unitOk}
 use Rattle.def.specs.Components.{scaleOf, planeLength}
 use Rattle.def.specs.Picture.{sizeOk, unitCount, rootCount}
 use Rattle.def.specs.Refusals.{numberOf}
 use Rattle.def.specs.Word.{flagAt}
-use Rattle.def.specs.declared.Refusal.the-variants.{Size, Length, Setting, Split, Leaf, Sample, Block, Mode, Points as BadPoints, Pivot, Sheet}
+use Rattle.def.specs.declared.Refusal.the-variants.{Size, Length, Setting, Split, Leaf, Qp, Sample, Block, Mode, Points as BadPoints, Pivot, Sheet}
 use Rattle.def.specs.declared.Component.the-variants.{Luma}
 use Rattle.def.proofs.Answers.{answer-apart}
 use Rattle.samples.specs.Samples.{samplesOk}
@@ -45,15 +47,22 @@ use Rattle.split.specs.Ranks.{rank as visitingRank}
 use Rattle.split.specs.Walk.{onward, inTurn, leafWalk, byByte, walk}
 use Rattle.split.specs.declared.Rank.the-variants.{Done as Ranked, Refused as NotRanked}
 use Rattle.split.proofs.Apart.{leaves-apart, rank-apart, list-apart}
+use Rattle.df_check.specs.Checks as checks
+use Rattle.df_check.specs.ChromaQp.{indexOf, mappedZ}
+use Rattle.df_check.specs.declared.VEdge.the-variants.{Source}
+use Rattle.df.specs.Deblock as deblock
+use Rattle.df.proofs.Once.{reading-apart as deblocked-apart}
 use Rattle.sheet_lines.specs.Lines.{startOf, lineOf, startsWith, isNumber, numberLine, edgeLine, sameLine, splitsLine, numberAfter, valueFrom, lineOk, firstBad, widthOf, heightOf, limitOf, digitsOf}
+use Rattle.sheet_lines.specs.ReadCall as sheet
 use Rattle.sheet_lines.specs.Words.{widthKey, heightKey, limitKey, ownEdge, splitsKey}
+use Rattle.sheet_lines.proofs.Answers.{reading-apart as sheet-apart}
 use Rattle.sheet.specs.Descent.{descents, descend}
 use Rattle.sheet.specs.Listing as listing
 use Rattle.sheet.specs.Text.{sidesOk, foundBy, foundOf, foundIn}
 use Rattle.sheet.specs.Words.{newline}
 use Rattle.sheet.proofs.Outcomes.{reading-apart as printed-apart}
 use Rattle.decoder.specs.Promise.{ended, Sole, Refuses, refusalIn}
-use Rattle.decoder.proofs.Refusing.{last, rung, by-checks, root-stops, picture-stops, sheet-rung, digits-said}
+use Rattle.decoder.proofs.Refusing.{Stops, last, rung, walk-rung, by-checks, root-stops, picture-stops, line-said, sheet-rung, digits-said}
 use Rattle.decoder.proofs.derived_chroma_qp_mapping_tables.Kinds as tables-kinds
 use Rattle.decoder.proofs.derived_chroma_qp_mapping_tables.Reads as tables-reads
 use Rattle.decoder.proofs.get_avail_intra.Kinds as get-avail-intra-kinds
@@ -80,6 +89,12 @@ use Rattle.decoder.proofs.visiting_rank.Kinds as visiting-rank-kinds
 use Rattle.decoder.proofs.visiting_rank.Reads as visiting-rank-reads
 use Rattle.decoder.proofs.list_edges.Kinds as list-edges-kinds
 use Rattle.decoder.proofs.list_edges.Reads as list-edges-reads
+use Rattle.decoder.proofs.deblock.Kinds as deblock-kinds
+use Rattle.decoder.proofs.deblock.Reads as deblock-reads
+use Rattle.decoder.proofs.checked.Kinds as checked-kinds
+use Rattle.decoder.proofs.checked.Reads as checked-reads
+use Rattle.decoder.proofs.read.Kinds as read-kinds
+use Rattle.decoder.proofs.read.Reads as read-reads
 use Rattle.decoder.proofs.listing.Kinds as listing-kinds
 use Rattle.decoder.proofs.listing.Reads as listing-reads
 use Rattle.decoder.proofs.pel2scu.Kinds as pel2scu-kinds
@@ -120,6 +135,10 @@ use Rattle.decoder.proofs.mask_of.Kinds as mask-of-kinds
 use Rattle.decoder.proofs.mask_of.Reads as mask-of-reads
 use Rattle.decoder.proofs.line.Kinds as line-kinds
 use Rattle.decoder.proofs.line.Reads as line-reads
+use Rattle.decoder.proofs.entries.Kinds as entries-kinds
+use Rattle.decoder.proofs.entries.Reads as entries-reads
+use Rattle.decoder.proofs.lanes.Kinds as lanes-kinds
+use Rattle.decoder.proofs.lanes.Reads as lanes-reads
 use Rattle.decoder.proofs.motion_row.Kinds as motion-row-kinds
 use Rattle.decoder.proofs.motion_row.Reads as motion-row-reads
 
@@ -130,12 +149,12 @@ derived-chroma-qp-mapping-tables-once κs a r r′ x x′ p q =
     let e = one-outcome derived.outcome _ _ _ p q in
     ap₂ ended (answer-apart r r′ (ap (λ (o : derived.Outcome). o .number) e)) (ap (λ (o : derived.Outcome). o .t0 ∷ o .t1 ∷ []) e)
 
--- 58 points that have one a, of which some count; two tables; and a call with them
+-- 58 points that have one a, of which some count; a table; and a call with them
 abbrev points : ℕ → ℤ → Points
 points n a = record { count = n; a = replicate 58 a; b = replicate 58 (pos 0) }
 
-abbrev entries : List ℤ
-entries = replicate 70 (pos 0)
+abbrev chroma-table : List ℤ
+chroma-table = replicate 70 (pos 0)
 
 abbrev pointed : List ℤ → Points → Points → derived.Input
 pointed t p q = record { global-offset = false; same-table = false; first = p; second = q; t0 = t; t1 = t }
@@ -153,10 +172,10 @@ derived-chroma-qp-mapping-tables-refusals =
           (rung (i .same-table || derived.pivotsOk (derived.inputStart i) (i .second)) Pivot _ last)))));
       shown =
           pointed [] (points 1 (pos 0)) (points 1 (pos 0))
-          ∷ pointed entries (points 0 (pos 0)) (points 1 (pos 0))
-          ∷ pointed entries (points 1 (pos 0)) (points 0 (pos 0))
-          ∷ pointed entries (points 1 (pos 70)) (points 1 (pos 0))
-          ∷ pointed entries (points 1 (pos 0)) (points 1 (pos 70))
+          ∷ pointed chroma-table (points 0 (pos 0)) (points 1 (pos 0))
+          ∷ pointed chroma-table (points 1 (pos 0)) (points 0 (pos 0))
+          ∷ pointed chroma-table (points 1 (pos 70)) (points 1 (pos 0))
+          ∷ pointed chroma-table (points 1 (pos 0)) (points 1 (pos 70))
           ∷ [];
       given = refl;
     }
@@ -426,7 +445,78 @@ list-edges-refusals =
       given = refl;
     }
 
+-- ---- deblocking
+
+pub deblock-once : Sole 10 deblock-kinds.ps deblock-kinds.r deblock-reads.Post (λ κs r x. ended r (now (x .1 .1 .0) ∷ now (x .1 .1 .1 .0) ∷ now (x .1 .1 .1 .1 .0) ∷ now (x .1 .1 .1 .1 .1 .0) ∷ []))
+deblock-once κs a r r′ x x′ p q =
+    let e = one-outcome deblock.outcome _ _ _ p q in
+    ap₂ ended (deblocked-apart r r′ (ap (λ (o : deblock.Outcome). o .reading) e)) (ap (λ (o : deblock.Outcome). o .y ∷ o .u ∷ o .v ∷ o .words ∷ []) e)
+
+pub checked-once : Sole 7 checked-kinds.ps checked-kinds.r checked-reads.Post (λ κs r x. r)
+checked-once κs a r r′ x x′ p q = one-outcome checks.checkOf _ _ _ p q
+
+-- a picture of one unit with its word and its luma samples, all one number; the split bytes are all one number too
+abbrev filtering : ℕ → List ℕ → ℕ → ℕ → ℕ → deblock.Input
+filtering w splits limit word sample =
+    record {
+      w = w;
+      h = 4;
+      y = replicate 16 sample;
+      u = replicate 4 0;
+      v = replicate 4 0;
+      words = word ∷ [];
+      splits = splits;
+      motion = replicate 4 (pos 0);
+      refs = replicate 2 (pos 0);
+      table0 = chroma-table;
+      table1 = chroma-table;
+      strengths = replicate 208 0;
+      settings = record { limit = limit; «v_edge» = Source; «u_offset» = pos 0; «v_offset» = pos 0 };
+    }
+
+-- an input for each rung. 3407872 is a word of QP 52
+abbrev filterings : List deblock.Input
+filterings =
+    filtering 0 [] 5 0 0
+    ∷ filtering 4 [] 5 0 0
+    ∷ filtering 4 (root 2) 7 0 0
+    ∷ filtering 4 (root 2) 5 3407872 1024
+    ∷ filtering 4 (root 0) 5 3407872 1024
+    ∷ filtering 4 (root 1) 5 3407872 1024
+    ∷ filtering 4 (root 1) 5 0 1024
+    ∷ []
+
+checks-stop : (i : checks.Input) → Stops (Size ∷ Length ∷ Setting ∷ Split ∷ Leaf ∷ Qp ∷ Sample ∷ []) (checks.checkOf i)
+unfolding checks.checkOf
+checks-stop i =
+    rung (sizeOk (i .w) (i .h)) Size _
+    (rung (checks.lengthsOk (i .w) (i .h) (checks.lengthsOf i)) Length _
+    (rung (checks.settingsOk (i .settings)) Setting _
+    (walk-rung (Qp ∷ Sample ∷ []) _ _ (picture-stops (i .splits) (i .w / 4) (i .h / 4))
+    (rung (checks.qpsOk (i .settings) (i .table0) (i .table1) (i .words)) Qp _
+    (rung (checks.planesOk (i .y) (i .u) (i .v)) Sample _ last)))))
+
+pub deblock-refusals : Refuses deblock.outcome (λ o. o .reading .number) (Size ∷ Length ∷ Setting ∷ Split ∷ Leaf ∷ Qp ∷ Sample ∷ [])
+unfolding deblock.outcome checks.checkOf checks.lengthsOk checks.settingsOk checks.offsetOk checks.qpsOk checks.qpOk checks.planesOk list.limitOk sizeOk walk byByte inTurn onward leafWalk samplesOk allBelow fieldOf mappedZ indexOf clipZ maxZ minZ
+deblock-refusals =
+    record {
+      only = λ i. by-checks (λ o. o .reading .number) (deblock.refused i) (deblock.done i) (Size ∷ Length ∷ Setting ∷ Split ∷ Leaf ∷ Qp ∷ Sample ∷ []) (deblock.check i) (λ r. refl) refl (checks-stop (deblock.checked i));
+      shown = filterings;
+      given = refl;
+    }
+
+pub checked-refusals : Refuses checks.checkOf answerNumber (Size ∷ Length ∷ Setting ∷ Split ∷ Leaf ∷ Qp ∷ Sample ∷ [])
+unfolding checks.checkOf checks.lengthsOk checks.settingsOk checks.offsetOk checks.qpsOk checks.qpOk checks.planesOk list.limitOk sizeOk walk byByte inTurn onward leafWalk samplesOk allBelow fieldOf mappedZ indexOf clipZ maxZ minZ
+checked-refusals = record { only = λ i. checks-stop i .by; shown = map deblock.checked filterings; given = refl }
+
 -- ---- the sheet
+
+pub read-once : Sole 1 read-kinds.ps read-kinds.r read-reads.Post (λ κs r x. r)
+read-once κs a r r′ x x′ p q = sheet-apart r r′ (ap (λ (o : sheet.Outcome). o .reading) (one-outcome sheet.outcome _ _ _ p q))
+
+pub read-refusals : Refuses sheet.outcome (λ o. o .reading .number) (Sheet ∷ [])
+unfolding sheet.outcome sheet.readOf firstBad lineOk startOf lineOf numberLine startsWith
+read-refusals = record { only = λ i. line-said (eqb (firstBad (i .input)) 0) (firstBad (i .input)) (sheet.wholeSheet (i .input)) refl; shown = record { input = [] } ∷ []; given = refl }
 
 pub listing-once : Sole 2 listing-kinds.ps listing-kinds.r listing-reads.Post (λ κs r x. ended r (now (x .1 .0) ∷ []))
 listing-once κs a r r′ x x′ p q =
@@ -528,6 +618,12 @@ mask-of-once κs a r r′ x x′ p q = p ∙ sym q
 
 pub line-once : Sole 0 line-kinds.ps line-kinds.r line-reads.Post (λ κs r x. r)
 line-once κs a r r′ x x′ p q = p ∙ sym q
+
+pub lanes-once : Sole 0 lanes-kinds.ps lanes-kinds.r lanes-reads.Post (λ κs r x. r)
+lanes-once κs a r r′ x x′ p q = p ∙ sym q
+
+pub entries-once : Sole 3 entries-kinds.ps entries-kinds.r entries-reads.Post (λ κs r x. r)
+entries-once κs a r r′ x x′ p q = p ∙ sym q
 
 pub motion-row-once : Sole 0 motion-row-kinds.ps motion-row-kinds.r motion-row-reads.Post (λ κs r x. r)
 motion-row-once κs a r r′ x x′ p q = p .0 ∙ sym (q .0)
