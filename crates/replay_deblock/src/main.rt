@@ -67,7 +67,7 @@ fn maps(
     )
 }
 
-// Then the chroma QP tables and the strengths, and the settings last.
+// Then the chroma QP tables and the strengths.
 fn tables(
     s: &[u8],
     at: usize,
@@ -90,8 +90,9 @@ fn tables(
     let n0 = p0.len;
     let n1 = p1.len;
     let ns = ps.len;
-    let last = settings(s, ps.next);
     deblocked(
+        s,
+        ps.next,
         w,
         h,
         y,
@@ -104,8 +105,47 @@ fn tables(
         &t0[..n0],
         &t1[..n1],
         &strengths[..ns],
+    )
+}
+
+// The settings come last, and the call is made.
+fn deblocked(
+    s: &[u8],
+    at: usize,
+    w: usize,
+    h: usize,
+    y: &mut [u16],
+    u: &mut [u16],
+    v: &mut [u16],
+    words: &mut [u32],
+    splits: &[u8],
+    motion: &[i16],
+    refs: &[i8],
+    t0: &[i8],
+    t1: &[i8],
+    strengths: &[u8],
+) -> usize {
+    let last = settings(s, at);
+    print(df::deblock(
+        w,
+        h,
+        &mut *y,
+        &mut *u,
+        &mut *v,
+        &mut *words,
+        splits,
+        motion,
+        refs,
+        t0,
+        t1,
+        strengths,
         last.settings,
-    );
+    ));
+    replay::print_u16(y);
+    replay::print_u16(u);
+    replay::print_u16(v);
+    replay::print_u32(words);
+    replay::print_end();
     last.next
 }
 
@@ -136,43 +176,6 @@ fn v_edge(own: u8) -> VEdge {
         return VEdge::Own;
     }
     VEdge::Source
-}
-
-fn deblocked(
-    w: usize,
-    h: usize,
-    y: &mut [u16],
-    u: &mut [u16],
-    v: &mut [u16],
-    words: &mut [u32],
-    splits: &[u8],
-    motion: &[i16],
-    refs: &[i8],
-    t0: &[i8],
-    t1: &[i8],
-    strengths: &[u8],
-    settings: Settings,
-) {
-    print(df::deblock(
-        w,
-        h,
-        &mut *y,
-        &mut *u,
-        &mut *v,
-        &mut *words,
-        splits,
-        motion,
-        refs,
-        t0,
-        t1,
-        strengths,
-        settings,
-    ));
-    replay::print_u16(y);
-    replay::print_u16(u);
-    replay::print_u16(v);
-    replay::print_u32(words);
-    replay::print_end();
 }
 
 // The number and the counts, which are 0 where it refused.

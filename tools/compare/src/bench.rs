@@ -143,6 +143,22 @@ fn deblocked(given: &Picture) -> (f64, f64) {
     (theirs / count, ours / count)
 }
 
+/// The same kind of samples, words, motion and tables at every size, so that the sizes can be compared: noise around a middle grey, QP 37.
+fn alike(rng: &mut Rng, given: Picture, intra: bool) -> Picture {
+    let units = given.words.len();
+    let table: Vec<i8> = (-12..58).map(|qp: i8| qp.clamp(0, 51)).collect();
+    Picture {
+        planes: given.planes.map(|plane| plane.iter().map(|_| rng.range(500, 524) as u16).collect()),
+        words: vec![(intra as u32) << 15 | 37 << 16; units],
+        motion: (0..4 * units).map(|_| rng.pick(&[-2, 1, 2, 6])).collect(),
+        refs: (0..2 * units).map(|_| rng.pick(&[0, 1])).collect(),
+        tables: [table.clone(), table],
+        limit: 6,
+        offsets: [0, 0],
+        ..given
+    }
+}
+
 /// Deblocking of pictures of these leaves, all units intra or all inter.
 fn deblocking(rng: &mut Rng) -> Vec<Series> {
     use crate::cases::trees::{FINEST, SIXTEENS, UNCUT};
@@ -151,9 +167,8 @@ fn deblocking(rng: &mut Rng) -> Vec<Series> {
         for intra in [true, false] {
             let what = format!("deblocking, {}, leaves {leaves}", if intra { "intra" } else { "inter" });
             all.push(series(&what, |size| {
-                let mut given = Picture { limit: 6, ..picture(rng, size, size, taste) };
-                let mark = |word: u32| word & !(1 << 15 | 1 << 24) | (intra as u32) << 15;
-                given.words.iter_mut().for_each(|word| *word = mark(*word) & !(127 << 16) | 37 << 16);
+                let drawn = picture(rng, size, size, taste);
+                let given = alike(rng, drawn, intra);
                 deblocked(&given)
             }));
         }
@@ -229,8 +244,10 @@ fn machine() -> String {
         run.map_or(String::new(), |run| String::from_utf8_lossy(&run.stdout).trim().into())
     };
     let processors = info.matches("processor\t").count();
+    let load = fs::read_to_string("/proc/loadavg").unwrap_or_default();
+    let load = load.split(' ').next().unwrap_or_default();
     format!(
-        "Run on {} ({name}, {processors} processors, {}).\n\n",
+        "Run on {} ({name}, {processors} processors, load {load}, {}).\n\n",
         output("date", &["-u", "+%F"]),
         output("rustc", &["--version"])
     )

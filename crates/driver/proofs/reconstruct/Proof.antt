@@ -1,0 +1,49 @@
+-- `driver::reconstruct` meets its contract: the checks, and past them the words cleared and all leaves drawn. Assumes nothing.
+use mathlib.Core.Path.{_≡_, sym, _∙_}
+use borrow.Author.Needs.{needs}
+use Rattle.def.proofs.Answers.{on-refusal, on-done}
+use Rattle.driver_rules.specs.Call.{Input, outcome}
+use Rattle.driver_rules.proofs.Checks.{Passed, all-passed}
+use Rattle.driver.specs.Lends.{givenOf}
+use Rattle.driver.proofs.Leaves.{done-ended}
+use Rattle.driver.proofs.reconstruct.Statement.{statement}
+use Rattle.driver.proofs.reconstruct.Tie as tie
+
+-- the input of a call
+abbrev input : tie.Start → Input
+input s =
+    let a = s .args in
+    record {
+      given = givenOf (a .w) (a .h) (a .constrained) (a .leaves .now) (a .residual .now) (a .pred-y .now) (a .pred-u .now) (a .pred-v .now);
+      splits = a .splits .now;
+      y = a .y .now;
+      u = a .u .now;
+      v = a .v .now;
+      words = a .map-scu .now;
+      modes = a .modes .now;
+    }
+
+-- where the checks found nothing
+passed-at : (c : tie.After-enum-told) → Passed (input (c .before .before .before .before .before .before .before .before .before .before .before .before .before))
+passed-at c = all-passed (input (c .before .before .before .before .before .before .before .before .before .before .before .before .before)) (sym (c .before .before .checked .ensures) ∙ c .enum-told .given .1)
+
+draw-picture-requires : tie.Need-draw-picture-requires
+draw-picture-requires c κs =
+    let p = passed-at (c .before .before .before .before .before .before .before .before .before) in
+    (p .given, (rw (c .before .before .before .before .before .before .before .clear .ensures) (p .state), (p .accepted, p .reaches)))
+
+returns : tie.Need-returns
+unfolding outcome
+returns c = on-refusal _ _ _ _ _ (c .before .before .before .checked .ensures) (c .before .r .given .1)
+
+returns-2 : tie.Need-returns-2
+unfolding outcome
+returns-2 c =
+    let s = c .before .before .before .before .before .before .before .before .before .before .before .before .before .before .before .before .before .before .before .before .before .before .before .before .before .before .before .before .before .before .before .before .before in
+    on-done _ _ _ _ _ (c .before .before .before .before .before .before .before .before .before .before .before .before .before .before .before .before .before .before .before .before .before .before .checked .ensures) (c .before .before .before .before .before .before .before .before .before .before .before .before .before .before .before .before .before .before .before .before .enum-told .given .1) (done-ended (input s) (c .before .before .before .before .before .before .before .before .before .before .before .before .before .before .before .before .before .before .clear .ensures) (c .before .before .before .before .before .before .before .before .before .before .draw-picture .ensures))
+
+pub reconstruct-spec : {M : Type 1} → statement M
+reconstruct-spec =
+    tie.close
+    (tie.spec (λ c κs. search needs) (λ c. search needs) (λ c. search needs) (λ c κs. search needs) draw-picture-requires returns
+    (λ c. c .before .before .before .before .before .before .before .before .before .before .draw-picture .kept .1 .1 .1 .1 .1 .1 .1 .1 .1 .0) (λ c. c .before .before .before .before .before .before .before .before .before .before .draw-picture .kept .1 .1 .1 .1 .1 .1 .1 .1 .1 .1 .0) (λ c. c .before .before .before .before .before .before .before .before .before .before .draw-picture .kept .1 .1 .1 .1 .1 .1 .1 .1 .1 .1 .1 .0) (λ c. c .before .before .before .before .before .before .before .before .before .before .draw-picture .kept .1 .1 .1 .1 .1 .1 .1 .1 .1 .1 .1 .1 .0 ∙ c .before .before .before .before .before .before .before .before .before .before .before .before .before .before .before .before .before .before .clear .kept .0) (λ c. c .before .before .before .before .before .before .before .before .before .before .draw-picture .kept .1 .1 .1 .1 .1 .1 .1 .1 .1 .1 .1 .1 .1 .0) returns-2)

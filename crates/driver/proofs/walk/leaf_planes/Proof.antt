@@ -1,0 +1,46 @@
+-- `driver::walk::leaf_planes` meets its contract: the three components, each where the one before ended in the residual list. Assumes nothing.
+use Prim.Native.Nat.{ℕ, _+_, _≤_}
+use mathlib.Core.Path.{_≡_, _∙_}
+use native.Mathlib.Omega.{arith}
+use borrow.Author.Needs.{needs}
+use Rattle.def.specs.declared.Component.the-variants.{Luma, Chroma}
+use Rattle.driver_rules.specs.Records.{startU, startV}
+use Rattle.driver.proofs.walk.leaf_planes.Statement.{statement}
+use Rattle.driver.proofs.walk.leaf_planes.Tie as tie
+
+-- where the first component ends, and the second
+first-end : (c : tie.After-component) → let a = c .before .before .before .before .before .before .before .before .before .before .args in c .component .result ≡ startU (a .at) (a .mask) (a .side)
+first-end c = c .component .ensures .1 ∙ rw (c .before .before .coded-y .ensures)
+
+second-end : (c : tie.After-component2) → let a = c .before .before .before .before .before .before .before .before .before .before .before .before .before .before .before .args in c .component2 .result ≡ startV (a .at) (a .mask) (a .side)
+second-end c = c .component2 .ensures .1 ∙ rw (first-end (c .before .before .before .before .before), c .before .before .coded-u .ensures)
+
+component-requires : tie.Need-component-requires
+component-requires c κs =
+    let s = c .before .before .before .before .before .before .before .before .before in
+    (s .pre .0 .y-asked, s .pre .0 .given .lent-y, rw (c .before .coded-y .ensures) (omega (arith, s .pre .1)))
+
+component-requires-2 : tie.Need-component-requires-2
+component-requires-2 c κs =
+    let s = c .before .before .before .before .before .before .before .before .before .before .before .before .before .before in
+    (s .pre .0 .u-asked, s .pre .0 .given .lent-u, rw (c .before .coded-u .ensures, first-end (c .before .before .before .before)) (omega (arith, s .pre .1)))
+
+component-requires-3 : tie.Need-component-requires-3
+component-requires-3 c κs =
+    let s = c .before .before .before .before .before .before .before .before .before .before .before .before .before .before .before .before .before .before .before in
+    (s .pre .0 .v-asked, s .pre .0 .given .lent-v, rw (c .before .coded-v .ensures, second-end (c .before .before .before .before)) (s .pre .1))
+
+returns : tie.Need-returns
+returns c =
+    record {
+      y-drawn = c .before .before .before .before .before .before .before .before .before .before .before .before .component .ensures .0 ∙ rw (c .before .before .before .before .before .before .before .before .before .before .before .before .before .before .coded-y .ensures);
+      u-drawn = c .before .before .before .before .before .before .before .component2 .ensures .0 ∙ rw (c .before .before .before .before .before .before .before .before .before .coded-u .ensures, first-end (c .before .before .before .before .before .before .before .before .before .before .before .before));
+      v-drawn = c .before .before .component3 .ensures .0 ∙ rw (c .before .before .before .before .coded-v .ensures, second-end (c .before .before .before .before .before .before .before));
+      ends = c .before .before .component3 .ensures .1 ∙ rw (c .before .before .before .before .coded-v .ensures, second-end (c .before .before .before .before .before .before .before));
+    }
+
+pub leaf-planes-spec : {M : Type 1} → statement M
+leaf-planes-spec =
+    tie.close
+    (tie.spec (λ c κs. search needs) component-requires (λ c κs. search needs) component-requires-2 (λ c κs. search needs) component-requires-3
+    (λ c. search needs) (λ c. search needs) (λ c. search needs) returns)

@@ -1,0 +1,423 @@
+// The walk over a picture's leaves: how far it comes in the two lists, and, leaf by leaf, the three components and what the units are told.
+ghost use mathlib.Core.Path.{_≡_};
+ghost use mathlib.Core.Bool.{true};
+ghost use mathlib.Core.List.{[], _∷_};
+ghost use Prim.Native.Nat.{ℕ, _+_, _*_, _/_, _≤_, _<_};
+ghost use lib.ListN.{length};
+ghost use Rattle.laws.specs.Index.{pick, tabulate};
+ghost use Rattle.laws.specs.Plane.{withRow, withBlock};
+ghost use Rattle.def.specs.Blocks.{blockOk};
+ghost use Rattle.def.specs.Picture.{rootCount};
+ghost use Rattle.split.specs.Stored.{leavesFrom};
+ghost use Rattle.split.specs.Walk.{leaf};
+ghost use Rattle.driver_rules.specs.Asked.{GivenAsked, StateAsked, Reaches, Blocks, Sides, Accepted, Listed, Stepped};
+ghost use Rattle.driver_rules.specs.Call.{leavesOf};
+ghost use Rattle.driver_rules.specs.Records.{isMode, codedY, codedU, codedV, maskAt, residualCount, endV, first, past, passed};
+ghost use Rattle.driver_rules.specs.Steps.{steps};
+ghost use Rattle.driver.specs.Lends.{givenOf, placeOf, stateOf, Drawn, PlanesAsked, Told, Ended};
+use crate::component::Block;
+use crate::component::component;
+use def::Component;
+use def::Pel;
+use def::Scu;
+use def::pel2scu;
+use split::Walked;
+
+// How far the walk has come: the leaf's number, and its place in the residual list.
+pub(crate) struct Place {
+    pub(crate) at: usize,
+    pub(crate) k: usize,
+}
+
+// ---- a leaf record
+
+// The mask's bits: 1 Y, 2 U, 4 V.
+fn coded_y(mask: u8) -> bool
+    ensures { λ r. ⌜ r ≡ codedY mask ⌝ }
+{
+    mask / 1 % 2 == 1
+}
+
+fn coded_u(mask: u8) -> bool
+    ensures { λ r. ⌜ r ≡ codedU mask ⌝ }
+{
+    mask / 2 % 2 == 1
+}
+
+fn coded_v(mask: u8) -> bool
+    ensures { λ r. ⌜ r ≡ codedV mask ⌝ }
+{
+    mask / 4 % 2 == 1
+}
+
+// The mode byte of a kind: 255 for the lent prediction.
+fn mode_of(kind: u8) -> u8
+    ensures { λ r. ⌜ r ≡ pick (isMode kind) kind 255 ⌝ }
+{
+    if kind <= 4 {
+        return kind;
+    }
+    255
+}
+
+// The mask of leaf k, 0 where the list ends before it.
+fn mask_at(leaves: &[u8], k: usize) -> u8
+    requires { ⌜ k ≤ 1048576 ⌝ }
+    ensures { λ r. ⌜ r ≡ maskAt (now (leaves .entry)) k ⌝ }
+{
+    let i = 4 * k + 2;
+    if i < leaves.len() {
+        return leaves[i];
+    }
+    0
+}
+
+// ---- how far the walk comes
+
+// Residuals of a leaf in a component.
+fn residual_count(part: Component, coded: bool, side: usize) -> usize
+    requires { ⌜ side ≤ 64 ⌝ }
+    ensures { λ r. ⌜ (r ≡ residualCount part coded side) × (r ≤ 4096) ⌝ }
+{
+    let n = def::in_component(part, side);
+    if coded {
+        return n * n;
+    }
+    0
+}
+
+// Where those of a leaf end that start at `at`.
+fn leaf_end(at: usize, mask: u8, side: usize) -> usize
+    requires { ⌜ (side ≤ 64) × (at ≤ 1099511627776) ⌝ }
+    ensures { λ r. ⌜ (r ≡ endV at mask side) × (r ≤ at + 12288) ⌝ }
+{
+    let y = residual_count(Component::Luma, coded_y(mask), side);
+    let u = residual_count(Component::Chroma, coded_u(mask), side);
+    let v = residual_count(Component::Chroma, coded_v(mask), side);
+    at + y + u + v
+}
+
+// Past the first n leaves of a list.
+fn past_leaves(leaves: &[u8], list: &[u16], n: usize, from: Place) -> Place
+    requires { ⌜ Sides (now list) n × (from .k ≤ 1048320) × (from .at ≤ 12288 * from .k) ⌝ }
+    ensures { λ r. ⌜ (placeOf (r .at) (r .k) ≡ passed (now (leaves .entry)) (leavesFrom (now (list .entry)) n) (placeOf (from .at) (from .k))) × (r .k ≡ from .k + n) × (r .at ≤ 12288 * r .k) ⌝ }
+{
+    let k = from.k;
+    let mut at = from.at;
+    for j in 0..n {
+        let side = list[3 * j + 2] as usize;
+        at = leaf_end(at, mask_at(leaves, k + j), side);
+    }
+    Place { at, k: k + n }
+}
+
+// The leaves of root i into a list, and how many they are. The walk of the picture was checked, and is not refused here.
+fn root_leaves(w: usize, h: usize, splits: &[u8], i: usize, list: &mut [u16]) -> usize
+    requires { ⌜ Accepted w h (now splits) × (i < rootCount w h) × (length (now list) ≡ 768) ⌝ }
+    ensures { λ r. ⌜ Listed w h (now (splits .entry)) i (now (list .exit)) r ⌝ }
+{
+    let across = (w + 63) / 64;
+    let x = Pel(64 * (i % across));
+    let y = Pel(64 * (i / across));
+    match split::leaves(w, h, splits, x, y, list) {
+        Walked::Done(n) => n,
+        Walked::Refused(_) => 0,
+    }
+}
+
+// Past all leaves of a picture.
+pub(crate) fn past_picture(w: usize, h: usize, splits: &[u8], leaves: &[u8]) -> Place
+    requires { ⌜ Accepted w h (now splits) ⌝ }
+    ensures { λ r. ⌜ (placeOf (r .at) (r .k) ≡ passed (now (leaves .entry)) (leavesOf w h (now (splits .entry))) first) × (r .k ≤ 1048576) ⌝ }
+{
+    let roots = (w + 63) / 64 * ((h + 63) / 64);
+    let mut list = [0u16; 768];
+    let mut place = Place { at: 0, k: 0 };
+    for i in 0..roots {
+        let n = root_leaves(w, h, splits, i, &mut list);
+        place = past_leaves(leaves, &list, n, place);
+    }
+    place
+}
+
+// ---- the maps
+
+// n units from place `at` on are told.
+fn tell_row(map_scu: &mut [u32], modes: &mut [u8], at: usize, n: usize, word: u32, mode: u8)
+    requires { ⌜ (at + n ≤ length (now «map_scu»)) × (at + n ≤ length (now modes)) ⌝ }
+    ensures { λ _. ⌜ (now («map_scu» .exit) ≡ withRow 0 at n (λ (j : ℕ). word) (now («map_scu» .entry))) × (now (modes .exit) ≡ withRow 0 at n (λ (j : ℕ). mode) (now (modes .entry))) ⌝ }
+{
+    let mut j = 0;
+    while j < n {
+        map_scu[at + j] = word;
+        modes[at + j] = mode;
+        j += 1;
+    }
+}
+
+// The units of a block of n by n units, at column x, row y of maps of rows of `columns`.
+fn tell(
+    map_scu: &mut [u32],
+    modes: &mut [u8],
+    columns: usize,
+    x: Scu,
+    y: Scu,
+    n: usize,
+    word: u32,
+    mode: u8,
+)
+    requires { ⌜ Told columns (x .0) (y .0) n (now «map_scu») (now modes) ⌝ }
+    ensures { λ _. ⌜ (now («map_scu» .exit) ≡ withBlock 0 columns (x .0) (y .0) n n (λ (r c : ℕ). word) (now («map_scu» .entry))) × (now (modes .exit) ≡ withBlock 0 columns (x .0) (y .0) n n (λ (r c : ℕ). mode) (now (modes .entry))) ⌝ }
+{
+    let mut r = 0;
+    while r < n {
+        tell_row(
+            &mut *map_scu,
+            &mut *modes,
+            (y.0 + r) * columns + x.0,
+            n,
+            word,
+            mode,
+        );
+        r += 1;
+    }
+}
+
+// ---- a leaf
+
+// Its three components, by one kind. The answer is where its residuals end.
+fn leaf_planes(
+    w: usize,
+    h: usize,
+    constrained: bool,
+    x: Pel,
+    z: Pel,
+    side: usize,
+    kind: u8,
+    mask: u8,
+    pred_y: &[u16],
+    pred_u: &[u16],
+    pred_v: &[u16],
+    residual: &[i16],
+    at: usize,
+    map_scu: &[u32],
+    y: &mut [u16],
+    u: &mut [u16],
+    v: &mut [u16],
+) -> usize
+    requires { ⌜ PlanesAsked (givenOf w h constrained [] (now residual) (now «pred_y») (now «pred_u») (now «pred_v»)) (x .0) (z .0) side (now «map_scu») (now y) (now u) (now v) × (endV at mask side ≤ length (now residual)) ⌝ }
+    ensures { λ r. ⌜ Drawn (givenOf w h constrained [] (now (residual .entry)) (now («pred_y» .entry)) (now («pred_u» .entry)) (now («pred_v» .entry))) (x .0) (z .0) side kind mask at (now («map_scu» .entry))
+        (now (y .entry)) (now (u .entry)) (now (v .entry)) (now (y .exit)) (now (u .exit)) (now (v .exit)) r ⌝ }
+{
+    let luma = Block {
+        component: Component::Luma,
+        w,
+        h,
+        x,
+        y: z,
+        side,
+        constrained,
+    };
+    let chroma = Block {
+        component: Component::Chroma,
+        w,
+        h,
+        x,
+        y: z,
+        side,
+        constrained,
+    };
+    let a = component(luma, kind, coded_y(mask), pred_y, residual, at, map_scu, y);
+    let b = component(chroma, kind, coded_u(mask), pred_u, residual, a, map_scu, u);
+    component(chroma, kind, coded_v(mask), pred_v, residual, b, map_scu, v)
+}
+
+// Leaf k, of luma side `side` at (x, z): its components, and then its units.
+fn draw_leaf(
+    w: usize,
+    h: usize,
+    constrained: bool,
+    x: Pel,
+    z: Pel,
+    side: usize,
+    leaves: &[u8],
+    k: usize,
+    pred_y: &[u16],
+    pred_u: &[u16],
+    pred_v: &[u16],
+    residual: &[i16],
+    at: usize,
+    y: &mut [u16],
+    u: &mut [u16],
+    v: &mut [u16],
+    map_scu: &mut [u32],
+    modes: &mut [u8],
+) -> usize
+    requires { ⌜ GivenAsked (givenOf w h constrained (now leaves) (now residual) (now «pred_y») (now «pred_u») (now «pred_v»)) ⌝ }
+    requires { ⌜ StateAsked (givenOf w h constrained (now leaves) (now residual) (now «pred_y») (now «pred_u») (now «pred_v»)) (stateOf (now y) (now u) (now v) (now «map_scu») (now modes) at k) ⌝ }
+    requires { ⌜ (blockOk w h (x .0) (z .0) side ≡ true) × Reaches (now leaves) (length (now residual)) (past (now leaves) side (placeOf at k)) ⌝ }
+    ensures { λ r. ⌜ Stepped (givenOf w h constrained (now (leaves .entry)) (now (residual .entry)) (now («pred_y» .entry)) (now («pred_u» .entry)) (now («pred_v» .entry))) (leaf (x .0 / 4) (z .0 / 4) (side / 4) ∷ [])
+        (stateOf (now (y .entry)) (now (u .entry)) (now (v .entry)) (now («map_scu» .entry)) (now (modes .entry)) at k)
+        (stateOf (now (y .exit)) (now (u .exit)) (now (v .exit)) (now («map_scu» .exit)) (now (modes .exit)) r (k + 1)) ⌝ }
+{
+    let kind = leaves[4 * k];
+    let qp = leaves[4 * k + 1];
+    let mask = leaves[4 * k + 2];
+    let end = leaf_planes(
+        w,
+        h,
+        constrained,
+        x,
+        z,
+        side,
+        kind,
+        mask,
+        pred_y,
+        pred_u,
+        pred_v,
+        residual,
+        at,
+        &*map_scu,
+        y,
+        u,
+        v,
+    );
+    let word = def::leaf_word(kind <= 4, qp, coded_y(mask));
+    let mode = mode_of(kind);
+    tell(
+        map_scu,
+        modes,
+        w / 4,
+        pel2scu(x),
+        pel2scu(z),
+        side / 4,
+        word,
+        mode,
+    );
+    end
+}
+
+// ---- the leaves of a list
+
+// Its first n, leaf k first. The answer is where their residuals end.
+fn draw_leaves(
+    w: usize,
+    h: usize,
+    constrained: bool,
+    list: &[u16],
+    n: usize,
+    leaves: &[u8],
+    k: usize,
+    pred_y: &[u16],
+    pred_u: &[u16],
+    pred_v: &[u16],
+    residual: &[i16],
+    at: usize,
+    y: &mut [u16],
+    u: &mut [u16],
+    v: &mut [u16],
+    map_scu: &mut [u32],
+    modes: &mut [u8],
+) -> usize
+    requires { ⌜ GivenAsked (givenOf w h constrained (now leaves) (now residual) (now «pred_y») (now «pred_u») (now «pred_v»)) ⌝ }
+    requires { ⌜ StateAsked (givenOf w h constrained (now leaves) (now residual) (now «pred_y») (now «pred_u») (now «pred_v»)) (stateOf (now y) (now u) (now v) (now «map_scu») (now modes) at k) ⌝ }
+    requires { ⌜ Blocks w h (now list) n × Reaches (now leaves) (length (now residual)) (passed (now leaves) (leavesFrom (now list) n) (placeOf at k)) ⌝ }
+    ensures { λ r. ⌜ Stepped (givenOf w h constrained (now (leaves .entry)) (now (residual .entry)) (now («pred_y» .entry)) (now («pred_u» .entry)) (now («pred_v» .entry))) (leavesFrom (now (list .entry)) n)
+        (stateOf (now (y .entry)) (now (u .entry)) (now (v .entry)) (now («map_scu» .entry)) (now (modes .entry)) at k)
+        (stateOf (now (y .exit)) (now (u .exit)) (now (v .exit)) (now («map_scu» .exit)) (now (modes .exit)) r (k + n)) ⌝ }
+{
+    let mut end = at;
+    for j in 0..n {
+        let x = list[3 * j] as usize;
+        let z = list[3 * j + 1] as usize;
+        let side = list[3 * j + 2] as usize;
+        end = draw_leaf(
+            w,
+            h,
+            constrained,
+            Pel(x),
+            Pel(z),
+            side,
+            leaves,
+            k + j,
+            pred_y,
+            pred_u,
+            pred_v,
+            residual,
+            end,
+            &mut *y,
+            &mut *u,
+            &mut *v,
+            &mut *map_scu,
+            &mut *modes,
+        );
+    }
+    end
+}
+
+// ---- the picture
+
+// Map words start at 0.
+pub(crate) fn clear(map_scu: &mut [u32])
+    ensures { λ _. ⌜ now («map_scu» .exit) ≡ tabulate (length (now («map_scu» .entry))) (λ (k : ℕ). 0) ⌝ }
+{
+    let mut i = 0;
+    while i < map_scu.len() {
+        map_scu[i] = 0;
+        i += 1;
+    }
+}
+
+// All leaves, root after root in raster order.
+pub(crate) fn draw_picture(
+    w: usize,
+    h: usize,
+    constrained: bool,
+    splits: &[u8],
+    leaves: &[u8],
+    pred_y: &[u16],
+    pred_u: &[u16],
+    pred_v: &[u16],
+    residual: &[i16],
+    y: &mut [u16],
+    u: &mut [u16],
+    v: &mut [u16],
+    map_scu: &mut [u32],
+    modes: &mut [u8],
+)
+    requires { ⌜ GivenAsked (givenOf w h constrained (now leaves) (now residual) (now «pred_y») (now «pred_u») (now «pred_v»)) ⌝ }
+    requires { ⌜ StateAsked (givenOf w h constrained (now leaves) (now residual) (now «pred_y») (now «pred_u») (now «pred_v»)) (stateOf (now y) (now u) (now v) (now «map_scu») (now modes) 0 0) ⌝ }
+    requires { ⌜ Accepted w h (now splits) × Reaches (now leaves) (length (now residual)) (passed (now leaves) (leavesOf w h (now splits)) first) ⌝ }
+    ensures { λ _. ⌜ Ended
+        (steps (givenOf w h constrained (now (leaves .entry)) (now (residual .entry)) (now («pred_y» .entry)) (now («pred_u» .entry)) (now («pred_v» .entry))) (leavesOf w h (now (splits .entry)))
+        (stateOf (now (y .entry)) (now (u .entry)) (now (v .entry)) (now («map_scu» .entry)) (now (modes .entry)) 0 0))
+        (now (y .exit)) (now (u .exit)) (now (v .exit)) (now («map_scu» .exit)) (now (modes .exit)) ⌝ }
+{
+    let roots = (w + 63) / 64 * ((h + 63) / 64);
+    let mut list = [0u16; 768];
+    let mut at = 0;
+    let mut k = 0;
+    for i in 0..roots {
+        let n = root_leaves(w, h, splits, i, &mut list);
+        at = draw_leaves(
+            w,
+            h,
+            constrained,
+            &list,
+            n,
+            leaves,
+            k,
+            pred_y,
+            pred_u,
+            pred_v,
+            residual,
+            at,
+            &mut *y,
+            &mut *u,
+            &mut *v,
+            &mut *map_scu,
+            &mut *modes,
+        );
+        k += n;
+    }
+}

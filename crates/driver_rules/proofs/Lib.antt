@@ -1,0 +1,9 @@
+pub mod Calls
+pub mod Checks
+pub mod Components
+pub mod Finished
+pub mod Lists
+pub mod Places
+pub mod Small
+pub mod States
+pub mod Walked

@@ -1,0 +1,5 @@
+pub mod Asked
+pub mod Call
+pub mod Finished
+pub mod Records
+pub mod Steps
