@@ -16,6 +16,7 @@ use Rattle.laws.proofs.Calls.{one-outcome}
 use Rattle.laws.specs.Bits.{fieldOf}
 use Rattle.laws.specs.Call.{allOf}
 use Rattle.laws.specs.Clip.{maxZ, minZ, clipZ}
+use Rattle.laws.specs.Orders.{run}
 use Rattle.laws.specs.Scan.{allBelow}
 use Rattle.def.specs.Answers.{answerNumber}
 use Rattle.def.specs.Blocks.{blockSideOk, componentSideOk, blockOk, unitOk}
@@ -23,7 +24,8 @@ use Rattle.def.specs.Components.{scaleOf, planeLength}
 use Rattle.def.specs.Picture.{sizeOk, unitCount, rootCount}
 use Rattle.def.specs.Refusals.{numberOf}
 use Rattle.def.specs.Word.{flagAt}
-use Rattle.def.specs.declared.Refusal.the-variants.{Size, Length, Setting, Split, Leaf, Qp, Sample, Block, Mode, Points as BadPoints, Pivot, Sheet}
+use Rattle.def.specs.declared.Refusal.{Refusal}
+use Rattle.def.specs.declared.Refusal.the-variants.{Size, Length, Setting, Split, Leaf, Qp, Sample, Block, Mode, Points as BadPoints, Pivot, Sheet, Record}
 use Rattle.def.specs.declared.Component.the-variants.{Luma}
 use Rattle.def.proofs.Answers.{answer-apart}
 use Rattle.samples.specs.Samples.{samplesOk}
@@ -39,9 +41,12 @@ use Rattle.nbr.specs.Ranks as ranks
 use Rattle.ipred.specs.Predict as predict
 use Rattle.recon.specs.Plane as plane
 use Rattle.recon.specs.Recon as recon
+use Rattle.driver_rules.specs.Call as driver
+use Rattle.driver_rules.specs.Records.{bytesOk, first, passed}
 use Rattle.split.specs.CheckCall as check
 use Rattle.split.specs.LeavesCall as leaves
 use Rattle.split.specs.ListCall as list
+use Rattle.split.specs.Picture.{leavesOf}
 use Rattle.split.specs.RankCall as rank
 use Rattle.split.specs.Ranks.{rank as visitingRank}
 use Rattle.split.specs.Walk.{onward, inTurn, leafWalk, byByte, walk}
@@ -81,6 +86,8 @@ use Rattle.decoder.proofs.recon.Kinds as recon-kinds
 use Rattle.decoder.proofs.recon.Reads as recon-reads
 use Rattle.decoder.proofs.recon_plane.Kinds as recon-plane-kinds
 use Rattle.decoder.proofs.recon_plane.Reads as recon-plane-reads
+use Rattle.decoder.proofs.reconstruct.Kinds as reconstruct-kinds
+use Rattle.decoder.proofs.reconstruct.Reads as reconstruct-reads
 use Rattle.decoder.proofs.leaves.Kinds as leaves-kinds
 use Rattle.decoder.proofs.leaves.Reads as leaves-reads
 use Rattle.decoder.proofs.check.Kinds as check-kinds
@@ -445,6 +452,61 @@ list-edges-refusals =
       given = refl;
     }
 
+-- ---- the driver
+
+-- the three planes, the words and the modes
+pub reconstruct-once : Sole 11 reconstruct-kinds.ps reconstruct-kinds.r reconstruct-reads.Post
+    (λ κs r x. let t = x .1 .1 .1 .1 .1 .1 .1 .1 .1 in ended r (now (t .0) ∷ now (t .1 .0) ∷ now (t .1 .1 .0) ∷ now (t .1 .1 .1 .0) ∷ now (t .1 .1 .1 .1 .0) ∷ []))
+reconstruct-once κs a r r′ x x′ p q =
+    let e = one-outcome driver.outcome _ _ _ p q in
+    ap₂ ended (answer-apart r r′ (ap (λ (o : driver.Outcome). o .number) e)) (ap (λ (o : driver.Outcome). o .y ∷ o .u ∷ o .v ∷ o .words ∷ o .modes ∷ []) e)
+
+-- a picture of one unit, w wide: its split bytes, the word to be written, its leaf's record, and the number that every sample of the lent luma prediction is
+abbrev driven : ℕ → List ℕ → List ℕ → List ℕ → ℕ → driver.Input
+driven w splits words leaves sample =
+    record {
+      given = record { w = w; h = 4; constrained = false; leaves = leaves; residual = []; pred-y = replicate 16 sample; pred-u = replicate 4 0; pred-v = replicate 4 0 };
+      splits = splits;
+      y = replicate 16 0;
+      u = replicate 4 0;
+      v = replicate 4 0;
+      words = words;
+      modes = 0 ∷ [];
+    }
+
+abbrev by-driver : List Refusal
+by-driver = Size ∷ Length ∷ Length ∷ Split ∷ Leaf ∷ Record ∷ Mode ∷ Qp ∷ Sample ∷ []
+
+pub reconstruct-refusals : Refuses driver.outcome (λ o. o .number) by-driver
+unfolding driver.outcome driver.checkOf driver.readOk driver.writtenOk driver.dataCheck driver.recordsOk driver.lentOk bytesOk sizeOk leavesOf walk byByte inTurn onward leafWalk run samplesOk allBelow flagAt fieldOf
+reconstruct-refusals =
+    record {
+      only = λ i.
+          let g = i .given in
+          let l = driver.leavesOf (g .w) (g .h) (i .splits) in
+          by-checks (λ o. o .number) (driver.refused i) (driver.done i) by-driver (driver.check i) (λ r. refl) refl
+          (rung (sizeOk (g .w) (g .h)) Size _
+          (rung (driver.readOk (g .w) (g .h) (length (i .splits)) (length (g .pred-y)) (length (g .pred-u)) (length (g .pred-v))) Length _
+          (rung (driver.writtenOk (g .w) (g .h) (length (i .y)) (length (i .u)) (length (i .v)) (length (i .words)) (length (i .modes))) Length _
+          (walk-rung (Record ∷ Mode ∷ Qp ∷ Sample ∷ []) _ _ (picture-stops (i .splits) (g .w / 4) (g .h / 4))
+          (rung (driver.recordsOk (g .leaves) (length (g .residual)) (passed (g .leaves) l first .at) (length l)) Record _
+          (rung (bytesOk (g .leaves) (length l) 0 5) Mode _
+          (rung (bytesOk (g .leaves) (length l) 1 51) Qp _
+          (rung (driver.lentOk (g .pred-y) (g .pred-u) (g .pred-v)) Sample _ last))))))));
+      shown =
+          driven 0 [] [] [] 1024
+          ∷ driven 4 [] [] [] 1024
+          ∷ driven 4 (root 2) [] [] 1024
+          ∷ driven 4 (root 2) (0 ∷ []) [] 1024
+          ∷ driven 4 (root 0) (0 ∷ []) [] 1024
+          ∷ driven 4 (root 1) (0 ∷ []) [] 1024
+          ∷ driven 4 (root 1) (0 ∷ []) (6 ∷ 52 ∷ 0 ∷ 0 ∷ []) 1024
+          ∷ driven 4 (root 1) (0 ∷ []) (5 ∷ 52 ∷ 0 ∷ 0 ∷ []) 1024
+          ∷ driven 4 (root 1) (0 ∷ []) (5 ∷ 51 ∷ 0 ∷ 0 ∷ []) 1024
+          ∷ [];
+      given = refl;
+    }
+
 -- ---- deblocking
 
 pub deblock-once : Sole 10 deblock-kinds.ps deblock-kinds.r deblock-reads.Post (λ κs r x. ended r (now (x .1 .1 .0) ∷ now (x .1 .1 .1 .0) ∷ now (x .1 .1 .1 .1 .0) ∷ now (x .1 .1 .1 .1 .1 .0) ∷ []))
@@ -455,7 +517,7 @@ deblock-once κs a r r′ x x′ p q =
 pub checked-once : Sole 7 checked-kinds.ps checked-kinds.r checked-reads.Post (λ κs r x. r)
 checked-once κs a r r′ x x′ p q = one-outcome checks.checkOf _ _ _ p q
 
--- a picture of one unit with its word and its luma samples, all one number; the split bytes are all one number too
+-- a picture of one unit, w wide: its split bytes, the transform limit, its word, and the number that every luma sample is
 abbrev filtering : ℕ → List ℕ → ℕ → ℕ → ℕ → deblock.Input
 filtering w splits limit word sample =
     record {
@@ -486,7 +548,10 @@ filterings =
     ∷ filtering 4 (root 1) 5 0 1024
     ∷ []
 
-checks-stop : (i : checks.Input) → Stops (Size ∷ Length ∷ Setting ∷ Split ∷ Leaf ∷ Qp ∷ Sample ∷ []) (checks.checkOf i)
+abbrev by-deblocking : List Refusal
+by-deblocking = Size ∷ Length ∷ Setting ∷ Split ∷ Leaf ∷ Qp ∷ Sample ∷ []
+
+checks-stop : (i : checks.Input) → Stops by-deblocking (checks.checkOf i)
 unfolding checks.checkOf
 checks-stop i =
     rung (sizeOk (i .w) (i .h)) Size _
@@ -496,16 +561,16 @@ checks-stop i =
     (rung (checks.qpsOk (i .settings) (i .table0) (i .table1) (i .words)) Qp _
     (rung (checks.planesOk (i .y) (i .u) (i .v)) Sample _ last)))))
 
-pub deblock-refusals : Refuses deblock.outcome (λ o. o .reading .number) (Size ∷ Length ∷ Setting ∷ Split ∷ Leaf ∷ Qp ∷ Sample ∷ [])
+pub deblock-refusals : Refuses deblock.outcome (λ o. o .reading .number) by-deblocking
 unfolding deblock.outcome checks.checkOf checks.lengthsOk checks.settingsOk checks.offsetOk checks.qpsOk checks.qpOk checks.planesOk list.limitOk sizeOk walk byByte inTurn onward leafWalk samplesOk allBelow fieldOf mappedZ indexOf clipZ maxZ minZ
 deblock-refusals =
     record {
-      only = λ i. by-checks (λ o. o .reading .number) (deblock.refused i) (deblock.done i) (Size ∷ Length ∷ Setting ∷ Split ∷ Leaf ∷ Qp ∷ Sample ∷ []) (deblock.check i) (λ r. refl) refl (checks-stop (deblock.checked i));
+      only = λ i. by-checks (λ o. o .reading .number) (deblock.refused i) (deblock.done i) by-deblocking (deblock.check i) (λ r. refl) refl (checks-stop (deblock.checked i));
       shown = filterings;
       given = refl;
     }
 
-pub checked-refusals : Refuses checks.checkOf answerNumber (Size ∷ Length ∷ Setting ∷ Split ∷ Leaf ∷ Qp ∷ Sample ∷ [])
+pub checked-refusals : Refuses checks.checkOf answerNumber by-deblocking
 unfolding checks.checkOf checks.lengthsOk checks.settingsOk checks.offsetOk checks.qpsOk checks.qpOk checks.planesOk list.limitOk sizeOk walk byByte inTurn onward leafWalk samplesOk allBelow fieldOf mappedZ indexOf clipZ maxZ minZ
 checked-refusals = record { only = λ i. checks-stop i .by; shown = map deblock.checked filterings; given = refl }
 

@@ -7,6 +7,7 @@
 //     4 gathering       get_nbr
 //     5 five modes      ipred_b
 //     6 residual        recon, recon_plane
+//     7 driver          reconstruct
 //     8 walk            leaves, check, visiting_rank, list_edges
 //       deblocking      deblock; checked, entries, mask_of, line, lanes, motion_row
 //     the sheet         read, listing
@@ -42,6 +43,7 @@ pub use df_check::Settings;
 pub use df_check::VEdge;
 pub use df_check::checked;
 pub use df_check::entries;
+pub use driver::reconstruct;
 pub use edges::list_edges;
 pub use ipred::ipred_b;
 pub use lanes::lanes;
