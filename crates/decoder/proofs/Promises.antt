@@ -1,13 +1,13 @@
 -- Every public call in one place.
 --     NAME-once        over the contract as the checker reads it from the source: the arguments determine the answer and every slice that the call may write
 --     NAME-refusals    the refusals that the call gives, in the order of its ladder, each with an input that meets it; of a call that gives none, nothing
--- The answer is determined, and not its reading alone, because each reading tells all answers apart: `answer-apart` (def), `reading-apart` (avail, sheet),
--- `leaves-apart`, `rank-apart`, `list-apart` (split), and `number-apart` (def) of the refusals.
+-- The answer is determined, and not its reading alone, because each reading tells all answers apart: `answer-apart` (def), `reading-apart` (avail, df,
+-- sheet_lines, sheet), `leaves-apart`, `rank-apart`, `list-apart` (split), and `number-apart` (def) of the refusals.
 -- Assumes nothing.
 use Prim.Native.Nat.{ℕ, _*_, _/_}
 use mathlib.Core.Path.{refl, sym, ap, ap₂, _∙_}
 use mathlib.Core.Bool.{true, false, _||_}
-use mathlib.Core.List.{List, [], _∷_, _++_}
+use mathlib.Core.List.{List, [], _∷_, _++_, map}
 use denote.Ref.{now, ptr}
 use lib.Dec.{ltb, eqb}
 use lib.IntN.{ℤ, pos}
@@ -15,13 +15,17 @@ use lib.ListN.{length, replicate}
 use Rattle.laws.proofs.Calls.{one-outcome}
 use Rattle.laws.specs.Bits.{fieldOf}
 use Rattle.laws.specs.Call.{allOf}
+use Rattle.laws.specs.Clip.{maxZ, minZ, clipZ}
+use Rattle.laws.specs.Orders.{run}
 use Rattle.laws.specs.Scan.{allBelow}
+use Rattle.def.specs.Answers.{answerNumber}
 use Rattle.def.specs.Blocks.{blockSideOk, componentSideOk, blockOk, unitOk}
 use Rattle.def.specs.Components.{scaleOf, planeLength}
 use Rattle.def.specs.Picture.{sizeOk, unitCount, rootCount}
 use Rattle.def.specs.Refusals.{numberOf}
 use Rattle.def.specs.Word.{flagAt}
-use Rattle.def.specs.declared.Refusal.the-variants.{Size, Length, Setting, Split, Leaf, Sample, Block, Mode, Points as BadPoints, Pivot, Sheet}
+use Rattle.def.specs.declared.Refusal.{Refusal}
+use Rattle.def.specs.declared.Refusal.the-variants.{Size, Length, Setting, Split, Leaf, Qp, Sample, Block, Mode, Points as BadPoints, Pivot, Sheet, Record}
 use Rattle.def.specs.declared.Component.the-variants.{Luma}
 use Rattle.def.proofs.Answers.{answer-apart}
 use Rattle.samples.specs.Samples.{samplesOk}
@@ -37,23 +41,33 @@ use Rattle.nbr.specs.Ranks as ranks
 use Rattle.ipred.specs.Predict as predict
 use Rattle.recon.specs.Plane as plane
 use Rattle.recon.specs.Recon as recon
+use Rattle.driver_rules.specs.Call as driver
+use Rattle.driver_rules.specs.Records.{bytesOk, first, passed}
 use Rattle.split.specs.CheckCall as check
 use Rattle.split.specs.LeavesCall as leaves
 use Rattle.split.specs.ListCall as list
+use Rattle.split.specs.Picture.{leavesOf}
 use Rattle.split.specs.RankCall as rank
 use Rattle.split.specs.Ranks.{rank as visitingRank}
 use Rattle.split.specs.Walk.{onward, inTurn, leafWalk, byByte, walk}
 use Rattle.split.specs.declared.Rank.the-variants.{Done as Ranked, Refused as NotRanked}
 use Rattle.split.proofs.Apart.{leaves-apart, rank-apart, list-apart}
+use Rattle.df_check.specs.Checks as checks
+use Rattle.df_check.specs.ChromaQp.{indexOf, mappedZ}
+use Rattle.df_check.specs.declared.VEdge.the-variants.{Source}
+use Rattle.df.specs.Deblock as deblock
+use Rattle.df.proofs.Once.{reading-apart as deblocked-apart}
 use Rattle.sheet_lines.specs.Lines.{startOf, lineOf, startsWith, isNumber, numberLine, edgeLine, sameLine, splitsLine, numberAfter, valueFrom, lineOk, firstBad, widthOf, heightOf, limitOf, digitsOf}
+use Rattle.sheet_lines.specs.ReadCall as sheet
 use Rattle.sheet_lines.specs.Words.{widthKey, heightKey, limitKey, ownEdge, splitsKey}
+use Rattle.sheet_lines.proofs.Answers.{reading-apart as sheet-apart}
 use Rattle.sheet.specs.Descent.{descents, descend}
 use Rattle.sheet.specs.Listing as listing
 use Rattle.sheet.specs.Text.{sidesOk, foundBy, foundOf, foundIn}
 use Rattle.sheet.specs.Words.{newline}
 use Rattle.sheet.proofs.Outcomes.{reading-apart as printed-apart}
 use Rattle.decoder.specs.Promise.{ended, Sole, Refuses, refusalIn}
-use Rattle.decoder.proofs.Refusing.{last, rung, by-checks, root-stops, picture-stops, sheet-rung, digits-said}
+use Rattle.decoder.proofs.Refusing.{Stops, last, rung, walk-rung, by-checks, root-stops, picture-stops, line-said, sheet-rung, digits-said}
 use Rattle.decoder.proofs.derived_chroma_qp_mapping_tables.Kinds as tables-kinds
 use Rattle.decoder.proofs.derived_chroma_qp_mapping_tables.Reads as tables-reads
 use Rattle.decoder.proofs.get_avail_intra.Kinds as get-avail-intra-kinds
@@ -72,6 +86,8 @@ use Rattle.decoder.proofs.recon.Kinds as recon-kinds
 use Rattle.decoder.proofs.recon.Reads as recon-reads
 use Rattle.decoder.proofs.recon_plane.Kinds as recon-plane-kinds
 use Rattle.decoder.proofs.recon_plane.Reads as recon-plane-reads
+use Rattle.decoder.proofs.reconstruct.Kinds as reconstruct-kinds
+use Rattle.decoder.proofs.reconstruct.Reads as reconstruct-reads
 use Rattle.decoder.proofs.leaves.Kinds as leaves-kinds
 use Rattle.decoder.proofs.leaves.Reads as leaves-reads
 use Rattle.decoder.proofs.check.Kinds as check-kinds
@@ -80,6 +96,12 @@ use Rattle.decoder.proofs.visiting_rank.Kinds as visiting-rank-kinds
 use Rattle.decoder.proofs.visiting_rank.Reads as visiting-rank-reads
 use Rattle.decoder.proofs.list_edges.Kinds as list-edges-kinds
 use Rattle.decoder.proofs.list_edges.Reads as list-edges-reads
+use Rattle.decoder.proofs.deblock.Kinds as deblock-kinds
+use Rattle.decoder.proofs.deblock.Reads as deblock-reads
+use Rattle.decoder.proofs.checked.Kinds as checked-kinds
+use Rattle.decoder.proofs.checked.Reads as checked-reads
+use Rattle.decoder.proofs.read.Kinds as read-kinds
+use Rattle.decoder.proofs.read.Reads as read-reads
 use Rattle.decoder.proofs.listing.Kinds as listing-kinds
 use Rattle.decoder.proofs.listing.Reads as listing-reads
 use Rattle.decoder.proofs.pel2scu.Kinds as pel2scu-kinds
@@ -120,6 +142,10 @@ use Rattle.decoder.proofs.mask_of.Kinds as mask-of-kinds
 use Rattle.decoder.proofs.mask_of.Reads as mask-of-reads
 use Rattle.decoder.proofs.line.Kinds as line-kinds
 use Rattle.decoder.proofs.line.Reads as line-reads
+use Rattle.decoder.proofs.entries.Kinds as entries-kinds
+use Rattle.decoder.proofs.entries.Reads as entries-reads
+use Rattle.decoder.proofs.lanes.Kinds as lanes-kinds
+use Rattle.decoder.proofs.lanes.Reads as lanes-reads
 use Rattle.decoder.proofs.motion_row.Kinds as motion-row-kinds
 use Rattle.decoder.proofs.motion_row.Reads as motion-row-reads
 
@@ -130,12 +156,12 @@ derived-chroma-qp-mapping-tables-once κs a r r′ x x′ p q =
     let e = one-outcome derived.outcome _ _ _ p q in
     ap₂ ended (answer-apart r r′ (ap (λ (o : derived.Outcome). o .number) e)) (ap (λ (o : derived.Outcome). o .t0 ∷ o .t1 ∷ []) e)
 
--- 58 points that have one a, of which some count; two tables; and a call with them
+-- 58 points that have one a, of which some count; a table; and a call with them
 abbrev points : ℕ → ℤ → Points
 points n a = record { count = n; a = replicate 58 a; b = replicate 58 (pos 0) }
 
-abbrev entries : List ℤ
-entries = replicate 70 (pos 0)
+abbrev chroma-table : List ℤ
+chroma-table = replicate 70 (pos 0)
 
 abbrev pointed : List ℤ → Points → Points → derived.Input
 pointed t p q = record { global-offset = false; same-table = false; first = p; second = q; t0 = t; t1 = t }
@@ -153,10 +179,10 @@ derived-chroma-qp-mapping-tables-refusals =
           (rung (i .same-table || derived.pivotsOk (derived.inputStart i) (i .second)) Pivot _ last)))));
       shown =
           pointed [] (points 1 (pos 0)) (points 1 (pos 0))
-          ∷ pointed entries (points 0 (pos 0)) (points 1 (pos 0))
-          ∷ pointed entries (points 1 (pos 0)) (points 0 (pos 0))
-          ∷ pointed entries (points 1 (pos 70)) (points 1 (pos 0))
-          ∷ pointed entries (points 1 (pos 0)) (points 1 (pos 70))
+          ∷ pointed chroma-table (points 0 (pos 0)) (points 1 (pos 0))
+          ∷ pointed chroma-table (points 1 (pos 0)) (points 0 (pos 0))
+          ∷ pointed chroma-table (points 1 (pos 70)) (points 1 (pos 0))
+          ∷ pointed chroma-table (points 1 (pos 0)) (points 1 (pos 70))
           ∷ [];
       given = refl;
     }
@@ -426,7 +452,136 @@ list-edges-refusals =
       given = refl;
     }
 
+-- ---- the driver
+
+-- the three planes, the words and the modes
+pub reconstruct-once : Sole 11 reconstruct-kinds.ps reconstruct-kinds.r reconstruct-reads.Post
+    (λ κs r x. let t = x .1 .1 .1 .1 .1 .1 .1 .1 .1 in ended r (now (t .0) ∷ now (t .1 .0) ∷ now (t .1 .1 .0) ∷ now (t .1 .1 .1 .0) ∷ now (t .1 .1 .1 .1 .0) ∷ []))
+reconstruct-once κs a r r′ x x′ p q =
+    let e = one-outcome driver.outcome _ _ _ p q in
+    ap₂ ended (answer-apart r r′ (ap (λ (o : driver.Outcome). o .number) e)) (ap (λ (o : driver.Outcome). o .y ∷ o .u ∷ o .v ∷ o .words ∷ o .modes ∷ []) e)
+
+-- a picture of one unit, w wide: its split bytes, the word to be written, its leaf's record, and the number that every sample of the lent luma prediction is
+abbrev driven : ℕ → List ℕ → List ℕ → List ℕ → ℕ → driver.Input
+driven w splits words leaves sample =
+    record {
+      given = record { w = w; h = 4; constrained = false; leaves = leaves; residual = []; pred-y = replicate 16 sample; pred-u = replicate 4 0; pred-v = replicate 4 0 };
+      splits = splits;
+      y = replicate 16 0;
+      u = replicate 4 0;
+      v = replicate 4 0;
+      words = words;
+      modes = 0 ∷ [];
+    }
+
+abbrev by-driver : List Refusal
+by-driver = Size ∷ Length ∷ Length ∷ Split ∷ Leaf ∷ Record ∷ Mode ∷ Qp ∷ Sample ∷ []
+
+pub reconstruct-refusals : Refuses driver.outcome (λ o. o .number) by-driver
+unfolding driver.outcome driver.checkOf driver.readOk driver.writtenOk driver.dataCheck driver.recordsOk driver.lentOk bytesOk sizeOk leavesOf walk byByte inTurn onward leafWalk run samplesOk allBelow flagAt fieldOf
+reconstruct-refusals =
+    record {
+      only = λ i.
+          let g = i .given in
+          let l = driver.leavesOf (g .w) (g .h) (i .splits) in
+          by-checks (λ o. o .number) (driver.refused i) (driver.done i) by-driver (driver.check i) (λ r. refl) refl
+          (rung (sizeOk (g .w) (g .h)) Size _
+          (rung (driver.readOk (g .w) (g .h) (length (i .splits)) (length (g .pred-y)) (length (g .pred-u)) (length (g .pred-v))) Length _
+          (rung (driver.writtenOk (g .w) (g .h) (length (i .y)) (length (i .u)) (length (i .v)) (length (i .words)) (length (i .modes))) Length _
+          (walk-rung (Record ∷ Mode ∷ Qp ∷ Sample ∷ []) _ _ (picture-stops (i .splits) (g .w / 4) (g .h / 4))
+          (rung (driver.recordsOk (g .leaves) (length (g .residual)) (passed (g .leaves) l first .at) (length l)) Record _
+          (rung (bytesOk (g .leaves) (length l) 0 5) Mode _
+          (rung (bytesOk (g .leaves) (length l) 1 51) Qp _
+          (rung (driver.lentOk (g .pred-y) (g .pred-u) (g .pred-v)) Sample _ last))))))));
+      shown =
+          driven 0 [] [] [] 1024
+          ∷ driven 4 [] [] [] 1024
+          ∷ driven 4 (root 2) [] [] 1024
+          ∷ driven 4 (root 2) (0 ∷ []) [] 1024
+          ∷ driven 4 (root 0) (0 ∷ []) [] 1024
+          ∷ driven 4 (root 1) (0 ∷ []) [] 1024
+          ∷ driven 4 (root 1) (0 ∷ []) (6 ∷ 52 ∷ 0 ∷ 0 ∷ []) 1024
+          ∷ driven 4 (root 1) (0 ∷ []) (5 ∷ 52 ∷ 0 ∷ 0 ∷ []) 1024
+          ∷ driven 4 (root 1) (0 ∷ []) (5 ∷ 51 ∷ 0 ∷ 0 ∷ []) 1024
+          ∷ [];
+      given = refl;
+    }
+
+-- ---- deblocking
+
+pub deblock-once : Sole 10 deblock-kinds.ps deblock-kinds.r deblock-reads.Post (λ κs r x. ended r (now (x .1 .1 .0) ∷ now (x .1 .1 .1 .0) ∷ now (x .1 .1 .1 .1 .0) ∷ now (x .1 .1 .1 .1 .1 .0) ∷ []))
+deblock-once κs a r r′ x x′ p q =
+    let e = one-outcome deblock.outcome _ _ _ p q in
+    ap₂ ended (deblocked-apart r r′ (ap (λ (o : deblock.Outcome). o .reading) e)) (ap (λ (o : deblock.Outcome). o .y ∷ o .u ∷ o .v ∷ o .words ∷ []) e)
+
+pub checked-once : Sole 7 checked-kinds.ps checked-kinds.r checked-reads.Post (λ κs r x. r)
+checked-once κs a r r′ x x′ p q = one-outcome checks.checkOf _ _ _ p q
+
+-- a picture of one unit, w wide: its split bytes, the transform limit, its word, and the number that every luma sample is
+abbrev filtering : ℕ → List ℕ → ℕ → ℕ → ℕ → deblock.Input
+filtering w splits limit word sample =
+    record {
+      w = w;
+      h = 4;
+      y = replicate 16 sample;
+      u = replicate 4 0;
+      v = replicate 4 0;
+      words = word ∷ [];
+      splits = splits;
+      motion = replicate 4 (pos 0);
+      refs = replicate 2 (pos 0);
+      table0 = chroma-table;
+      table1 = chroma-table;
+      strengths = replicate 208 0;
+      settings = record { limit = limit; «v_edge» = Source; «u_offset» = pos 0; «v_offset» = pos 0 };
+    }
+
+-- an input for each rung. 3407872 is a word of QP 52
+abbrev filterings : List deblock.Input
+filterings =
+    filtering 0 [] 5 0 0
+    ∷ filtering 4 [] 5 0 0
+    ∷ filtering 4 (root 2) 7 0 0
+    ∷ filtering 4 (root 2) 5 3407872 1024
+    ∷ filtering 4 (root 0) 5 3407872 1024
+    ∷ filtering 4 (root 1) 5 3407872 1024
+    ∷ filtering 4 (root 1) 5 0 1024
+    ∷ []
+
+abbrev by-deblocking : List Refusal
+by-deblocking = Size ∷ Length ∷ Setting ∷ Split ∷ Leaf ∷ Qp ∷ Sample ∷ []
+
+checks-stop : (i : checks.Input) → Stops by-deblocking (checks.checkOf i)
+unfolding checks.checkOf
+checks-stop i =
+    rung (sizeOk (i .w) (i .h)) Size _
+    (rung (checks.lengthsOk (i .w) (i .h) (checks.lengthsOf i)) Length _
+    (rung (checks.settingsOk (i .settings)) Setting _
+    (walk-rung (Qp ∷ Sample ∷ []) _ _ (picture-stops (i .splits) (i .w / 4) (i .h / 4))
+    (rung (checks.qpsOk (i .settings) (i .table0) (i .table1) (i .words)) Qp _
+    (rung (checks.planesOk (i .y) (i .u) (i .v)) Sample _ last)))))
+
+pub deblock-refusals : Refuses deblock.outcome (λ o. o .reading .number) by-deblocking
+unfolding deblock.outcome checks.checkOf checks.lengthsOk checks.settingsOk checks.offsetOk checks.qpsOk checks.qpOk checks.planesOk list.limitOk sizeOk walk byByte inTurn onward leafWalk samplesOk allBelow fieldOf mappedZ indexOf clipZ maxZ minZ
+deblock-refusals =
+    record {
+      only = λ i. by-checks (λ o. o .reading .number) (deblock.refused i) (deblock.done i) by-deblocking (deblock.check i) (λ r. refl) refl (checks-stop (deblock.checked i));
+      shown = filterings;
+      given = refl;
+    }
+
+pub checked-refusals : Refuses checks.checkOf answerNumber by-deblocking
+unfolding checks.checkOf checks.lengthsOk checks.settingsOk checks.offsetOk checks.qpsOk checks.qpOk checks.planesOk list.limitOk sizeOk walk byByte inTurn onward leafWalk samplesOk allBelow fieldOf mappedZ indexOf clipZ maxZ minZ
+checked-refusals = record { only = λ i. checks-stop i .by; shown = map deblock.checked filterings; given = refl }
+
 -- ---- the sheet
+
+pub read-once : Sole 1 read-kinds.ps read-kinds.r read-reads.Post (λ κs r x. r)
+read-once κs a r r′ x x′ p q = sheet-apart r r′ (ap (λ (o : sheet.Outcome). o .reading) (one-outcome sheet.outcome _ _ _ p q))
+
+pub read-refusals : Refuses sheet.outcome (λ o. o .reading .number) (Sheet ∷ [])
+unfolding sheet.outcome sheet.readOf firstBad lineOk startOf lineOf numberLine startsWith
+read-refusals = record { only = λ i. line-said (eqb (firstBad (i .input)) 0) (firstBad (i .input)) (sheet.wholeSheet (i .input)) refl; shown = record { input = [] } ∷ []; given = refl }
 
 pub listing-once : Sole 2 listing-kinds.ps listing-kinds.r listing-reads.Post (λ κs r x. ended r (now (x .1 .0) ∷ []))
 listing-once κs a r r′ x x′ p q =
@@ -528,6 +683,12 @@ mask-of-once κs a r r′ x x′ p q = p ∙ sym q
 
 pub line-once : Sole 0 line-kinds.ps line-kinds.r line-reads.Post (λ κs r x. r)
 line-once κs a r r′ x x′ p q = p ∙ sym q
+
+pub lanes-once : Sole 0 lanes-kinds.ps lanes-kinds.r lanes-reads.Post (λ κs r x. r)
+lanes-once κs a r r′ x x′ p q = p ∙ sym q
+
+pub entries-once : Sole 3 entries-kinds.ps entries-kinds.r entries-reads.Post (λ κs r x. r)
+entries-once κs a r r′ x x′ p q = p ∙ sym q
 
 pub motion-row-once : Sole 0 motion-row-kinds.ps motion-row-kinds.r motion-row-reads.Post (λ κs r x. r)
 motion-row-once κs a r r′ x x′ p q = p .0 ∙ sym (q .0)

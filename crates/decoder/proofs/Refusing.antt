@@ -2,12 +2,14 @@
 --     last, rung, by-checks
 --     root-stops, picture-stops    a walk is refused for a split byte or a leaf
 --     sheet-stops    by the digits of a sheet, for the sheet or a leaf: 4 never comes from a sheet
+--     walk-rung    a walk among the rungs: its refusals, above those of what comes after it
+--     line-said    what is read from a sheet
 --     sheet-rung, digits-said    what is found in a sheet
 -- Assumes nothing.
 use Prim.Native.Nat.{ℕ, zero, suc, _+_, _-_, _^_}
 use mathlib.Core.Path.{_≡_, refl, sym, subst}
 use mathlib.Core.Bool.{Bool, true, false}
-use mathlib.Core.List.{List, [], _∷_}
+use mathlib.Core.List.{List, [], _∷_, _++_}
 use mathlib.Core.Logic.{_⊎_, inl, inr}
 use lib.Dec.{ltb, leb, eqb}
 use lib.ListN.{length, getD}
@@ -21,6 +23,9 @@ use Rattle.def.specs.declared.Answer.{Answer}
 use Rattle.def.specs.declared.Answer.the-variants.{Done, Refused}
 use Rattle.split.specs.Picture.{roots, rootWalk, pictureWalk}
 use Rattle.split.specs.Walk.{Leaf, Walk, met, nothing, onward, inTurn, leafWalk, byByte, place, walk}
+use Rattle.sheet_lines.specs.ReadCall.{readingOf}
+use Rattle.sheet_lines.specs.declared.Sheet as lines
+use Rattle.sheet_lines.specs.declared.Sheet.the-variants.{Malformed}
 use Rattle.sheet.specs.Descent.{Descent, descents, runOut, byDigit, descend, rootDescent, pictureDescent}
 use Rattle.sheet.specs.Text.{Found, refused, listed, foundBy}
 use Rattle.decoder.specs.Promise.{OneOf, refusalIn}
@@ -151,6 +156,16 @@ root-stops s w h i =
 pub picture-stops : (s : List ℕ) (w h : ℕ) → Stops byWalk (pictureWalk s w h .answer)
 picture-stops s w h = turns byWalk (rootWalk s w h) (λ i. record { by = root-stops s w h i }) (roots w h) .by
 
+-- a number of some refusals is one of more
+longer : (l rs : List Refusal) (n : ℕ) → OneOf l n → OneOf (l ++ rs) n
+longer [] rs n e = subst (OneOf rs) (sym e) (zeroth rs)
+longer (r ∷ l) rs n (inl e) = inl e
+longer (r ∷ l) rs n (inr p) = inr (longer l rs n p)
+
+pub walk-rung : (rs : List Refusal) (k a : Answer) → Stops byWalk a → Stops rs k → Stops (byWalk ++ rs) (afterChecks Refused k a)
+walk-rung rs k Done p q = record { by = inr (inr (q .by)) }
+walk-rung rs k (Refused r) p q = record { by = longer byWalk rs (numberOf r) (p .by) }
+
 -- digits that ran out, a leaf, digits that are left over
 abbrev bySheet : List Refusal
 bySheet = Sheet ∷ PastPicture ∷ Sheet ∷ []
@@ -160,6 +175,11 @@ sheet-stops w h ds =
     all-turns bySheet (rootDescent w h)
     (λ i m. descent-ends bySheet (record { by = record { by = record { by = inl refl } } }) (record { by = record { by = inr (inl refl) } }) w h 4 _ _ m)
     (roots w h) ds .by .by
+
+-- what is read from a sheet is 12, or its lines
+pub line-said : (t : Bool) (n : ℕ) (k : lines.Sheet) → readingOf k .number ≡ 0 → OneOf (Sheet ∷ []) (readingOf (unless t (Malformed n) k) .number)
+line-said true n k e = inr e
+line-said false n k e = inl refl
 
 -- what is found in a sheet is one of some refusals, or the edges
 pub record Says (rs : List Refusal) (f : Found) : Type 0 where

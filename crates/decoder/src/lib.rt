@@ -7,9 +7,10 @@
 //     4 gathering       get_nbr
 //     5 five modes      ipred_b
 //     6 residual        recon, recon_plane
+//     7 driver          reconstruct
 //     8 walk            leaves, check, visiting_rank, list_edges
-//       deblocking      mask_of, line, motion_row
-//     the sheet         listing
+//       deblocking      deblock; checked, entries, mask_of, line, lanes, motion_row
+//     the sheet         read, listing
 pub use avail::Avail;
 pub use avail::Neighbours;
 pub use avail::get_avail_inter;
@@ -36,8 +37,16 @@ pub use def::refusal_number;
 pub use def::set_cod;
 pub use def::size_ok;
 pub use def::unit_ok;
+pub use df::Deblocked;
+pub use df::deblock;
+pub use df_check::Settings;
+pub use df_check::VEdge;
+pub use df_check::checked;
+pub use df_check::entries;
+pub use driver::reconstruct;
 pub use edges::list_edges;
 pub use ipred::ipred_b;
+pub use lanes::lanes;
 pub use line::Mask;
 pub use line::Motion;
 pub use line::Quad;
@@ -52,6 +61,8 @@ pub use recon::recon_plane;
 pub use samples::samples_ok;
 pub use sheet::Printed;
 pub use sheet::listing;
+pub use sheet_lines::Sheet;
+pub use sheet_lines::read;
 pub use split::Listed;
 pub use split::Rank;
 pub use split::Walked;

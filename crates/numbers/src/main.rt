@@ -3,9 +3,12 @@ ghost use Prim.Native.Nat.{_≤_};
 use decoder::Answer;
 use decoder::Avail;
 use decoder::Component;
+use decoder::Deblocked;
 use decoder::Motion;
 use decoder::Pel;
 use decoder::Quad;
+use decoder::Settings;
+use decoder::VEdge;
 use libc::STDOUT_FILENO;
 
 // ---- lines
@@ -182,6 +185,55 @@ fn sizes() {
     replay::print_end();
 }
 
+// ---- QPs
+
+fn deblocked_number(a: Deblocked) -> u8 {
+    match a {
+        Deblocked::Done { .. } => 0,
+        Deblocked::Refused(r) => decoder::refusal_number(r),
+    }
+}
+
+// Deblocking a picture of one unit, of that QP.
+fn unit_number(qp: u8) -> u8 {
+    let mut y = [0u16; 16];
+    let mut u = [0u16; 4];
+    let mut v = [0u16; 4];
+    let mut words = [decoder::leaf_word(true, qp, false)];
+    let splits = [1u8; 1024];
+    let table = [0i8; 70];
+    let settings = Settings {
+        limit: 6,
+        v_edge: VEdge::Own,
+        u_offset: 0,
+        v_offset: 0,
+    };
+    deblocked_number(decoder::deblock(
+        4,
+        4,
+        &mut y,
+        &mut u,
+        &mut v,
+        &mut words,
+        &splits,
+        &[0i16; 4],
+        &[0i8; 2],
+        &table,
+        &table,
+        &[0u8; 208],
+        settings,
+    ))
+}
+
+fn qps() {
+    put(b"QP 51 gives");
+    replay::print_usize(unit_number(51) as usize);
+    replay::print_end();
+    put(b"QP 52 gives");
+    replay::print_usize(unit_number(52) as usize);
+    replay::print_end();
+}
+
 fn main() {
     lines();
     rows();
@@ -189,4 +241,5 @@ fn main() {
     mapped(5, -2, 6);
     mapped(3, -6, 4);
     sizes();
+    qps();
 }
