@@ -1,0 +1,62 @@
+-- No call refuses always: each has an input that it accepts, here with the number of its outcome. (What `listing` accepts is what `edgelist` prints.)
+-- Assumes nothing.
+use mathlib.Core.Path.{_≡_, refl}
+use mathlib.Core.Bool.{true, false}
+use mathlib.Core.List.{List, [], _∷_}
+use Prim.Native.Nat.{ℕ}
+use lib.IntN.{pos}
+use lib.ListN.{replicate}
+use Rattle.laws.specs.Bits.{fieldOf}
+use Rattle.laws.specs.Scan.{allBelow}
+use Rattle.def.specs.Blocks.{blockSideOk, componentSideOk, blockOk, unitOk}
+use Rattle.def.specs.Picture.{sizeOk}
+use Rattle.def.specs.Word.{flagAt}
+use Rattle.def.specs.declared.Component.the-variants.{Luma}
+use Rattle.samples.specs.Samples.{samplesOk}
+use Rattle.chroma_qp.specs.Derived as derived
+use Rattle.chroma_qp.specs.Mapping.{Points, inOf, outOf}
+use Rattle.avail.specs.Around as around
+use Rattle.avail.specs.Calls as avail
+use Rattle.nbr.specs.Gather as gather
+use Rattle.nbr.specs.Ranks as ranks
+use Rattle.ipred.specs.Predict as predict
+use Rattle.recon.specs.Plane as plane
+use Rattle.recon.specs.Recon as recon
+use Rattle.split.specs.CheckCall as check
+use Rattle.split.specs.LeavesCall as leaves
+use Rattle.split.specs.ListCall as list
+use Rattle.split.specs.RankCall as rank
+use Rattle.split.specs.Walk.{onward, inTurn, leafWalk, byByte, walk}
+
+abbrev points : Points
+points = record { count = 1; a = replicate 58 (pos 0); b = replicate 58 (pos 0) }
+
+-- one unit, which is a block, and its own picture; its split bytes cut the root down to it
+abbrev block : around.Input
+block = record { w = 4; h = 4; words = 0 ∷ []; x = 0; y = 0; side = 4 }
+
+abbrev cut : List ℕ
+cut = replicate 1024 1
+
+abbrev given : List ℕ
+given =
+    derived.outcome (record { global-offset = false; same-table = false; first = points; second = points; t0 = replicate 70 (pos 0); t1 = replicate 70 (pos 0) }) .number
+    ∷ avail.intraOutcome block .reading .number
+    ∷ avail.interOutcome block .reading .number
+    ∷ ranks.numberOutcome (record { w = 4; h = 4; words = 0 ∷ []; modes = 0 ∷ []; table = replicate 180 0; x = 0; y = 0 }) .number
+    ∷ gather.outcome (record {
+      around = record { component = Luma; w = 4; h = 4; plane = replicate 16 0; words = 0 ∷ []; x = 0; y = 0; side = 4; constrained = false };
+      run = replicate 17 0;
+    }) .number
+    ∷ predict.outcome (record { mode = 0; side = 2; run = replicate 9 0; block = replicate 4 0 }) .number
+    ∷ recon.outcome (record { coded = true; side = 2; pred = replicate 4 0; coef = replicate 4 (pos 0); rec = replicate 4 0 }) .number
+    ∷ plane.outcome (record { component = Luma; w = 4; h = 4; x = 0; y = 0; side = 4; coded = true; pred = replicate 16 0; coef = replicate 16 (pos 0); rec = replicate 16 0 }) .number
+    ∷ leaves.outcome (record { w = 4; h = 4; splits = cut; x = 0; y = 0; out = replicate 768 0 }) .reading .number
+    ∷ check.outcome (record { w = 4; h = 4; splits = cut }) .number
+    ∷ rank.outcome (record { x = 15; y = 15 }) .reading .number
+    ∷ list.outcome (record { w = 4; h = 4; splits = cut; limit = 5; vertical = 0 ∷ 0 ∷ []; horizontal = 0 ∷ 0 ∷ [] }) .reading .number
+    ∷ []
+
+pub accepted : given ≡ replicate 12 0
+unfolding derived.outcome derived.check derived.lengthsOk derived.pointsOk derived.pivotsOk derived.pivotOk inOf outOf avail.intraOutcome avail.interOutcome avail.checkOf ranks.numberOutcome ranks.check ranks.lengthsOk ranks.modesOk gather.outcome gather.checkOf gather.lengthsOk gather.samplesOk gather.runAt gather.nearAt predict.outcome predict.lengthsOk recon.outcome recon.blockCheck recon.lengthsOk plane.outcome plane.planeCheck plane.blockLengthsOk leaves.outcome leaves.checkOf leaves.lengthsOk leaves.rootOk check.outcome check.check rank.outcome rank.check list.outcome list.checkOf list.lengthsOk list.limitOk sizeOk blockOk blockSideOk componentSideOk unitOk samplesOk flagAt fieldOf allBelow walk byByte inTurn onward leafWalk
+accepted = refl
