@@ -196,7 +196,7 @@ module _ (i : Input) (accepted : check i ≡ Done) where
       leaf-block w h (a .log) (4 * q .x) (4 * q .y) (4 * q .side) (a .small) (omega arith) (omega arith)
       (rw (x, ← a .power) (a .column)) (rw (y, ← a .power) (a .row)) (ap (λ (n : ℕ). 4 * n) (a .power)) (rw (x, ← a .power) (a .right)) (rw (y, ← a .power) (a .bottom))
 
-  last : StateAsked (i .given) (end i)
+  pub last : StateAsked (i .given) (end i)
   last = steps-asked (i .given) (p .given) l (start i) fits (p .state)
 
   units : (u v : ℕ) → u < w / 4 → v < h / 4 → Told w (i .given .leaves) l (end i .words) (end i .modes) u v
