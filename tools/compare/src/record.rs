@@ -14,7 +14,7 @@ const ALL: [(&str, Recorder); 10] = [
     ("recon_block", recon::record_block),
     ("recon_plane", recon::record_plane),
     ("deblock", deblock_cases::record),
-    ("driver", driver::record),
+    ("driver", driver_cases::record),
     ("sheet", sheet::record),
 ];
 

@@ -49,12 +49,12 @@ fn roots(tape: &mut Tape, rng: &mut Rng) {
 }
 
 /// A size up to `most` in both directions.
-fn square(rng: &mut Rng, most: usize) -> (usize, usize) {
+pub fn square(rng: &mut Rng, most: usize) -> (usize, usize) {
     (size(rng, most), size(rng, most))
 }
 
 /// A size up to 260 in one direction, with few samples in all.
-fn strip(rng: &mut Rng) -> (usize, usize) {
+pub fn strip(rng: &mut Rng) -> (usize, usize) {
     let long = size(rng, 260);
     let short = size(rng, (1600 / long).min(260));
     rng.pick(&[(long, short), (short, long)])

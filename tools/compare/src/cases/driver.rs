@@ -1,8 +1,8 @@
 //! Cases of the block driver. The Rust has no such call: its own gathering, modes and residual addition are called leaf by leaf.
 use super::data::*;
 use super::deblock::split_bytes;
-use super::tape::{Case, Line, Tape};
-use super::trees;
+use super::tape::{Case, Line};
+use super::trees::{self, Taste};
 use crate::model::driver::{self as model, Given};
 use crate::model::{plane_len, walk};
 #[cfg(feature = "archive")]
@@ -11,17 +11,17 @@ use crate::rng::Rng;
 use oracle::{gather, predict, residual};
 
 #[derive(Clone)]
-struct Driver {
-    w: usize,
-    h: usize,
-    constrained: bool,
-    splits: Vec<u8>,
-    records: Vec<u8>,
-    residuals: Vec<i16>,
-    predictions: [Vec<u16>; 3],
-    planes: [Vec<u16>; 3],
-    words: Vec<u32>,
-    modes: Vec<u8>,
+pub struct Driver {
+    pub w: usize,
+    pub h: usize,
+    pub constrained: bool,
+    pub splits: Vec<u8>,
+    pub records: Vec<u8>,
+    pub residuals: Vec<i16>,
+    pub predictions: [Vec<u16>; 3],
+    pub planes: [Vec<u16>; 3],
+    pub words: Vec<u32>,
+    pub modes: Vec<u8>,
 }
 
 impl Driver {
@@ -90,8 +90,7 @@ impl Case for Driver {
         out.words.fill(0);
         let leaves = walk::leaves(self.w, self.h, walk::cut_by(&self.splits, self.w)).ok()?;
         let mut at = 0;
-        for (leaf, r) in leaves.iter().zip(self.records.chunks_exact(4)) {
-            let record = model::Record { kind: r[0], qp: r[1], mask: r[2], spare: r[3] };
+        for (leaf, record) in leaves.iter().zip(model::records(&self.given())) {
             at = self.leaf(*leaf, record, at, &mut out)?;
         }
         Some(Driver::answer(0, &out))
@@ -108,89 +107,44 @@ impl Case for Driver {
     }
 }
 
-pub fn record(tape: &mut Tape) {
-    let rng = &mut Rng::new(0xd41e4);
-    for _ in 0..160 {
-        let most = rng.pick(&[4, 8, 16, 24]);
-        tape.record(&accepted(rng, most));
-    }
-    for most in [64, 72, 100] {
-        tape.record(&accepted(rng, most));
-    }
-    for _ in 0..220 {
-        tape.record(&damage(rng));
-    }
-    for _ in 0..1500 {
-        let most = rng.pick(&[8, 16, 36, 72]);
-        tape.compare(&accepted(rng, most));
-    }
+/// The five modes, and lent prediction.
+pub const KINDS: [u8; 6] = [0, 1, 2, 3, 4, 5];
+pub const MASKS: [u8; 8] = [0, 1, 2, 3, 4, 5, 6, 7];
+
+/// An accepted picture of any kinds and masks.
+pub fn picture(rng: &mut Rng, w: usize, h: usize, taste: Taste) -> Driver {
+    let kinds = rng.pick(&[&KINDS[..5], &KINDS, &KINDS, &[5], &[3, 4, 5]]);
+    let masks = rng.pick(&[&MASKS[..], &MASKS, &[0], &[7]]);
+    of(rng, (w, h), taste, kinds, masks)
 }
 
-fn accepted(rng: &mut Rng, most: usize) -> Driver {
-    let (w, h) = (size(rng, most), size(rng, most));
-    let taste = trees::taste(rng);
+/// An accepted picture, each leaf of one of these kinds and masks.
+pub fn of(rng: &mut Rng, (w, h): (usize, usize), taste: Taste, kinds: &[u8], masks: &[u8]) -> Driver {
     let tree = trees::tree(rng, w, h, taste);
     let splits = split_bytes(rng, w, h, &tree);
-    let leaves = walk::leaves(w, h, walk::cut_by(&splits, w)).expect("a tree that is accepted");
-    let kinds: &[u8] = rng.pick(&[&[0, 1, 2, 3, 4][..], &[0, 1, 2, 3, 4, 5], &[5], &[3, 4, 5]]);
-    let masks: &[u8] = rng.pick(&[&[0, 1, 2, 3, 4, 5, 6, 7][..], &[0], &[7]]);
-    let (mut records, mut count) = (Vec::new(), 0);
-    for leaf in &leaves {
-        let mask = rng.pick(masks);
-        records.extend([rng.pick(kinds), rng.below(52) as u8, mask, 0]);
-        let whole = leaf.wide * leaf.wide;
-        count += (0..3).map(|i| (mask as usize >> i & 1) * if i == 0 { whole } else { whole / 4 }).sum::<usize>();
-    }
-    let high = rng.pick(&[0, 20, 1100, 32767]);
+    drawn(rng, (w, h), splits, kinds, masks)
+}
+
+/// The same over these split bytes. Over bytes that the walk refuses, it has no leaves.
+pub fn drawn(rng: &mut Rng, (w, h): (usize, usize), splits: Vec<u8>, kinds: &[u8], masks: &[u8]) -> Driver {
+    let leaves = walk::leaves(w, h, walk::cut_by(&splits, w)).unwrap_or_default();
+    let record = |rng: &mut Rng| [rng.pick(kinds), rng.below(52) as u8, rng.pick(masks), 0];
     let units = (w / 4) * (h / 4);
     let lengths = [false, true, true].map(|chroma| plane_len(chroma, w, h));
-    Driver {
+    let mut picture = Driver {
         w,
         h,
         constrained: rng.one_in(2),
         splits,
-        records,
-        residuals: (0..count).map(|_| rng.range(-high - 1, high) as i16).collect(),
+        records: leaves.iter().flat_map(|_| record(rng)).collect(),
+        residuals: vec![],
         predictions: lengths.map(|n| samples(rng, n)),
         planes: lengths.map(|n| stale(rng, n)),
         words: (0..units).map(|_| rng.next() as u32).collect(),
         modes: (0..units).map(|_| rng.next() as u8).collect(),
-    }
-}
-
-/// An accepted picture with one or two things changed.
-fn damage(rng: &mut Rng) -> Driver {
-    let mut case = accepted(rng, 16);
-    for _ in 0..1 + rng.below(2) {
-        let plane = rng.below(3);
-        let leaf = 4 * rng.below((case.records.len() / 4).max(1));
-        let mut set = |byte: usize, value: u8| {
-            if let Some(place) = case.records.get_mut(leaf + byte) {
-                *place = value;
-            }
-        };
-        match rng.below(14) {
-            0 => set(0, rng.pick(&[5, 6, 7, 254, 255])),
-            1 => set(1, rng.pick(&[51, 52, 64, 128, 255])),
-            2 => set(2, rng.pick(&[7, 8, 9, 255])),
-            3 => set(3, rng.pick(&[1, 128, 255])),
-            4 => spoil(rng, &mut case.w),
-            5 => spoil(rng, &mut case.h),
-            6 => stretch(rng, &mut case.splits),
-            7 => stretch(rng, &mut case.records),
-            8 => stretch(rng, &mut case.residuals),
-            9 => stretch(rng, &mut case.predictions[plane]),
-            10 => stretch(rng, &mut case.planes[plane]),
-            11 => stretch(rng, &mut case.words),
-            12 => stretch(rng, &mut case.modes),
-            _ => overdo(rng, &mut case.predictions[plane]),
-        }
-    }
-    if rng.one_in(4) {
-        let at = rng.pick(&[136, 256 + 68, 512 + 34, 768 + 17]);
-        if let Some(byte) = case.splits.get_mut(at) {
-            *byte = rng.pick(&[0, 1, 2, 255]);
-        }
-    }
-    case
+    };
+    let count = leaves.iter().zip(model::records(&picture.given())).map(model::residual_len).sum();
+    let high = rng.pick(&[0, 20, 1100, 32767]);
+    picture.residuals = (0..count).map(|_| rng.range(-high - 1, high) as i16).collect();
+    picture
 }

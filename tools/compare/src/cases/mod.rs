@@ -5,7 +5,9 @@ mod data;
 pub mod deblock;
 pub mod deblock_cases;
 mod deblock_refusals;
-pub mod driver;
+mod driver;
+pub mod driver_cases;
+mod driver_refusals;
 pub mod gather;
 #[cfg(feature = "archive")]
 pub mod listing;

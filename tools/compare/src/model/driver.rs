@@ -100,12 +100,12 @@ fn check(given: &Given, planes: [usize; 3], words: usize, modes: usize) -> Resul
     Ok(leaves)
 }
 
-fn records<'a>(given: &'a Given) -> impl Iterator<Item = Record> + 'a {
+pub fn records<'a>(given: &'a Given) -> impl Iterator<Item = Record> + 'a {
     given.records.chunks_exact(4).map(|r| Record { kind: r[0], qp: r[1], mask: r[2], spare: r[3] })
 }
 
 /// How many residuals a leaf has: of its masked components alone.
-fn residual_len((leaf, record): (&Leaf, Record)) -> usize {
+pub fn residual_len((leaf, record): (&Leaf, Record)) -> usize {
     let whole = leaf.wide * leaf.wide;
     [whole, whole / 4, whole / 4]
         .iter()

@@ -1,0 +1,178 @@
+// Replays recorded cases of the block driver. A line of data/cases is a call; the line printed for it is the number that it answers, and
+// the planes, the unit words and the modes as it leaves them.
+
+// The picture's size and the flag come first in a case, then its split bytes and the two lists of its leaves.
+fn one(s: &[u8], at: usize) -> usize {
+    let w = cases::number(s, at);
+    let h = cases::number(s, w.next);
+    let flag = cases::number(s, h.next);
+    let mut splits = [0u8; 67000];
+    let ps = cases::slice_u8(s, flag.next, &mut splits);
+    let mut leaves = [0u8; 5000];
+    let pl = cases::slice_u8(s, ps.next, &mut leaves);
+    let mut residual = [0i16; 30000];
+    let pr = cases::slice_i16(s, pl.next, &mut residual);
+    let ns = ps.len;
+    let nl = pl.len;
+    let nr = pr.len;
+    predictions(
+        s,
+        pr.next,
+        w.size,
+        h.size,
+        flag.size == 1,
+        &splits[..ns],
+        &leaves[..nl],
+        &residual[..nr],
+    )
+}
+
+// Then the lent prediction.
+fn predictions(
+    s: &[u8],
+    at: usize,
+    w: usize,
+    h: usize,
+    constrained: bool,
+    splits: &[u8],
+    leaves: &[u8],
+    residual: &[i16],
+) -> usize {
+    let mut pred_y = [0u16; 20000];
+    let py = cases::slice_u16(s, at, &mut pred_y);
+    let mut pred_u = [0u16; 5000];
+    let pu = cases::slice_u16(s, py.next, &mut pred_u);
+    let mut pred_v = [0u16; 5000];
+    let pv = cases::slice_u16(s, pu.next, &mut pred_v);
+    let ny = py.len;
+    let nu = pu.len;
+    let nv = pv.len;
+    planes(
+        s,
+        pv.next,
+        w,
+        h,
+        constrained,
+        splits,
+        leaves,
+        residual,
+        &pred_y[..ny],
+        &pred_u[..nu],
+        &pred_v[..nv],
+    )
+}
+
+// Then the planes, and the unit words and the modes last.
+fn planes(
+    s: &[u8],
+    at: usize,
+    w: usize,
+    h: usize,
+    constrained: bool,
+    splits: &[u8],
+    leaves: &[u8],
+    residual: &[i16],
+    pred_y: &[u16],
+    pred_u: &[u16],
+    pred_v: &[u16],
+) -> usize {
+    let mut y = [0u16; 20000];
+    let py = cases::slice_u16(s, at, &mut y);
+    let mut u = [0u16; 5000];
+    let pu = cases::slice_u16(s, py.next, &mut u);
+    let mut v = [0u16; 5000];
+    let pv = cases::slice_u16(s, pu.next, &mut v);
+    let mut words = [0u32; 1300];
+    let pw = cases::slice_u32(s, pv.next, &mut words);
+    let mut modes = [0u8; 1300];
+    let pm = cases::slice_u8(s, pw.next, &mut modes);
+    let ny = py.len;
+    let nu = pu.len;
+    let nv = pv.len;
+    let nw = pw.len;
+    let nm = pm.len;
+    reconstructed(
+        w,
+        h,
+        constrained,
+        splits,
+        leaves,
+        residual,
+        pred_y,
+        pred_u,
+        pred_v,
+        &mut y[..ny],
+        &mut u[..nu],
+        &mut v[..nv],
+        &mut words[..nw],
+        &mut modes[..nm],
+    );
+    pm.next
+}
+
+fn reconstructed(
+    w: usize,
+    h: usize,
+    constrained: bool,
+    splits: &[u8],
+    leaves: &[u8],
+    residual: &[i16],
+    pred_y: &[u16],
+    pred_u: &[u16],
+    pred_v: &[u16],
+    y: &mut [u16],
+    u: &mut [u16],
+    v: &mut [u16],
+    words: &mut [u32],
+    modes: &mut [u8],
+) {
+    let answer = driver::reconstruct(
+        w,
+        h,
+        splits,
+        leaves,
+        residual,
+        pred_y,
+        pred_u,
+        pred_v,
+        constrained,
+        &mut *y,
+        &mut *u,
+        &mut *v,
+        &mut *words,
+        &mut *modes,
+    );
+    replay::print_first(def::answer_number(answer));
+    replay::print_u16(y);
+    replay::print_u16(u);
+    replay::print_u16(v);
+    replay::print_u32(words);
+    replay::print_u8(modes);
+    replay::print_end();
+}
+
+// Every case in turn: a newline ends each.
+fn every(s: &[u8]) {
+    let mut at = 0;
+    while at < s.len() {
+        let next = one(s, at);
+        if next < at {
+            return;
+        }
+        if s.len() <= next {
+            return;
+        }
+        at = next + 1;
+    }
+}
+
+// A call keeps the checker from looking into the array.
+fn room() -> [u8; 5000000] {
+    [0u8; 5000000]
+}
+
+fn main() {
+    let mut all = room();
+    let n = replay::load(&mut all);
+    every(&all[..n]);
+}
