@@ -1,4 +1,5 @@
 pub mod Accepted
+pub mod Joined
 pub mod Numbers
 pub mod Promises
 pub mod Refusing

@@ -1,2 +1,3 @@
+pub mod Joined
 pub mod Numbers
 pub mod Promise
