@@ -73,8 +73,18 @@ module _ (i : driver.Input) (fine : driver.check i ≡ Done) where
     lengths : deblocking.lengthsOk (j .w) (j .h) (deblocking.lengthsOf j) ≡ true
     unfolding deblocking.lengthsOk
     lengths =
-        rw (eq-eqb _ _ long-y, eq-eqb _ _ long-u, eq-eqb _ _ long-v, eq-eqb _ _ long-words, eq-eqb _ _ long-splits, eq-eqb _ _ (l .motion), eq-eqb _ _ (l .refs),
-        eq-eqb _ _ (l .table0), eq-eqb _ _ (l .table1), eq-eqb _ _ (l .strengths))
+        rw (
+          eq-eqb _ _ long-y,
+          eq-eqb _ _ long-u,
+          eq-eqb _ _ long-v,
+          eq-eqb _ _ long-words,
+          eq-eqb _ _ long-splits,
+          eq-eqb _ _ (l .motion),
+          eq-eqb _ _ (l .refs),
+          eq-eqb _ _ (l .table0),
+          eq-eqb _ _ (l .table1),
+          eq-eqb _ _ (l .strengths),
+        )
 
     qps : deblocking.qpsOk (j .settings) (j .table0) (j .table1) (j .words) ≡ true
     unfolding deblocking.qpsOk
