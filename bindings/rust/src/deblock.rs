@@ -1,23 +1,7 @@
 //! Deblocking.
+use crate::picture::Picture;
 use crate::refusal::{answer, Refusal};
 use crate::sys;
-
-/// A picture to be deblocked: its sides, its planes and its unit words, of which done is set in every unit.
-#[derive(Debug)]
-pub struct Picture<'a> {
-    /// The luma plane's width.
-    pub w: usize,
-    /// The luma plane's height.
-    pub h: usize,
-    /// Y, w*h samples.
-    pub y: &'a mut [u16],
-    /// U, (w/2)*(h/2) samples.
-    pub u: &'a mut [u16],
-    /// V, (w/2)*(h/2) samples.
-    pub v: &'a mut [u16],
-    /// A word a unit.
-    pub words: &'a mut [u32],
-}
 
 /// What deblocking reads of each unit and root.
 #[derive(Clone, Copy, Debug)]
@@ -47,7 +31,7 @@ pub struct Settings {
     pub v_offset: i8,
 }
 
-/// Deblocks a picture, and answers how many edges each pass visited. Refusals: [`Size`](Refusal::Size), [`Length`](Refusal::Length),
+/// Deblocks a picture, sets done in every word, and answers how many edges each pass visited. Refusals: [`Size`](Refusal::Size), [`Length`](Refusal::Length),
 /// [`Setting`](Refusal::Setting), [`Split`](Refusal::Split), [`Leaf`](Refusal::Leaf), [`Qp`](Refusal::Qp), [`Sample`](Refusal::Sample).
 pub fn deblock(picture: Picture, maps: Maps, settings: Settings) -> Result<(usize, usize), Refusal> {
     let Picture { w, h, y, u, v, words } = picture;

@@ -1,5 +1,5 @@
 //! Safe calls of the Lomsakeun decoder, whose proved archive this crate links: chroma QP tables, neighbour availability, mode ranks,
-//! gathering, intra prediction, residual addition, the split tree with its edges, and deblocking.
+//! gathering, intra prediction, residual addition, the split tree with its edges, the block driver and deblocking.
 //!
 //! Every call accepts every input. A bad one answers a [`Refusal`] and leaves every lent slice as it was; nothing is trusted, and each
 //! slice's length goes with it. Places and sizes are in luma samples unless a call says units (4x4 luma samples); planes and maps are flat,
@@ -40,14 +40,18 @@
 mod blocks;
 mod chroma;
 mod deblock;
+mod driver;
 mod neighbours;
+mod picture;
 mod refusal;
 pub mod sys;
 mod tree;
 
 pub use blocks::{get_nbr, ipred_b, recon, recon_plane, Component};
 pub use chroma::{derived_chroma_qp_mapping_tables, Points};
-pub use deblock::{deblock, Maps, Picture, Settings};
+pub use deblock::{deblock, Maps, Settings};
+pub use driver::{reconstruct, Blocks};
 pub use neighbours::{get_avail_inter, get_avail_intra, get_mpm, Neighbours};
+pub use picture::Picture;
 pub use refusal::Refusal;
 pub use tree::{check, leaves, list_edges, listing, visiting_rank, LEAVES_LENGTH, LISTING_LENGTH};

@@ -3,7 +3,8 @@ use lomsakeun::Points as Given;
 use lomsakeun::Refusal::{self, *};
 use lomsakeun::{
     check, deblock, derived_chroma_qp_mapping_tables, get_avail_inter, get_avail_intra, get_mpm, get_nbr, ipred_b,
-    leaves, list_edges, listing, recon, recon_plane, visiting_rank, Component, Maps, Picture, Settings, LISTING_LENGTH,
+    leaves, list_edges, listing, recon, recon_plane, reconstruct, visiting_rank, Blocks, Component, Maps, Picture,
+    Settings, LISTING_LENGTH,
 };
 use std::fmt::Debug;
 
@@ -338,7 +339,9 @@ fn deblocking() {
         Deblock::refused(Size, |case| (case.w, case.h) = (w, h));
     }
     for i in 0..3 {
-        Deblock::refused(Length, |case| drop(case.planes[i].pop()));
+        Deblock::refused(Length, |case| {
+            case.planes[i].pop();
+        });
         Deblock::refused(Sample, |case| case.planes[i][5] = 1024);
     }
     for i in 0..2 {
@@ -350,7 +353,9 @@ fn deblocking() {
     Deblock::refused(Length, |case| case.splits.push(0));
     Deblock::refused(Length, |case| case.motion.clear());
     Deblock::refused(Length, |case| case.refs.clear());
-    Deblock::refused(Length, |case| drop(case.strengths.pop()));
+    Deblock::refused(Length, |case| {
+        case.strengths.pop();
+    });
     for limit in [0, 4, 7, 255] {
         Deblock::refused(Setting, |case| case.settings.limit = limit);
     }
@@ -361,4 +366,99 @@ fn deblocking() {
     Deblock::refused(Split, |case| case.splits[136] = 2);
     Deblock::refused(Leaf, |case| case.splits[136] = 0);
     Deblock::refused(Qp, |case| case.words[3] = 52 << 16);
+}
+
+/// A picture of 8 by 8 that is accepted, and what it is made from: one block of 8, and its residual.
+#[derive(Clone)]
+struct Driver {
+    w: usize,
+    h: usize,
+    splits: Vec<u8>,
+    leaves: Vec<u8>,
+    residual: Vec<i16>,
+    predictions: [Vec<u16>; 3],
+    planes: [Vec<u16>; 3],
+    words: Vec<u32>,
+    modes: Vec<u8>,
+}
+
+impl Driver {
+    fn good() -> Driver {
+        let planes = [vec![1023; 64], vec![1023; 16], vec![1023; 16]];
+        Driver {
+            w: 8,
+            h: 8,
+            splits: root(&[(136, 1), (256 + 68, 1), (512 + 34, 1)]),
+            leaves: vec![5, 51, 7, 0],
+            residual: vec![-1; 96],
+            predictions: planes.clone(),
+            planes,
+            words: vec![9; 4],
+            modes: vec![9; 4],
+        }
+    }
+
+    fn run(&mut self) -> Result<(), Refusal> {
+        let [y, u, v] = &mut self.planes;
+        let picture = Picture { w: self.w, h: self.h, y, u, v, words: &mut self.words };
+        let predictions = self.predictions.each_ref().map(|plane| &plane[..]);
+        let blocks = Blocks {
+            splits: &self.splits,
+            leaves: &self.leaves,
+            residual: &self.residual,
+            predictions,
+            constrained: false,
+        };
+        reconstruct(blocks, picture, &mut self.modes)
+    }
+
+    /// Requires that it is refused with this change, and that nothing was written.
+    fn refused(refusal: Refusal, change: impl FnOnce(&mut Driver)) {
+        let mut case = Driver::good();
+        change(&mut case);
+        let before = case.clone();
+        assert_eq!(case.run(), Err(refusal));
+        assert_eq!((case.planes, case.words, case.modes), (before.planes, before.words, before.modes));
+    }
+}
+
+#[test]
+fn driving() {
+    let mut good = Driver::good();
+    assert_eq!(good.run(), Ok(()));
+    assert_eq!(good.planes, [vec![1022; 64], vec![1022; 16], vec![1022; 16]]);
+    for (w, h) in BAD_SIZES {
+        Driver::refused(Size, |case| (case.w, case.h) = (w, h));
+    }
+    for i in 0..3 {
+        Driver::refused(Length, |case| {
+            case.planes[i].pop();
+        });
+        Driver::refused(Length, |case| case.predictions[i].push(0));
+        Driver::refused(Sample, |case| case.predictions[i][5] = 1024);
+        // also where no leaf takes it
+        Driver::refused(Sample, |case| (case.predictions[i][5], case.leaves[0]) = (1024, 0));
+    }
+    Driver::refused(Length, |case| case.splits.push(0));
+    Driver::refused(Length, |case| {
+        case.words.pop();
+    });
+    Driver::refused(Length, |case| case.modes.push(0));
+    Driver::refused(Split, |case| case.splits[136] = 2);
+    Driver::refused(Leaf, |case| case.splits[136] = 0);
+    for wrong in [0, 3, 5, 8] {
+        Driver::refused(Record, |case| case.leaves.resize(wrong, 0));
+    }
+    for wrong in [0, 95, 97] {
+        Driver::refused(Record, |case| case.residual.resize(wrong, 0));
+    }
+    Driver::refused(Record, |case| case.leaves[2] = 8);
+    Driver::refused(Record, |case| case.leaves[2] = 6);
+    Driver::refused(Record, |case| case.leaves[3] = 1);
+    for mode in [6, 255] {
+        Driver::refused(Mode, |case| (case.leaves[0], case.leaves[1]) = (mode, 52));
+    }
+    for qp in [52, 255] {
+        Driver::refused(Qp, |case| (case.leaves[1], case.predictions[0][0]) = (qp, 1024));
+    }
 }

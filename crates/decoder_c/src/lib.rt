@@ -8,6 +8,7 @@ mod blocks;
 mod chroma;
 mod deblock;
 mod neighbours;
+mod reconstruct;
 mod tree;
 
 // A component by its flag.

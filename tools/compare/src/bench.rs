@@ -1,5 +1,7 @@
 //! Speed of both sides in one run, on the same inputs: the best of many rounds. The product's refusal scans are counted; the Rust has none.
+use crate::bench_driver;
 use crate::cases::deblock::{picture, Picture};
+use crate::cases::trees;
 use crate::chart::{self, Series};
 use crate::rng::Rng;
 use lomsakeun::Component;
@@ -12,12 +14,15 @@ use std::{fs, io};
 
 /// Square pictures of these sides.
 const SIZES: [usize; 5] = [256, 512, 1024, 2048, 4096];
+/// What the leaves of a picture are.
+const LEAVES: [(&str, trees::Taste); 3] =
+    [("16 and 8", trees::SIXTEENS), ("all 4", trees::FINEST), ("all 64", trees::UNCUT)];
 /// A measurement goes on for at least so many rounds and so long.
 const ROUNDS: usize = 5;
 const LONG: Duration = Duration::from_millis(400);
 
 /// The best round of a call, in nanoseconds; what comes before each call is not counted.
-fn best<T>(state: &mut T, mut before: impl FnMut(&mut T), mut call: impl FnMut(&mut T)) -> f64 {
+pub fn best<T>(state: &mut T, mut before: impl FnMut(&mut T), mut call: impl FnMut(&mut T)) -> f64 {
     let (begun, mut rounds, mut least) = (Instant::now(), 0, f64::INFINITY);
     while rounds < ROUNDS || begun.elapsed() < LONG {
         before(state);
@@ -161,9 +166,8 @@ fn alike(rng: &mut Rng, given: Picture, intra: bool) -> Picture {
 
 /// Deblocking of pictures of these leaves, all units intra or all inter.
 fn deblocking(rng: &mut Rng) -> Vec<Series> {
-    use crate::cases::trees::{FINEST, SIXTEENS, UNCUT};
     let mut all = Vec::new();
-    for (leaves, taste) in [("16 and 8", SIXTEENS), ("all 4", FINEST), ("all 64", UNCUT)] {
+    for (leaves, taste) in LEAVES {
         for intra in [true, false] {
             let what = format!("deblocking, {}, leaves {leaves}", if intra { "intra" } else { "inter" });
             all.push(series(&what, |size| {
@@ -210,6 +214,10 @@ fn tables(points: usize) -> (f64, f64) {
 pub fn bench(dir: &Path) -> io::Result<bool> {
     let rng = &mut Rng::new(1);
     let mut all = deblocking(rng);
+    for (leaves, taste) in LEAVES {
+        let what = format!("block driver, intra, leaves {leaves}");
+        all.push(series(&what, |size| bench_driver::driven(rng, size, taste)));
+    }
     for side in [4, 16, 64] {
         all.push(series(&format!("gathering and prediction, blocks of {side}"), |size| predicted(rng, size, side)));
     }
@@ -254,7 +262,7 @@ fn machine() -> String {
 }
 
 fn page(all: &[Series], floor: &[f64], derived: &[(usize, (f64, f64))]) -> String {
-    let mut text = TEXT.to_string() + &machine() + "Nanoseconds a sample, square pictures of these sides: the Rust, the product, and how many times as fast the product is. Deblocking and residual addition count the samples of all three planes, gathering and prediction those of luma.\n\n";
+    let mut text = TEXT.to_string() + &machine() + "Nanoseconds a sample, square pictures of these sides: the Rust, the product, and how many times as fast the product is. Deblocking and residual addition count the samples of all three planes, the rest those of luma. The Rust has no block driver: beside it stand the Rust's own calls for each leaf, all three components, the list of leaves made before.\n\n";
     if all.iter().any(|series| series.what.starts_with("deblocking")) {
         text += LARGE;
     }

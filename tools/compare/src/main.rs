@@ -4,6 +4,8 @@
 mod all;
 #[cfg(feature = "archive")]
 mod bench;
+#[cfg(feature = "archive")]
+mod bench_driver;
 mod cases;
 #[cfg(feature = "archive")]
 mod chart;

@@ -6,7 +6,7 @@ use super::trees::{self, Taste};
 use crate::model::driver::{self as model, Given};
 use crate::model::{plane_len, walk};
 #[cfg(feature = "archive")]
-use crate::product::{Answer, Lending};
+use crate::product::{sys, Answer, Lending, Lent};
 use crate::rng::Rng;
 use oracle::{gather, predict, residual};
 
@@ -100,10 +100,50 @@ impl Case for Driver {
         true
     }
 
-    /// The archive has no driver yet.
     #[cfg(feature = "archive")]
-    fn product(&self, _: Lending) -> Answer {
-        Ok(self.model())
+    fn product(&self, lending: Lending) -> Answer {
+        let (splits, records) = (Lent::new(lending, &self.splits), Lent::new(lending, &self.records));
+        let residuals = Lent::new(lending, &self.residuals);
+        let [py, pu, pv] = self.predictions.each_ref().map(|plane| Lent::new(lending, plane));
+        let [mut y, mut u, mut v] = self.planes.each_ref().map(|plane| Lent::new(lending, plane));
+        let (mut words, mut modes) = (Lent::new(lending, &self.words), Lent::new(lending, &self.modes));
+        let number = unsafe {
+            sys::lomsakeun_reconstruct(
+                self.w,
+                self.h,
+                splits.ptr(),
+                splits.len(),
+                records.ptr(),
+                records.len(),
+                residuals.ptr(),
+                residuals.len(),
+                py.ptr(),
+                py.len(),
+                pu.ptr(),
+                pu.len(),
+                pv.ptr(),
+                pv.len(),
+                self.constrained,
+                y.mut_ptr(),
+                y.len(),
+                u.mut_ptr(),
+                u.len(),
+                v.mut_ptr(),
+                v.len(),
+                words.mut_ptr(),
+                words.len(),
+                modes.mut_ptr(),
+                modes.len(),
+            )
+        };
+        splits.kept(&self.splits)?;
+        records.kept(&self.records)?;
+        residuals.kept(&self.residuals)?;
+        py.kept(&self.predictions[0])?;
+        pu.kept(&self.predictions[1])?;
+        pv.kept(&self.predictions[2])?;
+        let line = Line::new().num(number).all(y.after()?).all(u.after()?).all(v.after()?);
+        Ok(line.all(words.after()?).all(modes.after()?))
     }
 }
 
@@ -147,4 +187,13 @@ pub fn drawn(rng: &mut Rng, (w, h): (usize, usize), splits: Vec<u8>, kinds: &[u8
     let high = rng.pick(&[0, 20, 1100, 32767]);
     picture.residuals = (0..count).map(|_| rng.range(-high - 1, high) as i16).collect();
     picture
+}
+
+pub fn draw(rng: &mut Rng) -> Box<dyn Case> {
+    let most = rng.pick(&[8, 16, 36, 72, 140]);
+    Box::new(accepted(rng, most))
+}
+
+pub fn damaged(rng: &mut Rng) -> Box<dyn Case> {
+    Box::new(damage(rng))
 }

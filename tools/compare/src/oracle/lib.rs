@@ -9,6 +9,7 @@ include!(concat!(env!("OUT_DIR"), "/revc.rs"));
 pub mod avail;
 pub mod chroma;
 pub mod deblock;
+pub mod driver;
 pub mod gather;
 mod planes;
 pub mod predict;

@@ -1,0 +1,59 @@
+//! The block driver.
+use crate::picture::Picture;
+use crate::refusal::{answer, Refusal};
+use crate::sys;
+
+/// What a picture's blocks are made from.
+#[derive(Clone, Copy, Debug)]
+pub struct Blocks<'a> {
+    /// 1,024 bytes a root.
+    pub splits: &'a [u8],
+    /// Four bytes a leaf, in the order of the walk: kind (a mode, or 5 for the lent prediction), QP, mask (1 Y, 2 U, 4 V), 0.
+    pub leaves: &'a [u8],
+    /// The masked residuals one after another: Y, U and V of each leaf.
+    pub residual: &'a [i16],
+    /// The lent prediction of Y, U and V: each of its plane's length, also where no leaf takes it.
+    pub predictions: [&'a [u16]; 3],
+    /// Whether only intra units count as neighbours.
+    pub constrained: bool,
+}
+
+/// Reconstructs a picture: its blocks in the order of the walk, each predicted or taken from the lent prediction, with its residual; then its
+/// unit words, and its modes: a byte a unit, 255 where the prediction was lent. What the picture and the modes held before counts for nothing.
+/// Refusals: [`Size`](Refusal::Size), [`Length`](Refusal::Length), [`Split`](Refusal::Split), [`Leaf`](Refusal::Leaf),
+/// [`Record`](Refusal::Record), [`Mode`](Refusal::Mode), [`Qp`](Refusal::Qp), [`Sample`](Refusal::Sample).
+pub fn reconstruct(blocks: Blocks, picture: Picture, modes: &mut [u8]) -> Result<(), Refusal> {
+    let Blocks { splits, leaves, residual, predictions: [pred_y, pred_u, pred_v], constrained } = blocks;
+    let Picture { w, h, y, u, v, words } = picture;
+    // Each pointer comes from a slice that lives through the call, with its own length.
+    let number = unsafe {
+        sys::lomsakeun_reconstruct(
+            w,
+            h,
+            splits.as_ptr(),
+            splits.len(),
+            leaves.as_ptr(),
+            leaves.len(),
+            residual.as_ptr(),
+            residual.len(),
+            pred_y.as_ptr(),
+            pred_y.len(),
+            pred_u.as_ptr(),
+            pred_u.len(),
+            pred_v.as_ptr(),
+            pred_v.len(),
+            constrained,
+            y.as_mut_ptr(),
+            y.len(),
+            u.as_mut_ptr(),
+            u.len(),
+            v.as_mut_ptr(),
+            v.len(),
+            words.as_mut_ptr(),
+            words.len(),
+            modes.as_mut_ptr(),
+            modes.len(),
+        )
+    };
+    answer(number, ())
+}

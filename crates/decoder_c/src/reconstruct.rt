@@ -1,0 +1,52 @@
+// The block driver.
+ghost use mathlib.Core.Path.{_≡_};
+ghost use Rattle.laws.specs.Call.{Gives};
+ghost use Rattle.driver_rules.specs.Call as driving;
+ghost use Rattle.driver.specs.Lends.{givenOf};
+
+#[no_mangle]
+pub extern "C" fn lomsakeun_reconstruct(
+    w: usize,
+    h: usize,
+    splits: &[u8],
+    leaves: &[u8],
+    residual: &[i16],
+    pred_y: &[u16],
+    pred_u: &[u16],
+    pred_v: &[u16],
+    constrained: bool,
+    y: &mut [u16],
+    u: &mut [u16],
+    v: &mut [u16],
+    map_scu: &mut [u32],
+    modes: &mut [u8],
+) -> u8
+    ensures { λ n. ⌜ Gives driving.outcome
+        (record {
+          given = givenOf w h constrained (now (leaves .entry)) (now (residual .entry)) (now («pred_y» .entry)) (now («pred_u» .entry)) (now («pred_v» .entry));
+          splits = now (splits .entry);
+          y = now (y .entry);
+          u = now (u .entry);
+          v = now (v .entry);
+          words = now («map_scu» .entry);
+          modes = now (modes .entry);
+        })
+        (record { number = n; y = now (y .exit); u = now (u .exit); v = now (v .exit); words = now («map_scu» .exit); modes = now (modes .exit) }) ⌝ }
+{
+    def::answer_number(driver::reconstruct(
+        w,
+        h,
+        splits,
+        leaves,
+        residual,
+        pred_y,
+        pred_u,
+        pred_v,
+        constrained,
+        y,
+        u,
+        v,
+        map_scu,
+        modes,
+    ))
+}
