@@ -12,6 +12,7 @@ pub fn record(tape: &mut Tape, rng: &mut Rng) {
     splits(tape, rng);
     lists(tape, rng);
     bytes(tape, rng);
+    masks(tape, rng);
     over(tape, rng);
     order(tape, rng);
     for _ in 0..40 {
@@ -98,16 +99,28 @@ fn lists(tape: &mut Tape, rng: &mut Rng) {
     }
 }
 
-/// 9, 6 and 13: each byte of a record and its boundary, in the first leaf, in the second and in the last.
+/// 9, 6 and 13: a kind, a QP and a spare byte, each with its boundary, in the first leaf, in the second and in the last.
 fn bytes(tape: &mut Tape, rng: &mut Rng) {
-    let values: [&[u8]; 4] =
-        [&[5, 6, 128, 255], &[0, 51, 52, 64, 127, 128, 255], &[8, 15, 128, 255], &[1, 128, 255]];
-    for (byte, values) in values.into_iter().enumerate() {
+    for (byte, values) in [(0, &[5, 6, 128, 255][..]), (1, &[0, 51, 52, 64, 127, 128, 255]), (3, &[1, 128, 255])] {
         for value in values {
             let good = picture(rng, 12, 8, trees::FINEST);
             for leaf in [0, 1, 5] {
                 let mut bad = good.clone();
                 bad.records[4 * leaf + byte] = *value;
+                tape.record(&bad);
+            }
+        }
+    }
+}
+
+/// 13: a mask over 7, with as many residuals as its lower bits ask.
+fn masks(tape: &mut Tape, rng: &mut Rng) {
+    for mask in [0, 1, 7] {
+        for over in [8, 128, 248] {
+            let good = of(rng, (12, 8), trees::FINEST, &KINDS, &[mask]);
+            for leaf in [0, 1, 5] {
+                let mut bad = good.clone();
+                bad.records[4 * leaf + 2] |= over;
                 tape.record(&bad);
             }
         }
@@ -172,7 +185,7 @@ fn spoil_list(rng: &mut Rng, bad: &mut Driver) {
     match rng.below(4) {
         0 => bad.records.truncate(12),
         1 => bad.residuals.push(0),
-        2 => bad.records[14] = 8,
+        2 => bad.records[14] |= 8,
         _ => bad.records[15] = 1,
     }
 }
