@@ -1,4 +1,4 @@
--- 01's sheet, width 16, height 8, splits 11110, as a picture whose two orders differ: the lists, and a chroma plane that ends the same by both. In one
+-- The paper's sheet, width 16, height 8, splits 11110, as a picture whose two orders differ: the lists, and a chroma plane that ends the same by both. In one
 -- row of units the order counts: the windows of its two edges overlap. Computed by the checker.
 -- Assumes nothing.
 use Prim.Native.Nat.{ℕ}

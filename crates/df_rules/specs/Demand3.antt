@@ -21,7 +21,7 @@ pub record RowByRow (d : Pass) (short : Bool) (s : List ℕ) (w h : ℕ) (l : Li
   pub order : Pairwise (λ e f. unitQ w e < unitQ w f) l
 
 pub record Demand3 (short : Bool) (s : List ℕ) (w h : ℕ) : Type 0 where
-  -- a pass visits exactly the unit edges between different leaves or across that pass's cut, each once, in 01's order: `members`, `once` and `order` there
+  -- a pass visits exactly the unit edges between different leaves or across that pass's cut, each once, in the paper's order: `members`, `once` and `order` there
   pub lists : Lists short s w h
   -- row by row and left to right these edges are one list
   pub rows : (d : Pass) → RowByRow d short s w h (rowList d short s w h)

@@ -91,7 +91,7 @@ module _ (short : Bool) (s : List ℕ) (w h : ℕ) (pos : 1 ≤ w) (accepted : p
   once : (d : Pass) → Pairwise (λ e f. e ≡ f → ⊥) (edgeList d short s w h)
   once d = pairwise-imp (edgeList d short s w h) (λ e f i j g q. let z = g (ap (alongOf d) q) in let x = ap (crossOf d) q in omega arith) (across-order d)
 
-  -- ---- in 01's order
+  -- ---- in the paper's order
 
   order : (d : Pass) → Pairwise (InOrder d s w) (edgeList d short s w h)
   order d = subst (Pairwise (InOrder d s w)) (sym (by-leaves d short s w h)) (leaves-in-order short s w h pos fine d)

@@ -1,4 +1,4 @@
--- 01's sheet, width 16, height 8, splits 11110: its lists, by the walk and row by row. And two leaves of 64 side by side, with limit 5.
+-- The paper's sheet, width 16, height 8, splits 11110: its lists, by the walk and row by row. And two leaves of 64 side by side, with limit 5.
 -- Assumes nothing.
 use mathlib.Core.Bool.{true, false}
 use mathlib.Core.List.{List, [], _∷_}

@@ -1,4 +1,4 @@
--- The edges of the walk stand in 01's order, which is strict: there is one list of these edges that stands in it.
+-- The edges of the walk stand in the paper's order, which is strict: there is one list of these edges that stands in it.
 -- Assumes nothing.
 use mathlib.Core.Bool.{Bool, true, false, _&&_}
 use mathlib.Core.Logic.{_⊎_, inl, inr, ⊎-elim}

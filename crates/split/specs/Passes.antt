@@ -1,4 +1,4 @@
--- The two passes as 01 has them: the vertical one goes by the units that are done. w is the picture's width in units.
+-- The two passes as the paper has them: the vertical one goes by the units that are done. w is the picture's width in units.
 -- Assumes nothing: these are definitions.
 use mathlib.Core.Bool.{Bool, false, _&&_, _||_}
 use mathlib.Core.List.{List, [], _∷_, _++_}
