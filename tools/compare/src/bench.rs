@@ -227,8 +227,16 @@ pub fn bench(dir: &Path) -> io::Result<bool> {
     let floor: Vec<f64> = SIZES.map(|size| copied(rng, size)).to_vec();
     let derived = [1, 8, 58].map(|points| (points, tables(points)));
     fs::write(dir.join("speed.svg"), chart::draw(&all, &SIZES, &floor))?;
-    fs::write(dir.join("SPEED.md"), page(&all, &floor, &derived))?;
+    let path = dir.join("SPEED.md");
+    let below = notes(&path);
+    fs::write(path, page(&all, &floor, &derived) + &below)?;
     Ok(true)
+}
+
+/// What stands below the tables of the page that is there, from its first heading on: it was written by hand, and stays.
+fn notes(path: &Path) -> String {
+    let old = fs::read_to_string(path).unwrap_or_default();
+    old.find("\n## ").map_or(String::new(), |at| old[at..].to_string())
 }
 
 const TEXT: &str = "# Speed
