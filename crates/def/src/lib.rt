@@ -1,9 +1,7 @@
 // What every module shares: positions, the unit word, picture sizes, blocks and units by their place, and the refusals with their numbers.
 // The Rust beside it: def.rs.
 ghost use mathlib.Core.Path.{_≡_};
-ghost use mathlib.Core.Bool.{true};
-ghost use Prim.Native.Nat.{_/_, _%_, _≤_, _<_};
-ghost use lib.Dec.{eqb};
+ghost use Prim.Native.Nat.{_/_, _≤_, _<_};
 ghost use Rattle.def.specs.Answers.{answerNumber};
 ghost use Rattle.def.specs.Blocks.{blockSideOk, componentSideOk, blockOk, unitOk};
 ghost use Rattle.def.specs.Components.{scaleOf};
@@ -126,17 +124,6 @@ pub fn component_side_ok(side: usize) -> bool
     (side == 2) | (side == 4) | (side == 8) | (side == 16) | (side == 32) | (side == 64)
 }
 
-// Whether n is a multiple of a block's side. By cases: the remainder by a power of 2 that is known is a mask, and else a division.
-fn on_side(n: usize, side: usize) -> bool
-    ensures { λ r. ⌜ (blockSideOk side ≡ true → r ≡ eqb (n % side) 0) ⌝ }
-{
-    ((side == 4) & (n % 4 == 0))
-        | ((side == 8) & (n % 8 == 0))
-        | ((side == 16) & (n % 16 == 0))
-        | ((side == 32) & (n % 32 == 0))
-        | ((side == 64) & (n % 64 == 0))
-}
-
 // Whether the block of `side` at (x, y) is one of a picture of w by h: it stands on a multiple of its side, and inside.
 pub fn block_ok(w: usize, h: usize, x: Pel, y: Pel, side: usize) -> bool
     ensures { λ r. ⌜ r ≡ blockOk w h (x .0) (y .0) side ⌝ }
@@ -150,7 +137,7 @@ pub fn block_ok(w: usize, h: usize, x: Pel, y: Pel, side: usize) -> bool
     if h < side {
         return false;
     }
-    on_side(x.0, side) & on_side(y.0, side) & (x.0 <= w - side) & (y.0 <= h - side)
+    (x.0 % side == 0) & (y.0 % side == 0) & (x.0 <= w - side) & (y.0 <= h - side)
 }
 
 // Whether the unit (x, y) is one of a picture of w by h.

@@ -39,7 +39,7 @@ pub const CALLS: [Call; 12] = [
 /// The calls over whole pictures: each has all of a run's pictures.
 pub const PICTURES: [Call; 2] = [
     call("deblock", deblock_cases::draw, deblock_cases::damaged, 1000),
-    call("driver", driver::draw, driver::damaged, 1000),
+    call("driver", driver_cases::draw, driver_cases::damaged, 1000),
 ];
 
 /// Two answers to one input that are not the same.

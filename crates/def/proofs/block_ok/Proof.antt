@@ -8,7 +8,7 @@ use borrow.Author.Needs.{needs}
 use borrow.Author.Tests.{not-true, not-false, lt-leb}
 use Rattle.laws.proofs.Calls.{all-fails}
 use Rattle.def.specs.Blocks.{blockSideOk, blockOk, blockTests}
-use Rattle.def.proofs.Blocks.{ends-inside}
+use Rattle.def.proofs.Blocks.{block-side, ends-inside}
 use Rattle.def.proofs.block_ok.Statement.{statement}
 use Rattle.def.proofs.block_ok.Tie as tie
 
@@ -42,11 +42,15 @@ returns-2 c = too-wide _ _ _ _ _ (omega arith)
 returns-3 : tie.Need-returns-3
 returns-3 c = too-high _ _ _ _ _ (omega arith)
 
+rem-result : tie.Need-rem-result
+rem-result c = omega (arith, block-side _ (side-at (c .before .before .before)) .least)
+
+rem-result-2 : tie.Need-rem-result-2
+rem-result-2 c = omega (arith, block-side _ (side-at (c .before .before .before .before)) .least)
+
 returns-4 : tie.Need-returns-4
-returns-4 c =
-    let e = side-at (c .before .before .before .before .before .before) in
-    rw (c .before .before .before .on-side .ensures e, c .before .before .on-side2 .ensures e) (rest _ _ _ _ _ e (omega arith) (omega arith))
+returns-4 c = rest _ _ _ _ _ (side-at (c .before .before .before .before .before .before)) (omega arith) (omega arith)
 
 pub block-ok-spec : {M : Type 1} → statement M
 block-ok-spec =
-    tie.close (tie.spec (λ c κs. search needs) returns returns-2 returns-3 (λ c κs. search needs) (λ c κs. search needs) returns-4)
+    tie.close (tie.spec (λ c κs. search needs) returns returns-2 returns-3 rem-result rem-result-2 returns-4)

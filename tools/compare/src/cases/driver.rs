@@ -188,12 +188,3 @@ pub fn drawn(rng: &mut Rng, (w, h): (usize, usize), splits: Vec<u8>, kinds: &[u8
     picture.residuals = (0..count).map(|_| rng.range(-high - 1, high) as i16).collect();
     picture
 }
-
-pub fn draw(rng: &mut Rng) -> Box<dyn Case> {
-    let most = rng.pick(&[8, 16, 36, 72, 140]);
-    Box::new(accepted(rng, most))
-}
-
-pub fn damaged(rng: &mut Rng) -> Box<dyn Case> {
-    Box::new(damage(rng))
-}

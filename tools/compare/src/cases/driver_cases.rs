@@ -1,7 +1,9 @@
 //! Which pictures are recorded for the block driver, and what is compared beside them.
 use super::deblock_cases::{square, strip};
 use super::driver::{of, picture, Driver, KINDS, MASKS};
-use super::tape::Tape;
+use super::data::size;
+use super::driver_refusals;
+use super::tape::{Case, Tape};
 use super::trees;
 use crate::rng::Rng;
 
@@ -33,6 +35,16 @@ pub fn record(tape: &mut Tape) {
 fn any(rng: &mut Rng, (w, h): (usize, usize)) -> Driver {
     let taste = trees::taste(rng);
     picture(rng, w, h, taste)
+}
+
+pub fn draw(rng: &mut Rng) -> Box<dyn Case> {
+    let most = rng.pick(&[8, 16, 36, 72, 140]);
+    let size = (size(rng, most), size(rng, most));
+    Box::new(any(rng, size))
+}
+
+pub fn damaged(rng: &mut Rng) -> Box<dyn Case> {
+    Box::new(driver_refusals::damaged(rng))
 }
 
 /// Each kind on leaves of each side, beside and below others, and each mask, constrained and not.

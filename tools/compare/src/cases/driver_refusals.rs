@@ -191,7 +191,7 @@ fn spoil_list(rng: &mut Rng, bad: &mut Driver) {
 }
 
 /// An accepted picture with one or two things changed.
-fn damaged(rng: &mut Rng) -> Driver {
+pub fn damaged(rng: &mut Rng) -> Driver {
     let (w, h) = (size(rng, 16), size(rng, 16));
     let taste = trees::taste(rng);
     let mut case = picture(rng, w, h, taste);
