@@ -28,6 +28,10 @@ module _ {w h x y side level : ℕ} (b : Block w h x y side level) where
   pub row-back : y ≡ 4 * (y / 4)
   row-back = omega arith
 
+  -- a block of the last level is a unit
+  pub as-unit : level ≡ 4 → Block w h x y 4 4
+  as-unit e = let p : side ≡ 4 = rw e at (b .power) in rw (p, e) at b
+
   -- a block's room holds a leaf
   pub room-one : (n m : ℕ) → 3 * (n + side / 4 * (side / 4)) ≤ m → 3 * n + 3 ≤ m
   room-one n m g =

@@ -1,7 +1,8 @@
 // The split tree: the walk from a root to its leaves, and the visiting ranks. What both passes' lists of edges are is said here too; the crate `edges` writes them.
 // The Rust beside it: evc_get_split_mode and evc_split_get_part_structure in util.rs, the recursion of evc_deblock_tree in df.rs.
+ghost use mathlib.Core.List.{List};
 ghost use mathlib.Core.Path.{_≡_};
-ghost use Prim.Native.Nat.{_+_, _-_, _*_, _/_, _%_, _^_, _≤_, _<_};
+ghost use Prim.Native.Nat.{ℕ, _+_, _-_, _*_, _/_, _%_, _^_, _≤_, _<_};
 ghost use lib.ListN.{length, getD, take};
 ghost use lib.Seq.{sets};
 ghost use Rattle.def.specs.Answers.{answerNumber};
@@ -81,6 +82,20 @@ fn put_leaf(
     Walked::Done(n + 1)
 }
 
+// A part of side 4 is a unit and has no byte: it goes to the list as a leaf, unless it starts outside the picture. It stands apart from the walk, of which a call would cost more than the leaf.
+fn put_unit(w: usize, h: usize, x: Pel, y: Pel, out: &mut [u16], n: usize) -> Walked
+    requires { ⌜ Block w h (x .0) (y .0) 4 4 × (3 * n + 3 ≤ length (now out)) ⌝ }
+    ensures { λ r. ⌜ ((s : List ℕ) → Stored (walk s (w / 4) (h / 4) 0 (x .0 / 4) (y .0 / 4)) (now (out .entry)) n (now (out .exit)) r) ⌝ }
+{
+    if w <= x.0 {
+        return Walked::Done(n);
+    }
+    if h <= y.0 {
+        return Walked::Done(n);
+    }
+    put_leaf(w, h, x, y, 4, 4, out, n)
+}
+
 // evc_split_get_part_structure: where a part stands across or down, by its bit: the column's is the low one of the part's number, the row's the high one.
 fn part_at(at: Pel, half: usize, bit: usize) -> Pel
     requires { ⌜ (at .0 + half ≤ 8192) × (bit ≤ 1) ⌝ }
@@ -89,7 +104,7 @@ fn part_at(at: Pel, half: usize, bit: usize) -> Pel
     Pel(at.0 + bit * half)
 }
 
-// The leaves of the block at (x, y), in the order of the walk, which calls itself on blocks of half the side.
+// The leaves of the block at (x, y), of side 8 or more, in the order of the walk, which calls itself on blocks of half the side until they are units.
 fn walk_block(
     bytes: &[u8],
     w: usize,
@@ -101,7 +116,7 @@ fn walk_block(
     out: &mut [u16],
     n: usize,
 ) -> Walked
-    requires { ⌜ Block w h (x .0) (y .0) side level × (length (now bytes) ≡ 1024) × (3 * (n + side / 4 * (side / 4)) ≤ length (now out)) ⌝ }
+    requires { ⌜ Block w h (x .0) (y .0) side level × (level < 4) × (length (now bytes) ≡ 1024) × (3 * (n + side / 4 * (side / 4)) ≤ length (now out)) ⌝ }
     ensures { λ r. ⌜ Stored (walk (now (bytes .entry)) (w / 4) (h / 4) (4 - level) (x .0 / 4) (y .0 / 4)) (now (out .entry)) n (now (out .exit)) r ⌝ }
 {
     let px = x.0;
@@ -111,9 +126,6 @@ fn walk_block(
     }
     if h <= py {
         return Walked::Done(n);
-    }
-    if level == 4 {
-        return put_leaf(w, h, x, y, side, level, out, n);
     }
     let byte = get_split_mode(bytes, x, y, side, level);
     if byte > 1 {
@@ -128,7 +140,12 @@ fn walk_block(
     while part < 4 {
         let part_x = part_at(x, half, part % 2);
         let part_y = part_at(y, half, part / 2);
-        match walk_block(bytes, w, h, part_x, part_y, half, level + 1, out, count) {
+        let walked = if level == 3 {
+            put_unit(w, h, part_x, part_y, out, count)
+        } else {
+            walk_block(bytes, w, h, part_x, part_y, half, level + 1, out, count)
+        };
+        match walked {
             Walked::Done(met) => {
                 count = met;
             }

@@ -1,13 +1,17 @@
 -- `split::walk_block` meets its contract: it calls itself on blocks of half the side, which is the measure. The loop's invariant: the parts so far are stored.
+-- Both ways to walk a part, `put_unit` and the walk itself, leave the same behind (`part-walked`).
 -- Assumes nothing.
+use mathlib.Core.Logic.{⊎-elim}
 use mathlib.Core.Path.{_≡_, refl, _∙_}
-use Prim.Native.Nat.{ℕ, _-_, _≤_, _<_}
+use Prim.Native.Nat.{ℕ, _+_, _-_, _*_, _/_, _≤_, _<_}
 use native.Mathlib.Omega.{arith}
 use borrow.Author.Needs.{needs}
 use borrow.Fn.Kinds.{In}
 use borrow.Fn.PlainCycle.{Measures, is, falls, and}
 use lib.ListN.{length}
-use Rattle.split.proofs.Blocks.{Cut, cut, room-one, skip-x, skip-y, at-unit, at-bad, at-leaf}
+use Rattle.split.specs.Stored.{Block, Stored}
+use Rattle.split.specs.Walk.{walk}
+use Rattle.split.proofs.Blocks.{Cut, cut, as-unit, room-one, skip-x, skip-y, at-bad, at-leaf}
 use Rattle.split.proofs.Parts.{Turned, no-part, part-block, part-room, part-more, part-refused, whole}
 use Rattle.split.proofs.Stores.{stored-nothing, stored-refused, stored-as}
 use Rattle.split.proofs.walk_block.Reads as walk-block
@@ -16,6 +20,7 @@ use Rattle.split.proofs.+walk_block.Lts-walk_block as walk-block-lts
 use Rattle.split.proofs.get_split_mode.Reads as get-split-mode-reads
 use Rattle.split.proofs.part_at.Reads as part-at-reads
 use Rattle.split.proofs.put_leaf.Reads as put-leaf-reads
+use Rattle.split.proofs.put_unit.Reads as put-unit-reads
 use Rattle.split.proofs.+walk_block.{statement}
 use Rattle.split.proofs.+walk_block.Tie.{close}
 
@@ -35,17 +40,52 @@ walk-block-Inv-loop bytes w h x y side level out₀ n px py byte half count₀ p
 abbrev walk-block-μ-loop : walk-block-lts.MeasureT-loop
 walk-block-μ-loop bytes w h x y side level out₀ n px py byte half count₀ part₀ out count part = 4 - part
 
-pub +walk-block-spec : {M : Type 1} → statement M
-+walk-block-spec = close μ-walk-block λ t. walk-block-lts.spec (
-  put-leaf-reads.Asked,
-  put-leaf-reads.Learnt,
+abbrev calls : ℕ → walk-block-lts.Claims
+calls t = (
   get-split-mode-reads.Asked,
   get-split-mode-reads.Learnt,
+  put-leaf-reads.Asked,
+  put-leaf-reads.Learnt,
   part-at-reads.Asked,
   part-at-reads.Learnt,
+  put-unit-reads.Asked,
+  put-unit-reads.Learnt,
   walk-block-below t,
   walk-block.Post,
 )
+
+-- a part is about to be walked
+abbrev Next : ℕ → Type 0
+Next t = walk-block-lts.After-part-at2 (calls t) (walk-block-at t) walk-block.Post walk-block-Inv-loop walk-block-μ-loop
+
+-- it is a block of its own, and there is room for its leaves
+part-asks : (t : ℕ) (c : Next t) →
+    let a = c .before .before .before .before .before .before .before .before .before .before .before .args in
+    let p = c .before .before .before .loop in
+    Block (a .w) (a .h) (c .before .part-at .result .0) (c .part-at2 .result .0) (a .side / 2) (a .level + 1) × (3 * (p .count + a .side / 2 / 4 * (a .side / 2 / 4)) ≤ length (p .out))
+part-asks t c =
+    let v = c .before .before .before .loop .inv in
+    let l = c .before .before .loop-test .taken in
+    let p = c .before .before .before .before .before .before .before .before .before .before .before .pre .1 in
+    (part-block (v .2) _ _ _ l (c .before .part-at .ensures) (c .part-at2 .ensures), part-room (v .2) (v .3) _ l (omega (arith, v .1, p .3)))
+
+-- a part was walked: where the two ways meet
+abbrev Met : ℕ → Type 0
+Met t = walk-block-lts.Joined5 (calls t) (walk-block-at t) walk-block.Post walk-block-Inv-loop walk-block-μ-loop
+
+part-walked : (t : ℕ) (j : Met t) →
+    let a = j .before .before .before .before .before .before .before .before .before .before .before .before .args in
+    let p = j .before .before .before .before .loop in
+    (length (j .if5 .out) ≡ length (p .out))
+    × Stored (walk (a .bytes .now) (a .w / 4) (a .h / 4) (4 - (a .level + 1)) (j .before .before .part-at .result .0 / 4) (j .before .part-at2 .result .0 / 4)) (p .out) (p .count) (j .if5 .out) (j .if5 .walked)
+part-walked t j =
+    ⊎-elim
+    (λ u. rw (u .5, u .6) (u .2 .kept .1 .1 .1 .1 .0, rw (u .0 .taken) (u .2 .ensures _)))
+    (λ u. rw (u .5, u .6) (u .2 .kept .1 .1 .1 .1 .1 .1 .1 .0, u .2 .ensures))
+    (j .if5 .came)
+
+pub +walk-block-spec : {M : Type 1} → statement M
++walk-block-spec = close μ-walk-block λ t. walk-block-lts.spec (calls t)
     (walk-block-at t)
     walk-block.Post
     walk-block-Inv-loop
@@ -53,61 +93,55 @@ pub +walk-block-spec : {M : Type 1} → statement M
     -- outside the picture, to the right or below: nothing is met
     (λ c. stored-as (skip-x _ (c .before .before .before .pre .1 .0) (omega (arith, c .if1 .taken))) (stored-nothing _ _))
     (λ c. stored-as (skip-y _ (c .before .before .before .before .pre .1 .0) (c .before .if1 .left) (c .if2 .taken)) (stored-nothing _ _))
-    -- a unit. e is where the block is known to start inside
-    (λ c κs. let e = c .before .before in let p = e .before .before .before .before .pre .1 in (p .0, room-one (p .0) _ _ (p .2)))
+    -- the byte: neither 0 nor 1. e is where the block is known to start inside
+    (λ c κs. let p = c .before .before .before .before .pre .1 in omega (arith, p .0, p .1, p .2))
+    (λ c.
+    let e = c .before .before in
+    let p = e .before .before .before .before .pre .1 in
+    stored-as (at-bad _ (p .0) (e .before .if1 .left) (e .if2 .left) (p .1) _ (c .before .get-split-mode .ensures) (c .if3 .taken)) (stored-refused _ _ _))
+    -- 0: a leaf
+    (λ c κs. let p = c .before .before .before .before .before .before .before .before .pre .1 in (p .0, room-one (p .0) _ _ (p .3)))
     (λ c. c .before .before .put-leaf .kept .1 .1 .1 .1 .1 .1 .0)
     (λ c.
-    let e = c .before .before .before .before .before in
-    stored-as (at-unit _ (e .before .before .before .before .pre .1 .0) (e .before .if1 .left) (e .if2 .left) (c .before .before .before .before .if3 .taken)) (c .before .before .put-leaf .ensures))
-    -- the byte: neither 0 nor 1
-    (λ c κs. let e = c .before in omega (arith, e .before .before .before .before .pre .1 .0))
-    (λ c.
-    let e = c .before .before .before in
-    let k = e .before .before .before .before .pre .1 .0 in
-    stored-as (at-bad _ k (e .before .if1 .left) (e .if2 .left) (omega (arith, k)) _ (c .before .get-split-mode .ensures) (c .if4 .taken)) (stored-refused _ _ _))
-    -- 0: a leaf
-    (λ c κs. let e = c .before .before .before .before .before in let p = e .before .before .before .before .pre .1 in (p .0, room-one (p .0) _ _ (p .2)))
-    (λ c. c .before .before .put-leaf2 .kept .1 .1 .1 .1 .1 .1 .0)
-    (λ c.
     let g = c .before .before .before .before .before .before in
-    let e = g .before .before in
-    let k = e .before .before .before .before .pre .1 .0 in
-    stored-as (at-leaf _ k (e .before .if1 .left) (e .if2 .left) (omega (arith, k)) _ (g .get-split-mode .ensures) (c .before .before .before .before .if5 .taken)) (c .before .before .put-leaf2 .ensures))
+    let e = g .before in
+    let p = e .before .before .before .before .pre .1 in
+    stored-as (at-leaf _ (p .0) (e .before .if1 .left) (e .if2 .left) (p .1) _ (g .get-split-mode .ensures) (c .before .before .before .before .if4 .taken)) (c .before .before .put-leaf .ensures))
     -- 1: the loop over the four parts
     (λ c.
     let g = c .before .before in
-    let e = g .before .before in
-    let k = e .before .before .before .before .pre .1 .0 in
-    (omega arith, refl, cut _ k (e .before .if1 .left) (e .if2 .left) (omega (arith, k)) _ (g .get-split-mode .ensures) (omega arith), no-part _ _ _ _ _ _ _ _))
+    let e = g .before in
+    let p = e .before .before .before .before .pre .1 in
+    (omega arith, refl, cut _ (p .0) (e .before .if1 .left) (e .if2 .left) (p .1) _ (g .get-split-mode .ensures) (omega arith), no-part _ _ _ _ _ _ _ _))
     (λ c κs. omega arith)
     (λ c κs. omega arith)
-    (λ c. omega (arith, c .before .before .before .before .before .before .before .before .before .before .before .before .pre .1 .0))
-    -- what the next part asks: half the side, a block of its own, and room for its leaves
+    -- what the next part asks, as a unit
+    (λ c κs. let q = part-asks t (c .before .before) in (as-unit (q .0) (omega (arith, c .before .if5 .taken)), room-one (q .0) _ _ (q .1)))
+    -- and as a block that is walked: half the side
+    (λ c. omega (arith, c .before .before .before .before .before .before .before .before .before .before .before .before .pre .1 .1))
     (λ c κs.
-    let v = c .before .before .before .before .loop .inv in
-    let l = c .before .before .before .loop-test .taken in
-    let p = c .before .before .before .before .before .before .before .before .before .before .before .before .before .pre in (
-      omega (arith, v .2 .less, p .0),
-      (part-block (v .2) _ _ _ l (c .before .before .part-at .ensures) (c .before .part-at2 .ensures), p .1 .1, part-room (v .2) (v .3) _ l (omega (arith, v .1, p .1 .2))),
-    ))
+    let n = c .before .before in
+    let q = part-asks t n in
+    let p = n .before .before .before .before .before .before .before .before .before .before .before .pre in
+    (omega (arith, n .before .before .before .loop .inv .2 .less, p .0), (q .0, omega (arith, p .1 .1, c .before .if5 .left), p .1 .2, q .1)))
     (λ c. search needs)
     (λ c. search needs)
     -- a part that is refused ends the walk
-    (λ c. let m = c .before .before .before .before .before in m .walk-block .kept .1 .1 .1 .1 .1 .1 .1 .0 ∙ m .before .before .before .before .before .loop .inv .1)
+    (λ c. let j = c .before .before .before in part-walked t j .0 ∙ j .before .before .before .before .loop .inv .1)
     (λ c.
-    let m = c .before .before .before .before .before in
-    let v = m .before .before .before .before .before .loop .inv in
-    part-refused (v .2) (v .3) _ _ (m .before .before .before .part-at .ensures) (m .before .before .part-at2 .ensures) _ _ (m .walk-block .ensures) _ (m .before .before .before .before .loop-test .taken) (c .before .r .given .1))
+    let j = c .before .before .before in
+    let v = j .before .before .before .before .loop .inv in
+    part-refused (v .2) (v .3) _ _ (j .before .before .part-at .ensures) (j .before .part-at2 .ensures) _ _ (part-walked t j .1) _ (j .before .before .before .loop-test .taken) (c .before .walked2 .given .1))
     -- a part more
     (λ c. search needs)
     (λ c. search needs)
     (λ c.
-    let m = c .before .before .before .before .before in
-    let v = m .before .before .before .before .before .loop .inv in (
+    let j = c .before .before .before in
+    let v = j .before .before .before .before .loop .inv in (
       omega arith,
-      m .walk-block .kept .1 .1 .1 .1 .1 .1 .1 .0 ∙ v .1,
+      part-walked t j .0 ∙ v .1,
       v .2,
-      part-more (v .2) (v .3) _ _ (m .before .before .before .part-at .ensures) (m .before .before .part-at2 .ensures) _ _ (m .walk-block .ensures) _ (c .before .met .given .1),
+      part-more (v .2) (v .3) _ _ (j .before .before .part-at .ensures) (j .before .part-at2 .ensures) _ _ (part-walked t j .1) _ (c .before .walked .given .1),
     ))
     -- all four
     (λ c. c .before .loop .inv .1)

@@ -10,7 +10,7 @@ use Rattle.split.proofs.root_leaves.Tie as tie
 walk-block-requires : tie.Need-walk-block-requires
 walk-block-requires c κs =
     let p = c .before .before .before .before .pre in
-    (root-block (p .0) _ (p .2), bytes-long (p .0) _ _ (p .2) (p .1), omega (arith, p .3))
+    (root-block (p .0) _ (p .2), omega arith, bytes-long (p .0) _ _ (p .2) (p .1), omega (arith, p .3))
 
 returns : tie.Need-returns
 returns c =
