@@ -2,6 +2,7 @@
 --     by-block-side, by-component-side    a side that passes, by its cases
 --     blocked, placed    a block and a unit that pass
 --     ends-inside    the test of a block's end by its start
+--     below-side    the bits below a side are the remainder by it
 -- Assumes nothing.
 use Prim.Native.Nat.{ℕ, _+_, _-_, _/_, _%_, _≤_, _<_}
 use mathlib.Core.Path.{_≡_, refl, sym, _∙_}
@@ -9,6 +10,7 @@ use mathlib.Core.Bool.{true}
 use mathlib.Core.List.{List, [], _∷_}
 use native.Mathlib.Omega.{arith}
 use native.Mathlib.Decide.{decLe}
+use lib.Bits.{bitAnd, and-mask}
 use lib.Dec.{leb, ltb}
 use borrow.Author.Tests.{leb-true, ltb-true, eqb-true, le-leb, lt-leb}
 use Rattle.laws.proofs.Calls.{all-at, AtEach, one-of}
@@ -46,6 +48,10 @@ block-side =
         ),
       ),
     )
+
+-- a side is a power of two
+pub below-side : (x side : ℕ) → blockSideOk side ≡ true → bitAnd x (side - 1) ≡ x % side
+below-side x = by-block-side (λ side. bitAnd x (side - 1) ≡ x % side) (and-mask x 2, (and-mask x 3, (and-mask x 4, (and-mask x 5, (and-mask x 6, tt)))))
 
 pub record Blocked (w h x y side : ℕ) : Type 0 where
   pub side-ok : blockSideOk side ≡ true

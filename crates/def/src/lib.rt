@@ -124,7 +124,8 @@ pub fn component_side_ok(side: usize) -> bool
     (side == 2) | (side == 4) | (side == 8) | (side == 16) | (side == 32) | (side == 64)
 }
 
-// Whether the block of `side` at (x, y) is one of a picture of w by h: it stands on a multiple of its side, and inside.
+// Whether the block of `side` at (x, y) is one of a picture of w by h: it stands on a multiple of its side, and inside. A side is a power of
+// two, so a multiple has none of the bits below it: a mask, where a remainder would be a division.
 pub fn block_ok(w: usize, h: usize, x: Pel, y: Pel, side: usize) -> bool
     ensures { λ r. ⌜ r ≡ blockOk w h (x .0) (y .0) side ⌝ }
 {
@@ -137,7 +138,8 @@ pub fn block_ok(w: usize, h: usize, x: Pel, y: Pel, side: usize) -> bool
     if h < side {
         return false;
     }
-    (x.0 % side == 0) & (y.0 % side == 0) & (x.0 <= w - side) & (y.0 <= h - side)
+    let low = side - 1;
+    ((x.0 & low) == 0) & ((y.0 & low) == 0) & (x.0 <= w - side) & (y.0 <= h - side)
 }
 
 // Whether the unit (x, y) is one of a picture of w by h.
