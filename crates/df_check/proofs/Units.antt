@@ -1,5 +1,6 @@
 -- Number 6, over the words: the scan by flags made beforehand is the rule's, and what a scan that passed tells of each unit.
 --     scanned    the scan
+--     led    QPs below a number before which all are good
 --     unit-told    one unit: its QP, and what each lookup maps it to
 -- Assumes nothing.
 use Prim.Native.Nat.{ℕ, _/_, _^_, _≤_, _<_}
@@ -8,15 +9,17 @@ use mathlib.Core.Bool.{Bool, true, false}
 use mathlib.Core.List.{List}
 use native.Mathlib.Nat.{mod-lt}
 use native.Mathlib.Omega.{arith}
-use borrow.Author.Tests.{leb-true}
+use borrow.Author.Tests.{leb-true, ltb-true}
+use lib.Dec.{ltb}
 use lib.IntN.{ℤ}
 use lib.ListN.{length, getD}
 use lib.Pow.{pow-pos}
 use Rattle.laws.specs.Bits.{fieldOf}
 use Rattle.laws.specs.Index.{tabulate}
-use Rattle.laws.specs.Scan.{allIn}
+use Rattle.laws.specs.Scan.{allBelow, allIn}
 use Rattle.laws.proofs.Calls.{all-at}
 use Rattle.laws.proofs.Parts.{scan-alike}
+use Rattle.laws.proofs.ScanAll.{scan-pass}
 use Rattle.laws.proofs.Scans.{scan-at}
 use Rattle.laws.proofs.Tabulate.{getD-tabulate}
 use Rattle.def.specs.Word.{qpOf}
@@ -41,6 +44,12 @@ module _ (s : Settings) (table0 table1 : List ℤ) (words : List ℕ) where
   scanned good e =
       scan-alike _ _ (length words)
       (λ k p. ap (λ (l : List Bool). getD l (qpOf (getD words k 0)) false) e ∙ getD-tabulate (qpOk s table0 table1) 128 (qpOf (getD words k 0)) false (qp-few (getD words k 0)))
+
+-- words whose QPs lie before the first that is not good
+pub led : (good : List Bool) (words : List ℕ) (n : ℕ) → allBelow (λ (k : ℕ). getD good k false) n ≡ true → allIn 0 (λ (x : ℕ). ltb (qpOf x) n) words ≡ true → allIn 0 (λ (x : ℕ). getD good (qpOf x) false) words ≡ true
+led good words n e h =
+    scan-pass _ (length words)
+    (λ k p. scan-at (λ (q : ℕ). getD good q false) n (qpOf (getD words k 0)) (ltb-true (qpOf (getD words k 0)) n (scan-at (λ (i : ℕ). ltb (qpOf (getD words i 0)) n) (length words) k p h)) e)
 
 -- a QP that passes
 pub record UnitTold (s : Settings) (table0 table1 : List ℤ) (qp : ℕ) : Type 0 where

@@ -1,11 +1,12 @@
 // What deblocking refuses, and in which order: 1, 2, 3, then 4 or 5 as the walk meets them, 6, 7. The Rust takes all of it to be right.
 ghost use mathlib.Core.Path.{_≡_};
 ghost use Prim.Native.Nat.{ℕ, _≤_};
-ghost use mathlib.Core.Bool.{false};
+ghost use mathlib.Core.Bool.{true, false};
+ghost use lib.Dec.{ltb};
 ghost use lib.ListN.{getD};
 ghost use Rattle.laws.specs.Call.{Gives};
 ghost use Rattle.laws.specs.Index.{tabulate};
-ghost use Rattle.laws.specs.Scan.{allIn};
+ghost use Rattle.laws.specs.Scan.{allBelow, allIn};
 ghost use Rattle.def.specs.Word.{qpOf};
 ghost use Rattle.def.proofs.Sizes.{Sized};
 ghost use Rattle.split.specs.Edges.{vertical};
@@ -112,6 +113,35 @@ fn good_qps(table0: &[i8], table1: &[i8], s: Settings) -> [bool; 128]
     good
 }
 
+// How many QPs from 0 on are good without a gap.
+fn leading(good: &[bool; 128]) -> u32
+    ensures { λ r. ⌜ allBelow (λ (k : ℕ). getD (now (good .entry)) k false) r ≡ true ⌝ }
+{
+    let mut n = 0;
+    while n < 128 {
+        let qp = n as usize;
+        if !good[qp] {
+            return n;
+        }
+        n += 1;
+    }
+    n
+}
+
+// Whether every word's QP is below n: a comparison, which is done many words at a time.
+fn words_below(words: &[u32], n: u32) -> bool
+    ensures { λ r. ⌜ r ≡ allIn 0 (λ (x : ℕ). ltb (qpOf x) n) (now (words .entry)) ⌝ }
+{
+    let mut ok = true;
+    let mut i = 0;
+    while i < words.len() {
+        let qp = def::get_qp(words[i]) as u32;
+        ok = ok & (qp < n);
+        i += 1;
+    }
+    ok
+}
+
 // No way out at the first that fails.
 fn words_ok(words: &[u32], good: &[bool; 128]) -> bool
     ensures { λ r. ⌜ r ≡ allIn 0 (λ (x : ℕ). getD (now (good .entry)) (qpOf x) false) (now (words .entry)) ⌝ }
@@ -126,10 +156,14 @@ fn words_ok(words: &[u32], good: &[bool; 128]) -> bool
     ok
 }
 
+// Where no QP lies past a gap, as in every usual picture, the flags are not read.
 fn qps_ok(words: &[u32], table0: &[i8], table1: &[i8], s: Settings) -> bool
     ensures { λ r. ⌜ r ≡ qpsOk s (now (table0 .entry)) (now (table1 .entry)) (now (words .entry)) ⌝ }
 {
     let good = good_qps(table0, table1, s);
+    if words_below(words, leading(&good)) {
+        return true;
+    }
     words_ok(words, &good)
 }
 

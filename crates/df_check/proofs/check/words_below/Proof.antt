@@ -1,0 +1,39 @@
+-- `df_check::check::words_below` meets its contract: after i turns the flag is the test of the first i words. Assumes nothing.
+use Prim.Native.Nat.{ℕ, _-_, _≤_}
+use mathlib.Core.Path.{_≡_, sym, _∙_}
+use native.Mathlib.Omega.{arith}
+use borrow.Author.Needs.{needs}
+use denote.Ref.{now}
+use lib.Dec.{ltb}
+use lib.ListN.{length, getD}
+use Rattle.laws.specs.Scan.{allBelow}
+use Rattle.laws.proofs.Scans.{scan-none}
+use Rattle.laws.proofs.ScanAll.{scan-step}
+use Rattle.def.specs.Word.{qpOf}
+use Rattle.df_check.proofs.check.words_below.Statement.{statement}
+use Rattle.df_check.proofs.check.words_below.Tie as tie
+
+abbrev Inv-loop : tie.InvT-loop
+Inv-loop words n ok₀ i₀ ok i = (i ≤ length words) × (ok ≡ allBelow (λ (k : ℕ). ltb (qpOf (getD words k 0)) n) i)
+
+abbrev μ-loop : tie.MeasureT-loop
+μ-loop words n ok₀ i₀ ok i = length words - i
+
+loop-holds : tie.Need-loop-holds Inv-loop μ-loop
+loop-holds c = (omega arith, sym (scan-none _))
+
+loop-again : tie.Need-loop-again Inv-loop μ-loop
+loop-again c =
+    let h = c .before .before .before .loop in
+    (search needs, rw (h .inv .1, c .get-qp .ensures .0) (sym (scan-step _ _)))
+
+returns : tie.Need-returns Inv-loop μ-loop
+returns c =
+    let e : c .before .loop .i ≡ length (now (c .before .before .before .args .words)) = omega arith in
+    c .before .loop .inv .1 ∙ rw e
+
+pub words-below-spec : {M : Type 1} → statement M
+words-below-spec =
+    tie.close
+    (tie.spec Inv-loop μ-loop loop-holds (λ c. search needs) (λ c. search needs) (λ c κs. search needs) (λ c. search needs)
+    (λ c. search needs) (λ c. search needs) loop-again returns)
