@@ -3,3 +3,4 @@ pub mod Demand3
 pub mod Edges
 pub mod Lanes
 pub mod Once
+pub mod Rows

@@ -1,6 +1,6 @@
 -- What the functions of a unit's edge ask for and give, over the types of the code.
 -- Assumes nothing: these are definitions.
-use Prim.Native.Nat.{ℕ, _+_, _-_, _*_, _<_}
+use Prim.Native.Nat.{ℕ, _+_, _-_, _*_, _≤_, _<_}
 use mathlib.Core.List.{List}
 use mathlib.Core.Path.{_≡_}
 use lib.ListN.{length}
@@ -35,6 +35,11 @@ pub record Strong (m : Maps) (entries : List ℕ) (q p : ℕ) (st : Strengths) :
 -- n further lines lie in the plane
 abbrev pub Inside : Place → ℕ → List ℕ → Type 0
 Inside p n xs = p .at + n * p .next + 3 * p .step < length xs
+
+-- n lines lie side by side, so that their samples are four rows of n, and no two of the rows meet
+pub record Beside (p : Place) (n : ℕ) : Type 0 where
+  pub beside : p .next ≡ 1
+  pub room : n ≤ p .step
 
 -- n lines lie in a plane of samples, and no two of them share a place
 pub record Lying (p : Place) (n : ℕ) (xs : List ℕ) : Type 0 where

@@ -1,15 +1,17 @@
-// One unit's edge in all three planes: its lines gathered into eight lanes, filtered side by side and written back. Luma and chroma, both directions.
+// One unit's edge in all three planes: its lines gathered into eight lanes, filtered side by side and written back. Luma and chroma, both directions:
+// line by line, or row by row where the lines lie side by side.
 // The Rust beside it: df.rs, deblock_scu_hor_luma, deblock_scu_hor_chroma, deblock_scu_ver_luma, deblock_scu_ver_chroma.
 ghost use mathlib.Core.Path.{_≡_};
 ghost use mathlib.Core.List.{[], _∷_};
 ghost use Prim.Native.Nat.{_+_, _-_, _*_, _≤_, _<_};
 ghost use lib.Dec.{eqb};
-ghost use lib.ListN.{length};
+ghost use lib.ListN.{length, getD};
 ghost use Rattle.laws.specs.Call.{allOf};
 ghost use Rattle.lanes.specs.Lanes.{laneOf};
 ghost use Rattle.df_rules.specs.Window.{putIf};
 ghost use Rattle.df_rules.specs.Lanes.{samplesAt, putLine, putLines};
-ghost use Rattle.df.specs.Edges.{Inside, Lying, Gathered, Windowed};
+ghost use Rattle.df.specs.Edges.{Inside, Beside, Lying, Gathered, Windowed};
+ghost use Rattle.df.specs.Rows.{putRow, putRowIf};
 use def::Component;
 use line::Mask;
 use line::Quad;
@@ -112,17 +114,51 @@ fn scatter(s: &mut [u16], mask: Mask, t: &[u16; 32], first: usize, n: usize, p: 
     }
 }
 
-// ---- a unit's edge
+// ---- both, by rows: n lines that lie side by side
 
-// Whether no plane has a strength.
-fn quiet(st: Strengths) -> bool
-    ensures { λ r. ⌜ r ≡ allOf (eqb (st .y) 0 ∷ eqb (st .u) 0 ∷ eqb (st .v) 0 ∷ []) ⌝ }
+// A row of them: n samples of s, from `from` on, over those of r from `to` on.
+fn copy_row(r: &mut [u16], to: usize, s: &[u16], from: usize, n: usize)
+    requires { ⌜ (to + n ≤ length (now r)) × (from + n ≤ length (now s)) ⌝ }
+    ensures { λ _. ⌜ now (r .exit) ≡ putRow to n (λ k. getD (now (s .entry)) (from + k) 0) (now (r .entry)) ⌝ }
 {
-    (st.y == 0) & (st.u == 0) & (st.v == 0)
+    for k in 0..n {
+        r[to + k] = s[from + k];
+    }
 }
 
-// Four lines of luma, two of each chroma plane. Strength 0 leaves a window untouched, and so does filtering its samples at 0.
-pub(crate) fn unit(
+fn copy_row_if(r: &mut [u16], written: bool, to: usize, s: &[u16], from: usize, n: usize)
+    requires { ⌜ (to + n ≤ length (now r)) × (from + n ≤ length (now s)) ⌝ }
+    ensures { λ _. ⌜ now (r .exit) ≡ putRowIf written to n (λ k. getD (now (s .entry)) (from + k) 0) (now (r .entry)) ⌝ }
+{
+    if written {
+        copy_row(r, to, s, from, n);
+    }
+}
+
+// The lines of s from `from` on over those of r from `to` on: the rows that the mask writes. A line's samples lie `step` apart in s, and `apart` in r.
+fn copy_rows(
+    r: &mut [u16],
+    mask: Mask,
+    to: usize,
+    apart: usize,
+    s: &[u16],
+    from: usize,
+    step: usize,
+    n: usize,
+)
+    requires { ⌜ (n ≤ apart) × (to + n + 3 * apart ≤ length (now r)) × (from + n + 3 * step ≤ length (now s)) ⌝ }
+    ensures { λ _. ⌜ now (r .exit) ≡ putLines mask (λ k. samplesAt step (from + k) (now (s .entry))) apart 1 to n (now (r .entry)) ⌝ }
+{
+    copy_row_if(&mut *r, mask.a, to, s, from, n);
+    copy_row_if(&mut *r, mask.b, to + apart, s, from + step, n);
+    copy_row_if(&mut *r, mask.c, to + 2 * apart, s, from + 2 * step, n);
+    copy_row_if(&mut *r, mask.d, to + 3 * apart, s, from + 3 * step, n);
+}
+
+// ---- a unit's edge
+
+// Four lines of luma, two of each chroma plane.
+fn unit_lines(
     y: &mut [u16],
     u: &mut [u16],
     v: &mut [u16],
@@ -133,9 +169,6 @@ pub(crate) fn unit(
     requires { ⌜ Lying luma 4 (now y) × Lying chroma 2 (now u) × Lying chroma 2 (now v) ⌝ }
     ensures { λ _. ⌜ Windowed luma chroma st (now (y .entry)) (now (u .entry)) (now (v .entry)) (now (y .exit)) (now (u .exit)) (now (v .exit)) ⌝ }
 {
-    if quiet(st) {
-        return;
-    }
     let ty = gather([0; 32], &*y, 0, 4, luma);
     let tu = gather(ty, &*u, 4, 2, chroma);
     let t = gather(tu, &*v, 6, 2, chroma);
@@ -144,4 +177,53 @@ pub(crate) fn unit(
     scatter(y, line::mask_of(Component::Luma), &r, 0, 4, luma);
     scatter(u, inner, &r, 4, 2, chroma);
     scatter(v, inner, &r, 6, 2, chroma);
+}
+
+// The same where they lie side by side. A row has 4 samples in luma and 2 in chroma, numbers that stand here for the compiler to see: it copies
+// such a row at once.
+fn unit_rows(y: &mut [u16], u: &mut [u16], v: &mut [u16], luma: Place, chroma: Place, st: Strengths)
+    requires { ⌜ Beside luma 4 × Beside chroma 2 ⌝ }
+    requires { ⌜ Lying luma 4 (now y) × Lying chroma 2 (now u) × Lying chroma 2 (now v) ⌝ }
+    ensures { λ _. ⌜ Windowed luma chroma st (now (y .entry)) (now (u .entry)) (now (v .entry)) (now (y .exit)) (now (u .exit)) (now (v .exit)) ⌝ }
+{
+    let all = line::mask_of(Component::Luma);
+    let inner = line::mask_of(Component::Chroma);
+    let mut t = [0u16; 32];
+    copy_rows(&mut t, all, 0, 8, &*y, luma.at, luma.step, 4);
+    copy_rows(&mut t, all, 4, 8, &*u, chroma.at, chroma.step, 2);
+    copy_rows(&mut t, all, 6, 8, &*v, chroma.at, chroma.step, 2);
+    let r = lanes::lanes(t, [st.y, st.y, st.y, st.y, st.u, st.u, st.v, st.v]);
+    copy_rows(y, all, luma.at, luma.step, &r, 0, 8, 4);
+    copy_rows(u, inner, chroma.at, chroma.step, &r, 4, 8, 2);
+    copy_rows(v, inner, chroma.at, chroma.step, &r, 6, 8, 2);
+}
+
+// Whether no plane has a strength.
+fn quiet(st: Strengths) -> bool
+    ensures { λ r. ⌜ r ≡ allOf (eqb (st .y) 0 ∷ eqb (st .u) 0 ∷ eqb (st .v) 0 ∷ []) ⌝ }
+{
+    (st.y == 0) & (st.u == 0) & (st.v == 0)
+}
+
+// Strength 0 leaves a window untouched, and so does filtering its samples at 0. In the horizontal pass the lines lie side by side.
+pub(crate) fn unit(
+    y: &mut [u16],
+    u: &mut [u16],
+    v: &mut [u16],
+    luma: Place,
+    chroma: Place,
+    st: Strengths,
+)
+    requires { ⌜ (luma .next ≡ 1 → Beside luma 4 × Beside chroma 2) ⌝ }
+    requires { ⌜ Lying luma 4 (now y) × Lying chroma 2 (now u) × Lying chroma 2 (now v) ⌝ }
+    ensures { λ _. ⌜ Windowed luma chroma st (now (y .entry)) (now (u .entry)) (now (v .entry)) (now (y .exit)) (now (u .exit)) (now (v .exit)) ⌝ }
+{
+    if quiet(st) {
+        return;
+    }
+    if luma.next == 1 {
+        unit_rows(y, u, v, luma, chroma, st);
+        return;
+    }
+    unit_lines(y, u, v, luma, chroma, st);
 }

@@ -13,6 +13,7 @@ use Rattle.df_rules.specs.Lanes.{Apart}
 use Rattle.df_rules.proofs.Lanes.{apart-pass}
 use Rattle.df_rules.proofs.Edges.{Spot, spot, unit-q, unit-p, p-before, inside}
 use Rattle.df.proofs.Edges.{strong-at, edge-is}
+use Rattle.df.proofs.Rows.{beside-pass}
 use Rattle.df.proofs.edge.edge.Statement.{statement}
 use Rattle.df.proofs.edge.edge.Tie as tie
 
@@ -91,8 +92,10 @@ unit-requires c κs =
     let u : Inside (c .before .before .before .place2 .result) 1 (a .u .now) = subst (λ (p : Place). Inside p 1 (a .u .now)) (sym (is-chroma (c .before .before .before))) (omega (arith, f .long-u)) in
     let v : Inside (c .before .before .before .place2 .result) 1 (a .v .now) = subst (λ (p : Place). Inside p 1 (a .v .now)) (sym (is-chroma (c .before .before .before))) (omega (arith, f .long-v)) in
     let four : Apart (c .before .before .before .before .place .result .step) (c .before .before .before .before .place .result .next) 4 = subst (λ (p : Place). Apart (p .step) (p .next) 4) (sym (is-luma (c .before .before .before .before))) (apart-pass 4 (a .size .columns) (a .size .rows) (omega arith) (passOf (a .pass)) (a .across .0 / 4) (a .along .0 / 4) (k .inner) (k .across) (k .along)) in
-    let two : Apart (c .before .before .before .place2 .result .step) (c .before .before .before .place2 .result .next) 2 = subst (λ (p : Place). Apart (p .step) (p .next) 2) (sym (is-chroma (c .before .before .before))) (apart-pass 2 (a .size .columns) (a .size .rows) (omega arith) (passOf (a .pass)) (a .across .0 / 4) (a .along .0 / 4) (k .inner) (k .across) (k .along)) in
-    (record { inside = y; apart = four; all = f .all-y }, record { inside = u; apart = two; all = f .all-u }, record { inside = v; apart = two; all = f .all-v })
+    let two : Apart (c .before .before .before .place2 .result .step) (c .before .before .before .place2 .result .next) 2 = subst (λ (p : Place). Apart (p .step) (p .next) 2) (sym (is-chroma (c .before .before .before))) (apart-pass 2 (a .size .columns) (a .size .rows) (omega arith) (passOf (a .pass)) (a .across .0 / 4) (a .along .0 / 4) (k .inner) (k .across) (k .along)) in (
+      beside-pass (passOf (a .pass)) (a .size .columns) (a .size .rows) (a .across .0 / 4) (a .along .0 / 4) _ _ (k .along) (is-luma (c .before .before .before .before)) (is-chroma (c .before .before .before)),
+      (record { inside = y; apart = four; all = f .all-y }, record { inside = u; apart = two; all = f .all-u }, record { inside = v; apart = two; all = f .all-v }),
+    )
 
 -- the strengths are those of Q and P
 strong : (c : tie.After-strengths-at) → let a = c .before .before .before .before .before .before .before .before .args in let e = edgeAt (passOf (a .pass)) (a .across .0 / 4) (a .along .0 / 4) in

@@ -1,0 +1,184 @@
+-- Lines that lie side by side, written row by row.
+--     row-none, row-more    a loop that writes a row
+--     rows-lines     four rows, written one after the other, are their lines
+--     rows-copied    so are four rows that are copied
+--     rows-unit      a unit's edge by its rows
+--     beside-pass    in which pass a unit's lines lie side by side
+-- Assumes nothing.
+use Prim.Native.Nat.{ℕ, zero, suc, _+_, _*_, _≤_, _<_}
+use mathlib.Core.Path.{_≡_, refl, sym, ap, _∙_, subst}
+use mathlib.Core.Bool.{Bool, true, false}
+use mathlib.Core.List.{List}
+use native.Mathlib.Nat.{mul-one}
+use native.Mathlib.Numerals.{add-one}
+use native.Mathlib.Omega.{arith}
+use lib.ListN.{length, getD, set, length-set}
+use lib.Seq.{set-comm}
+use Rattle.def.specs.declared.Component.the-variants.{Luma, Chroma}
+use Rattle.line.specs.declared.Mask.{Mask}
+use Rattle.line.specs.declared.Quad.{Quad}
+use Rattle.line.specs.Line.{maskOf}
+use Rattle.lanes.specs.Lanes.{laneOf, lanesOf}
+use Rattle.split.specs.Edges.{Pass, vertical, horizontal}
+use Rattle.df_rules.specs.Frame.{unitsAlong}
+use Rattle.df_rules.specs.Lanes.{samplesAt, putLine, putLines}
+use Rattle.df_rules.specs.Window.{putIf}
+use Rattle.df.specs.declared.window.Place.{Place}
+use Rattle.df.specs.declared.window.Strengths.{Strengths}
+use Rattle.df.specs.Edges.{placeOf, Beside, Lying, Gathered, Windowed}
+use Rattle.df.specs.Rows.{putRow, putRowIf}
+use Rattle.df.proofs.Lanes.{gather-none, gather-more, strengthsOf, lanes-unit}
+
+-- ---- a row
+
+pub row-none : (to : ℕ) (g : ℕ → ℕ) (xs : List ℕ) → xs ≡ putRow to 0 g xs
+unfolding putRow
+row-none to g xs = refl
+
+pub row-more : (to k : ℕ) (g : ℕ → ℕ) (xs ys : List ℕ) → ys ≡ putRow to k g xs → set ys (to + k) (g k) ≡ putRow to (k + 1) g xs
+unfolding putRow
+row-more to k g xs ys e = rw (add-one k) (ap (λ (l : List ℕ). set l (to + k) (g k)) e)
+
+-- ---- four rows, and their lines
+
+-- a place before a row is written before it or after it
+set-row : (to n : ℕ) (g : ℕ → ℕ) (i v : ℕ) (xs : List ℕ) → i < to → putRow to n g (set xs i v) ≡ set (putRow to n g xs) i v
+unfolding putRow
+set-row to zero g i v xs h = refl
+set-row to (suc n) g i v xs h =
+    ap (λ (l : List ℕ). set l (to + n) (g n)) (set-row to n g i v xs h) ∙ set-comm (putRow to n g xs) i (to + n) v (g n) (λ (e : i ≡ to + n). omega arith)
+
+put-row : (w z : Bool) (to n : ℕ) (g : ℕ → ℕ) (i v : ℕ) → i < to → (xs : List ℕ) → putRowIf w to n g (putIf z i v xs) ≡ putIf z i v (putRowIf w to n g xs)
+put-row true true to n g i v h xs = set-row to n g i v xs h
+put-row true false to n g i v h xs = refl
+put-row false z to n g i v h xs = refl
+
+-- a row of one sample more
+longer : (w : Bool) (to n i : ℕ) (g : ℕ → ℕ) → to + n ≡ i → (xs : List ℕ) → putRowIf w to (suc n) g xs ≡ putIf w i (g n) (putRowIf w to n g xs)
+unfolding putRow
+longer true to n i g e xs = ap (λ (j : ℕ). set (putRow to n g xs) j (g n)) e
+longer false to n i g e xs = refl
+
+-- of no sample
+empty : (w : Bool) (to : ℕ) (g : ℕ → ℕ) (xs : List ℕ) → putRowIf w to 0 g xs ≡ xs
+unfolding putRow
+empty true to g xs = refl
+empty false to g xs = refl
+
+-- the stores a, b, c pass the rows that are written after them
+module _ (a b c d rb rc rd : List ℕ → List ℕ) (ba : (x : List ℕ) → rb (a x) ≡ a (rb x))
+    (ca : (x : List ℕ) → rc (a x) ≡ a (rc x)) (cb : (x : List ℕ) → rc (b x) ≡ b (rc x))
+    (da : (x : List ℕ) → rd (a x) ≡ a (rd x)) (db : (x : List ℕ) → rd (b x) ≡ b (rd x)) (dc : (x : List ℕ) → rd (c x) ≡ c (rd x)) where
+  passed : (x : List ℕ) → d (rd (c (rc (b (rb (a x)))))) ≡ d (c (b (a (rd (rc (rb x))))))
+  passed x =
+      ap (λ (l : List ℕ). d (rd (c (rc (b l))))) (ba x)
+      ∙ ap (λ (l : List ℕ). d (rd (c l))) (cb (a (rb x)) ∙ ap b (ca (rb x)))
+      ∙ ap d (dc (b (a (rc (rb x)))) ∙ ap c (db (a (rc (rb x))) ∙ ap b (da (rc (rb x)))))
+
+module _ (m : Mask) (q : ℕ → Quad) (step at : ℕ) where
+  -- the rows of n lines
+  abbrev ra : ℕ → List ℕ → List ℕ
+  ra n xs = putRowIf (m .a) at n (λ (k : ℕ). q k .a) xs
+
+  abbrev rb : ℕ → List ℕ → List ℕ
+  rb n xs = putRowIf (m .b) (at + step) n (λ (k : ℕ). q k .b) xs
+
+  abbrev rc : ℕ → List ℕ → List ℕ
+  rc n xs = putRowIf (m .c) (at + 2 * step) n (λ (k : ℕ). q k .c) xs
+
+  abbrev rd : ℕ → List ℕ → List ℕ
+  rd n xs = putRowIf (m .d) (at + 3 * step) n (λ (k : ℕ). q k .d) xs
+
+  pub rows-lines : (n : ℕ) (xs : List ℕ) → n ≤ step → rd n (rc n (rb n (ra n xs))) ≡ putLines m q step 1 at n xs
+  unfolding putLines
+  rows-lines zero xs h = simp empty
+  rows-lines (suc n) xs h =
+      let p = at + n * 1 in
+      longer (m .d) (at + 3 * step) n (p + 3 * step) (λ (k : ℕ). q k .d) (omega arith) _
+      ∙ ap (λ (l : List ℕ). putIf (m .d) (p + 3 * step) (q n .d) (rd n l))
+      (longer (m .c) (at + 2 * step) n (p + 2 * step) (λ (k : ℕ). q k .c) (omega arith) _
+      ∙ ap (λ (l : List ℕ). putIf (m .c) (p + 2 * step) (q n .c) (rc n l))
+      (longer (m .b) (at + step) n (p + step) (λ (k : ℕ). q k .b) (omega arith) _
+      ∙ ap (λ (l : List ℕ). putIf (m .b) (p + step) (q n .b) (rb n l)) (longer (m .a) at n p (λ (k : ℕ). q k .a) (omega arith) xs)))
+      ∙ passed (putIf (m .a) p (q n .a)) (putIf (m .b) (p + step) (q n .b)) (putIf (m .c) (p + 2 * step) (q n .c)) (putIf (m .d) (p + 3 * step) (q n .d))
+      (rb n) (rc n) (rd n)
+      (put-row (m .b) (m .a) _ n _ p (q n .a) (omega arith)) (put-row (m .c) (m .a) _ n _ p (q n .a) (omega arith)) (put-row (m .c) (m .b) _ n _ (p + step) (q n .b) (omega arith))
+      (put-row (m .d) (m .a) _ n _ p (q n .a) (omega arith)) (put-row (m .d) (m .b) _ n _ (p + step) (q n .b) (omega arith)) (put-row (m .d) (m .c) _ n _ (p + 2 * step) (q n .c) (omega arith))
+      (ra n xs)
+      ∙ ap (putLine m step p (q n)) (rows-lines n xs (omega arith))
+
+-- ---- rows of a plane as lanes, and lanes as rows
+
+put-long : (w : Bool) (i v : ℕ) (xs : List ℕ) → length (putIf w i v xs) ≡ length xs
+put-long true i v xs = length-set xs i v
+put-long false i v xs = refl
+
+lines-long : (m : Mask) (q : ℕ → Quad) (step next at n : ℕ) (xs : List ℕ) → length (putLines m q step next at n xs) ≡ length xs
+unfolding putLines
+lines-long m q step next at zero xs = refl
+lines-long m q step next at (suc n) xs = simp put-long (lines-long m q step next at n xs)
+
+-- lanes lie 8 apart, side by side
+lanes-put : (p : Place) (xs t : List ℕ) (first n : ℕ) → p .next ≡ 1 → first + n ≤ 8 → length t ≡ 32
+    → Gathered p xs t first n (putLines (maskOf Luma) (λ (k : ℕ). samplesAt (p .step) (p .at + k) xs) 8 1 first n t)
+unfolding putLines
+lanes-put p xs t first zero e h l = gather-none p xs t first
+lanes-put p xs t first (suc n) e h l =
+    let r = putLines (maskOf Luma) (λ (k : ℕ). samplesAt (p .step) (p .at + k) xs) 8 1 first n t in
+    let i : p .at + n ≡ p .at + n * p .next = rw (e, mul-one n) in
+    rw (mul-one n, ← add-one n)
+    (gather-more p xs t r first n (samplesAt (p .step) (p .at + n) xs) (omega arith) (lines-long _ _ _ _ _ n t ∙ l) (ap (λ (j : ℕ). samplesAt (p .step) j xs) i) (lanes-put p xs t first n e (omega arith) l))
+
+-- rows of s, `step` apart, copied over those of xs, `apart` from each other: the lines of s over those of xs
+pub rows-copied : (m : Mask) (to apart from step n : ℕ) (s xs x₁ x₂ x₃ x₄ : List ℕ) → n ≤ apart
+    → x₁ ≡ putRowIf (m .a) to n (λ (k : ℕ). getD s (from + k) 0) xs
+    → x₂ ≡ putRowIf (m .b) (to + apart) n (λ (k : ℕ). getD s (from + step + k) 0) x₁
+    → x₃ ≡ putRowIf (m .c) (to + 2 * apart) n (λ (k : ℕ). getD s (from + 2 * step + k) 0) x₂
+    → x₄ ≡ putRowIf (m .d) (to + 3 * apart) n (λ (k : ℕ). getD s (from + 3 * step + k) 0) x₃
+    → x₄ ≡ putLines m (λ (k : ℕ). samplesAt step (from + k) s) apart 1 to n xs
+rows-copied m to apart from step n s xs x₁ x₂ x₃ x₄ h ea eb ec ed =
+    ed ∙ (λ i. putRowIf (m .d) (to + 3 * apart) n (λ (k : ℕ). getD s (turn (3 * step) k i) 0)
+    ((ec ∙ (λ i. putRowIf (m .c) (to + 2 * apart) n (λ (k : ℕ). getD s (turn (2 * step) k i) 0)
+    ((eb ∙ (λ i. putRowIf (m .b) (to + apart) n (λ (k : ℕ). getD s (turn step k i) 0) (ea i))) i))) i))
+    ∙ rows-lines m (λ (k : ℕ). samplesAt step (from + k) s) apart to n xs h
+  where
+    turn : (j k : ℕ) → from + j + k ≡ from + k + j
+    turn j k = omega arith
+
+-- ---- a unit's edge, by rows
+
+gathered : (all : Mask) (p : Place) (xs t r : List ℕ) (first n : ℕ) → all ≡ maskOf Luma → p .next ≡ 1 → first + n ≤ 8 → length t ≡ 32
+    → r ≡ putLines all (λ (k : ℕ). samplesAt (p .step) (p .at + k) xs) 8 1 first n t → Gathered p xs t first n r
+gathered all p xs t r first n m e h l w =
+    subst (Gathered p xs t first n) (sym (w ∙ ap (λ (a : Mask). putLines a (λ (k : ℕ). samplesAt (p .step) (p .at + k) xs) 8 1 first n t) m)) (lanes-put p xs t first n e h l)
+
+-- y, u and v copied by their rows into t, filtered, and copied back
+pub rows-unit : (luma chroma : Place) (st : Strengths) (all inner : Mask) (y u v y₁ u₁ v₁ o ty tu t r : List ℕ)
+    → Beside luma 4 → Beside chroma 2 → Lying luma 4 y → Lying chroma 2 u → Lying chroma 2 v → all ≡ maskOf Luma → inner ≡ maskOf Chroma → length o ≡ 32
+    → ty ≡ putLines all (λ (k : ℕ). samplesAt (luma .step) (luma .at + k) y) 8 1 0 4 o
+    → tu ≡ putLines all (λ (k : ℕ). samplesAt (chroma .step) (chroma .at + k) u) 8 1 4 2 ty
+    → t ≡ putLines all (λ (k : ℕ). samplesAt (chroma .step) (chroma .at + k) v) 8 1 6 2 tu
+    → r ≡ lanesOf t (strengthsOf st)
+    → y₁ ≡ putLines all (λ (k : ℕ). laneOf r (0 + k)) (luma .step) 1 (luma .at) 4 y
+    → u₁ ≡ putLines inner (λ (k : ℕ). laneOf r (4 + k)) (chroma .step) 1 (chroma .at) 2 u
+    → v₁ ≡ putLines inner (λ (k : ℕ). laneOf r (6 + k)) (chroma .step) 1 (chroma .at) 2 v
+    → Windowed luma chroma st y u v y₁ u₁ v₁
+rows-unit luma chroma st all inner y u v y₁ u₁ v₁ o ty tu t r by bc ly lu lv ea ei l gy gu gv e py pu pv =
+    let ly₁ : length ty ≡ 32 = ap length gy ∙ lines-long all _ 8 1 0 4 o ∙ l in
+    let lu₁ : length tu ≡ 32 = ap length gu ∙ lines-long all _ 8 1 4 2 ty ∙ ly₁ in
+    lanes-unit luma chroma st all inner y u v y₁ u₁ v₁ o ty tu t r ly lu lv
+    (gathered all luma y o ty 0 4 ea (by .beside) (omega arith) l gy)
+    (gathered all chroma u ty tu 4 2 ea (bc .beside) (omega arith) ly₁ gu)
+    (gathered all chroma v tu t 6 2 ea (bc .beside) (omega arith) lu₁ gv) e ea ei
+    (rw (by .beside) py) (rw (bc .beside) pu) (rw (bc .beside) pv)
+
+-- only the horizontal pass has lines side by side: in the vertical the next one lies a row further on, which is an even number of samples
+pub beside-pass : (d : Pass) (w h c a : ℕ) (luma chroma : Place) → a < unitsAlong d w h → luma ≡ placeOf d (4 * w) (4 * c) (4 * a) → chroma ≡ placeOf d (2 * w) (2 * c) (2 * a)
+    → luma .next ≡ 1 → Beside luma 4 × Beside chroma 2
+beside-pass vertical w h c a luma chroma l el ec n = absurd (odd (sym (ap (λ (p : Place). p .next) el) ∙ n)) where
+  odd : 4 * w ≡ 1 → ⊥
+  odd e = omega arith
+beside-pass horizontal w h c a luma chroma l el ec n = (
+  subst (λ (p : Place). Beside p 4) (sym el) (record { beside = refl; room = omega arith }),
+  subst (λ (p : Place). Beside p 2) (sym ec) (record { beside = refl; room = omega arith }),
+)
