@@ -1,7 +1,7 @@
 -- The strength row's numbers in the code's terms: bytes that are the same, and a difference of 4 or more.
 -- Assumes nothing.
 use mathlib.Core.Path.{_≡_, refl, sym, ap, _∙_}
-use mathlib.Core.Bool.{Bool, true, false, _||_}
+use mathlib.Core.Bool.{Bool, true, false, not, _&&_, _||_}
 use Prim.Native.Nat.{ℕ, _<_}
 use native.Mathlib.Omega.{arith}
 use borrow.Author.Tests.{eqb-true, eqb-false, eq-eqb, ne-eqb}
@@ -59,20 +59,21 @@ unfolding absZ
 either-way (pos n) = or-false (leb 4 n)
 either-way (negsuc n) = sym (leb·suc-suc 3 n)
 
--- ---- the row by motion, one law for each way through it
+-- ---- the row by motion, of its four tests
 
-module _ (q p : Motion) where
-  pub in-place : (t : Bool) (r : ℕ) → t ≡ sameRefs q p → t ≡ true → r ≡ pick (anyFar q p) 2 3 → r ≡ motionRow q p
-  unfolding motionRow
-  in-place t r e y h = rw (sym e ∙ y) h
-
-  pub across : (s t : Bool) (r : ℕ) → s ≡ sameRefs q p → s ≡ false → t ≡ sameRefs q (crosswise p) → t ≡ true → r ≡ pick (anyFar q (crosswise p)) 2 3 → r ≡ motionRow q p
-  unfolding motionRow
-  across s t r e y f z h = rw (sym e ∙ y, sym f ∙ z) h
-
-  pub neither : (s t : Bool) → s ≡ sameRefs q p → s ≡ false → t ≡ sameRefs q (crosswise p) → t ≡ false → 2 ≡ motionRow q p
-  unfolding motionRow
-  neither s t e y f z = rw (sym e ∙ y, sym f ∙ z)
+-- 3 where the references are equal in place and nothing is far in place, or are equal only crosswise and nothing is far crosswise
+pub by-tests : (q p : Motion) (s t f g near : Bool) → s ≡ sameRefs q p → t ≡ sameRefs q (crosswise p) → f ≡ anyFar q p → g ≡ anyFar q (crosswise p)
+    → ((s && not f) || ((not s && t) && not g)) ≡ near → pick {A = ℕ} near 3 2 ≡ motionRow q p
+unfolding motionRow
+by-tests q p s t f g near es et ef eg e =
+    ap (λ (b : Bool). pick b 3 2) (sym e) ∙ choice s t f g ∙ (λ i. pick (es i) (pick (ef i) 2 3) (pick (et i) (pick (eg i) 2 3) 2))
+  where
+    choice : (s t f g : Bool) → _≡_ {A = ℕ} (pick ((s && not f) || ((not s && t) && not g)) 3 2) (pick s (pick f 2 3) (pick t (pick g 2 3) 2))
+    choice true t true g = refl
+    choice true t false g = refl
+    choice false true f true = refl
+    choice false true f false = refl
+    choice false false f g = refl
 
 -- ---- a unit's motion, read back from its bits
 

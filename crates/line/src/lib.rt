@@ -3,7 +3,6 @@
 ghost use mathlib.Core.Path.{_≡_};
 ghost use mathlib.Core.Bool.{cond};
 ghost use Prim.Native.Nat.{_+_, _-_, _*_, _/_, _≤_, min};
-ghost use Rattle.laws.specs.Index.{pick};
 ghost use Rattle.line.specs.Line.{lineOf, maskOf};
 ghost use Rattle.line.specs.Row.{eqZ, far, countedAs, sameRefs, anyFar, crosswise, motionRow};
 use def::Component;
@@ -193,22 +192,15 @@ fn crossed(p: Motion) -> Motion
     }
 }
 
-fn apart_row(far: bool) -> usize
-    ensures { λ r. ⌜ (r ≡ pick far 2 3) × (r ≤ 3) ⌝ }
-{
-    if far { 2 } else { 3 }
-}
-
-// The row of two units neither of which is intra or luma-coded.
+// The row of two units neither of which is intra or luma-coded. Both comparisons are made, without a branch: which of them counts
+// changes from edge to edge, so that a branch would often be guessed wrong, and that costs more than the comparisons.
 pub fn motion_row(q: Motion, p: Motion) -> usize
     ensures { λ r. ⌜ (r ≡ motionRow q p) × (r ≤ 3) ⌝ }
 {
-    if same_refs(q, p) {
-        return apart_row(any_far(q, p));
-    }
     let c = crossed(p);
-    if same_refs(q, c) {
-        return apart_row(any_far(q, c));
-    }
-    2
+    let straight = same_refs(q, p);
+    let across = same_refs(q, c);
+    let near = straight & !any_far(q, p);
+    let near_across = !straight & across & !any_far(q, c);
+    if near | near_across { 3 } else { 2 }
 }

@@ -1,27 +1,32 @@
--- `line::motion_row` meets its contract: references equal in place, crosswise, or neither. Assumes nothing.
+-- `line::motion_row` meets its contract: the row is that of the four tests, in place and crosswise. Assumes nothing.
+use Prim.Native.Nat.{ℕ}
+use mathlib.Core.Path.{_≡_, ap, _∙_}
+use mathlib.Core.Bool.{Bool, not, _&&_, _||_}
 use native.Mathlib.Omega.{arith}
 use borrow.Author.Needs.{needs}
-use Rattle.line.proofs.Rows.{in-place, across, neither}
+use Rattle.laws.specs.Index.{pick}
+use Rattle.line.specs.Row.{sameRefs, anyFar, motionRow}
+use Rattle.line.proofs.Rows.{by-tests}
 use Rattle.line.proofs.motion_row.Statement.{statement}
 use Rattle.line.proofs.motion_row.Tie as tie
 
+-- the row, of what the tests joined are
+row : (c : tie.After-any-far2) (near : Bool) → ((c .before .before .before .same-refs .result && not (c .before .any-far .result)) || ((not (c .before .before .before .same-refs .result) && c .before .before .same-refs2 .result) && not (c .any-far2 .result))) ≡ near
+    → pick {A = ℕ} near 3 2 ≡ motionRow (c .before .before .before .before .before .args .q) (c .before .before .before .before .before .args .p)
+row c near e =
+    let s = c .before .before .before in
+    let x = s .before .crossed .ensures in
+    by-tests (s .before .before .args .q) (s .before .before .args .p) _ _ _ _ near (s .same-refs .ensures)
+    (c .before .before .same-refs2 .ensures ∙ ap (sameRefs (s .before .before .args .q)) x) (c .before .any-far .ensures)
+    (c .any-far2 .ensures ∙ ap (anyFar (s .before .before .args .q)) x) e
+
 returns : tie.Need-returns
-returns c = (in-place _ _ _ _ (c .before .before .before .same-refs .ensures) (c .before .before .if1 .taken) (cc), c .apart-row .ensures .1)
+returns c = (row (c .before) _ (c .if1 .taken), omega arith)
 
 returns-2 : tie.Need-returns-2
-returns-2 c =
-    let s = c .before .before .before in (
-      across _ _ _ _ _ (s .before .before .before .same-refs .ensures) (s .before .before .if1 .left) (cc (s .same-refs2 .ensures, s .before .crossed .ensures)) (c .before .before .if2 .taken) (cc),
-      c .apart-row2 .ensures .1,
-    )
-
-returns-3 : tie.Need-returns-3
-returns-3 c =
-    let s = c .before in
-    (neither _ _ _ _ (s .before .before .before .same-refs .ensures) (s .before .before .if1 .left) (cc (s .same-refs2 .ensures, s .before .crossed .ensures)) (c .if2 .left), omega arith)
+returns-2 c = (row (c .before) _ (c .if1 .left), omega arith)
 
 pub motion-row-spec : {M : Type 1} → statement M
 motion-row-spec =
     tie.close
-    (tie.spec (λ c κs. search needs) (λ c κs. search needs) (λ c κs. search needs) returns (λ c κs. search needs) (λ c κs. search needs)
-    (λ c κs. search needs) (λ c κs. search needs) returns-2 returns-3)
+    (tie.spec (λ c κs. search needs) (λ c κs. search needs) (λ c κs. search needs) (λ c κs. search needs) (λ c κs. search needs) returns returns-2)
