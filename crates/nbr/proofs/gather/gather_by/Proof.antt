@@ -1,18 +1,21 @@
 -- `nbr::gather::gather_by` meets its contract: what is joined tells whether the run is copied. Assumes nothing.
 use mathlib.Core.Path.{_∙_}
+use native.Mathlib.Omega.{arith}
 use borrow.Author.Needs.{needs}
 use Rattle.nbr.proofs.Gathered.{samples-refused, samples-passed}
 use Rattle.nbr.proofs.gather.gather_by.Statement.{statement}
 use Rattle.nbr.proofs.gather.gather_by.Tie as tie
 
 returns : tie.Need-returns
-returns c = samples-refused _ _ (c .before .before .before .put-run .ensures .1) (c .if1 .taken)
+returns c =
+    let e = c .before .before .before in
+    samples-refused _ (e .put-run .result) (e .put-run .ensures .1) (omega arith)
 
 returns-2 : tie.Need-returns-2
 returns-2 c =
     let d = c .before .before .before .before .before in
     let e = d .before .before .before in
-    samples-passed _ _ _ (e .put-run .ensures .1) (d .if1 .left) (c .before .before .copy .ensures ∙ e .put-run .ensures .0)
+    samples-passed _ (e .put-run .result) _ (e .put-run .ensures .1) (omega arith) (c .before .before .copy .ensures ∙ e .put-run .ensures .0)
 
 pub gather-by-spec : {M : Type 1} → statement M
 gather-by-spec =
