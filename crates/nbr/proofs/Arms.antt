@@ -1,23 +1,18 @@
 -- An arm unit by unit: sample j of unit i is sample i * n + j of the arm.
 --     unit-missing, unit-sample    where the unit is not present, and where it is
 --     unit-in, unit-few    where it is, its samples lie within the plane
---     quick-small    an arm that passes without asking what is present
 -- Assumes nothing.
-use Prim.Native.Nat.{ℕ, _+_, _*_, _/_, _≤_, _<_, min}
-use mathlib.Core.Path.{_≡_, refl, _∙_, subst}
+use Prim.Native.Nat.{ℕ, _+_, _*_, _/_, _≤_, _<_}
+use mathlib.Core.Path.{_≡_, _∙_, subst}
 use mathlib.Core.Bool.{Bool, true, false}
 use mathlib.Core.List.{List, [], _∷_}
-use native.Mathlib.Nat.{mul-add-div-right, div-eq-of-lt, add-zero, mul-le-mul-right, mul-le-mul, div-lt-iff-lt-mul}
+use native.Mathlib.Nat.{mul-add-div-right, div-eq-of-lt, add-zero, mul-le-mul-right, mul-le-mul}
 use native.Mathlib.Omega.{arith}
-use native.Mathlib.Decide.{decLt}
 use borrow.Author.Tests.{ltb-true}
-use lib.Dec.{leb, ltb}
+use lib.Dec.{ltb}
 use lib.ListN.{length, getD}
-use Rattle.laws.specs.Scan.{allBelow}
 use Rattle.laws.proofs.Calls.{all-at}
 use Rattle.laws.proofs.Flat.{next-row}
-use Rattle.laws.proofs.Scans.{scan-at}
-use Rattle.laws.proofs.ScanAll.{scan-pass}
 use Rattle.nbr.specs.declared.gather.Arm.{Arm}
 use Rattle.nbr.specs.Gather.{counts}
 use Rattle.nbr.specs.Arms.{presentIn, armAt, Within}
@@ -54,32 +49,3 @@ pub unit-few : (a : Arm) (n : ℕ) (plane words : List ℕ) (constrained : Bool)
 unit-few a n plane words constrained i h e =
     let r : i < a .there = in-picture a constrained words i e in
     mul-le-mul {n₂ = 1024} {m₂ = 4} (omega (arith, h .few)) (h .small)
-
--- ---- an arm whose samples in the picture, present or not, are all small
-
-module _ (a : Arm) (n : ℕ) (constrained : Bool) (plane words : List ℕ) (units m : ℕ) (h : Within a n plane words) (e : m ≡ min (a .there) units) where
-  pub quick-few : m * n ≤ 4096
-  quick-few = mul-le-mul {n₂ = 1024} {m₂ = 4} (omega (arith, h .few)) (h .small)
-
-  pub quick-in : (j : ℕ) → j < m * n → a .from + j * a .step < length plane
-  quick-in j p = h .samples-in j (omega (arith, mul-le-mul-right {m = m} {n = a .there} n (omega arith)))
-
-  -- a sample of the arm that lies in the picture is one of those
-  in-quick : (k : ℕ) → k < units * n → k / n < a .there → k < m * n
-  in-quick k p q = go (decLt (a .there) units) where
-    go : Dec (a .there < units) → k < m * n
-    go (yes r) =
-        let f : m ≡ a .there = omega arith in
-        rw f (div-lt-iff-lt-mul (h .some) .0 q)
-    go (no r) =
-        let f : m ≡ units = omega arith in
-        rw f p
-
-  pub quick-small : allBelow (λ (j : ℕ). leb (getD plane (a .from + j * a .step) 0) 1023) (m * n) ≡ true → allBelow (λ (k : ℕ). leb (armAt a n constrained plane words k) 1023) (units * n) ≡ true
-  unfolding armAt
-  quick-small q = scan-pass _ (units * n) (λ k p. go k p (presentIn a constrained words (k / n)) refl) where
-    go : (k : ℕ) → k < units * n → (t : Bool) → presentIn a constrained words (k / n) ≡ t → leb (armAt a n constrained plane words k) 1023 ≡ true
-    go k p true f =
-        let r : k / n < a .there = in-picture a constrained words (k / n) f in
-        rw f (scan-at (λ (j : ℕ). leb (getD plane (a .from + j * a .step) 0) 1023) (m * n) k (in-quick k p r) q)
-    go k p false f = rw f

@@ -1,47 +1,101 @@
--- What gathering is given where no check refuses it, and what it then gives.
---     accepted    the block, the lent slices, the run's length and the samples
+-- Gathering by its checks: those of the form, and past them that of the samples.
+--     formed    where the form passes: the block, the lent slices and the run's length
+--     form-refused, form-passed    a call's outcome, by what the checks of its form answered
+--     samples-refused, samples-passed    and past those, by what was joined
 --     gathered-long, gathered-samples    what callers may cite of an answer of 0: the run's length, and that its elements are samples
 --     refused-kept    any other answer leaves the run
 -- Assumes nothing.
 use Prim.Native.Nat.{ℕ, _≤_, _<_}
 use mathlib.Core.Path.{_≡_, refl, sym, _∙_}
-use mathlib.Core.Bool.{true}
+use mathlib.Core.Bool.{Bool, true, false}
 use mathlib.Core.List.{List}
 use native.Mathlib.Omega.{arith}
-use borrow.Author.Tests.{eqb-true}
+use borrow.Author.Tests.{eqb-true, le-leb, lt-leb}
+use lib.Dec.{eqb}
 use lib.ListN.{length, getD}
+use Rattle.laws.specs.Call.{unless}
 use Rattle.def.specs.Answers.{answerNumber, afterChecks}
+use Rattle.def.specs.Blocks.{blockOk}
+use Rattle.def.specs.Picture.{sizeOk}
+use Rattle.def.specs.declared.Refusal.{Refusal}
 use Rattle.def.specs.declared.Refusal.the-variants.{Size, Length, Sample, Block}
 use Rattle.def.specs.declared.Answer.{Answer}
 use Rattle.def.specs.declared.Answer.the-variants.{Done, Refused}
 use Rattle.def.proofs.Answers.{number-some}
 use Rattle.def.proofs.Ladders.{passes}
-use Rattle.nbr.specs.Gather.{Around, Input, runLength, samplesOk, checkOf, check, refused, done, outcome}
+use Rattle.samples.specs.Samples.{sampleOk}
+use Rattle.nbr.specs.Gather.{Around, Input, Outcome, runLength, runOf, lengthsOk, samplesOk, checkOf, check, refused, done, outcome}
+use Rattle.nbr.specs.Checks.{formOf, samplesCheck, gathered}
 use Rattle.nbr.specs.Arms.{BlockOf, Lent}
 use Rattle.nbr.proofs.Runs.{lent-of, run-long, run-samples}
 
-pub record Accepted (i : Around) (run : ℕ) : Type 0 where
+-- what the checks of the form find
+abbrev form : Around → ℕ → Answer
+form i run = formOf (i .component) (i .w) (i .h) (i .x) (i .y) (i .side) (length (i .plane)) (length (i .words)) run
+
+pub record Formed (i : Around) (run : ℕ) : Type 0 where
   pub block : BlockOf (i .w) (i .h) (i .x) (i .y) (i .side)
   pub lent : Lent (i .component) (i .w) (i .h) (i .plane) (i .words)
   pub run-whole : run ≡ runLength (i .component) (i .side)
-  pub samples : samplesOk i ≡ true
 
-pub accepted : (i : Around) (run : ℕ) → checkOf i run ≡ Done → Accepted i run
-unfolding checkOf
-accepted i run e =
+pub formed : (i : Around) (run : ℕ) → form i run ≡ Done → Formed i run
+unfolding formOf
+formed i run e =
     let p = passes _ Size _ e in
     let q = passes _ Length _ (p .rest) in
     let r = passes _ Block _ (q .rest) in
     let s = passes _ Length _ (r .rest) in
-    let t = passes _ Sample _ (s .rest) in
     record {
       block = record { size = p .holds; block = r .holds };
       lent = lent-of _ _ _ _ _ (q .holds);
       run-whole = eqb-true _ _ (s .holds);
-      samples = t .holds;
     }
 
+-- ---- the rule's checks are those of the form and then that of the samples
+
+in-turn : (a b c d : Bool) (k : Answer) → unless a (Refused Size) (unless b (Refused Length) (unless c (Refused Block) (unless d (Refused Length) k))) ≡ afterChecks Refused k (unless a (Refused Size) (unless b (Refused Length) (unless c (Refused Block) (unless d (Refused Length) Done))))
+in-turn false b c d k = refl
+in-turn true false c d k = refl
+in-turn true true false d k = refl
+in-turn true true true false k = refl
+in-turn true true true true k = refl
+
+check-is : (i : Around) (run : ℕ) → checkOf i run ≡ afterChecks Refused (samplesCheck i) (form i run)
+unfolding checkOf formOf
+check-is i run =
+    in-turn (sizeOk (i .w) (i .h)) (lengthsOk (i .component) (i .w) (i .h) (length (i .plane)) (length (i .words))) (blockOk (i .w) (i .h) (i .x) (i .y) (i .side))
+    (eqb run (runLength (i .component) (i .side))) (samplesCheck i)
+
+module _ (i : Input) where
+  abbrev form-of : Answer
+  form-of = form (i .around) (length (i .run))
+
+  -- a is what the code's checks of the form answered
+  pub form-refused : (a : Answer) (r : Refusal) → a ≡ form-of → a ≡ Refused r → refused i r ≡ outcome i
+  unfolding outcome
+  form-refused a r e q = rw (check-is (i .around) (length (i .run)), sym e ∙ q)
+
+  pub form-passed : (a : Answer) → a ≡ form-of → a ≡ Done → gathered i ≡ outcome i
+  unfolding outcome gathered
+  form-passed a e q = rw (check-is (i .around) (length (i .run)), sym e ∙ q)
+
+  -- and `all` what was joined
+  pub samples-refused : (all : ℕ) → sampleOk all ≡ samplesOk (i .around) → 1023 < all → refused i Sample ≡ gathered i
+  unfolding gathered
+  samples-refused all e h = rw (sym e ∙ lt-leb all 1023 h)
+
+  pub samples-passed : (all : ℕ) (l : List ℕ) → sampleOk all ≡ samplesOk (i .around) → all ≤ 1023 → l ≡ runOf (i .around) → _≡_ {A = Outcome} (record { number = 0; run = l }) (gathered i)
+  unfolding gathered
+  samples-passed all l e h q = rw (sym e ∙ le-leb all 1023 h, q)
+
 -- ---- the promises
+
+past-form : (a k : Answer) → afterChecks Refused k a ≡ Done → k ≡ Done
+past-form Done k e = e
+past-form (Refused r) k e = cc
+
+samples-hold : (i : Around) (run : ℕ) → checkOf i run ≡ Done → samplesOk i ≡ true
+samples-hold i run e = passes _ Sample Done (past-form (form i run) _ (sym (check-is i run) ∙ e)) .holds
 
 module _ (i : Input) where
   abbrev after : Answer → List ℕ
@@ -55,7 +109,7 @@ module _ (i : Input) where
   long-after (Refused r) n = absurd (omega (arith, number-some r))
 
   samples-after : (a : Answer) → check i ≡ a → answerNumber a ≡ 0 → (k : ℕ) → k < long → getD (after a) k 0 ≤ 1023
-  samples-after Done e n = run-samples (i .around) (accepted (i .around) (length (i .run)) e .samples)
+  samples-after Done e n = run-samples (i .around) (samples-hold (i .around) (length (i .run)) e)
   samples-after (Refused r) e n = absurd (omega (arith, number-some r))
 
   number-after : (a : Answer) → afterChecks (refused i) (done i) a .number ≡ answerNumber a

@@ -4,6 +4,7 @@ pub mod Parts
 pub mod Arms
 pub mod Sides
 pub mod Around
+pub mod Puts
 pub mod Runs
 pub mod Gathered
 pub mod Once

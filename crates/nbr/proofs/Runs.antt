@@ -1,37 +1,30 @@
--- The whole run from its three arms: written one after the other, and scanned one after the other.
---     run-made, samples-made
+-- The whole run from its three arms, written one after the other and joined.
+--     run-made, run-of
 --     run-long, run-samples    what callers may cite: the run's length, and that its elements are samples
 -- Assumes nothing.
 use Prim.Native.Nat.{ℕ, _+_, _-_, _*_, _/_, _≤_, _<_}
-use mathlib.Core.Path.{_≡_, refl, sym, ap, _∙_}
-use mathlib.Core.Bool.{Bool, true, _&&_}
+use mathlib.Core.Path.{_≡_, refl, sym, _∙_}
+use mathlib.Core.Bool.{true}
 use mathlib.Core.List.{List}
 use native.Mathlib.Nat.{zero-add}
 use native.Mathlib.Omega.{arith}
 use borrow.Author.Tests.{lt-ltb, le-ltb, leb-true, eqb-true}
+use lib.Bits.{bitOr}
 use lib.Dec.{leb}
 use lib.ListN.{length, getD}
-use Rattle.laws.specs.Plane.{withRow}
-use Rattle.laws.specs.Scan.{allBelow}
 use Rattle.laws.proofs.Calls.{all-at}
 use Rattle.laws.proofs.Tabulate.{is-tabulate, length-tabulate, getD-tabulate}
-use Rattle.laws.proofs.Planes.{Rowed, rowed-none}
 use Rattle.laws.proofs.Scans.{scan-at}
-use Rattle.laws.proofs.Parts.{rowed-part, scan-parts, scan-alike}
 use Rattle.def.specs.declared.Component.{Component}
+use Rattle.samples.specs.Samples.{sampleOk}
+use Rattle.samples.proofs.Samples.{joined}
 use Rattle.nbr.specs.Gather.{Around, unitSide, sideOf, runAt, runOf, runLength, samplesOk, lengthTests, lengthsOk}
 use Rattle.nbr.specs.declared.gather.Arm.{Arm}
+use Rattle.nbr.specs.Puts.{Put}
 use Rattle.nbr.specs.Arms.{armAt, Within, leftArm, cornerArm, upArm, BlockOf, Lent}
 use Rattle.nbr.proofs.Sides.{scaled-le, unit-sided}
+use Rattle.nbr.proofs.Puts.{putting-none, putting-part}
 use Rattle.nbr.proofs.Around.{Beside, beside, left-is, corner-is, up-is, left-within, corner-within, up-within}
-
--- a part more of a list that is written from its start; it begins at `at`, and t elements then stand
-next-part : (g f : ℕ → ℕ) (l₀ l : List ℕ) (c m at t : ℕ) → at ≡ c → t ≡ c + m → t ≤ length l₀ → ((j : ℕ) → j < m → f j ≡ g (c + j)) → Rowed 0 0 g l₀ l c → Rowed 0 0 g l₀ (withRow 0 at m f l) t
-next-part g f l₀ l c m at t p q h same r =
-    rw (p, q) (rw (zero-add c) at (rowed-part 0 0 g l₀ l c m f (omega arith) same r))
-
-abbrev small : (ℕ → ℕ) → ℕ → Bool
-small f k = leb (f k) 1023
 
 module _ (i : Around) (b : Beside (i .component) (i .w) (i .h) (i .x) (i .y) (i .side)) where
   abbrev n : ℕ
@@ -71,22 +64,20 @@ module _ (i : Around) (b : Beside (i .component) (i .w) (i .h) (i .x) (i .y) (i 
       let f : 2 * n + 1 + j - 2 * n ≡ j + 1 = omega arith in
       up-is i b j ∙ sym (rw (le-ltb (2 * n + 1 + j) (2 * n) (omega arith), f))
 
-  pub run-made : (l : List ℕ) → length l ≡ runLength (i .component) (i .side) → withRow 0 (2 * n + 1) m up (withRow 0 (2 * n) (1 * 1) corner (withRow 0 0 m left l)) ≡ runOf i
-  unfolding runOf
-  run-made l e =
-      let r = next-part (runAt i) left l l 0 m 0 (2 * n) refl (omega (arith, m-is)) (omega arith) left-run (rowed-none 0 0 (runAt i) l) in
-      let s = next-part (runAt i) corner l _ (2 * n) (1 * 1) (2 * n) (2 * n + 1) refl refl (omega arith) corner-run r in
-      let t = next-part (runAt i) up l _ (2 * n + 1) m (2 * n + 1) (runLength (i .component) (i .side)) refl (omega (arith, m-is)) (omega arith) up-run s in
-      is-tabulate (runAt i) (runLength (i .component) (i .side)) _ 0 (t .long ∙ e) (λ k p. rw (zero-add k) at (t .done k p))
-
-  pub samples-made : ((allBelow (small left) m && allBelow (small corner) (1 * 1)) && allBelow (small up) m) ≡ samplesOk i
-  unfolding samplesOk
-  samples-made =
-      let total : runLength (i .component) (i .side) ≡ 2 * n + 1 + m = omega (arith, m-is) in
-      let p : allBelow (small left) m ≡ allBelow (small (runAt i)) (2 * n) = scan-alike (small left) (small (runAt i)) m (λ k q. ap (λ (z : ℕ). leb z 1023) (rw (zero-add k) at (left-run k q))) ∙ rw m-is in
-      let q = scan-alike (small corner) (λ (k : ℕ). small (runAt i) (2 * n + k)) (1 * 1) (λ k q. ap (λ (z : ℕ). leb z 1023) (corner-run k q)) in
-      let r = scan-alike (small up) (λ (k : ℕ). small (runAt i) (2 * n + 1 + k)) m (λ k q. ap (λ (z : ℕ). leb z 1023) (up-run k q)) in
-      rw (p, q, r) (sym (rw total (scan-parts (small (runAt i)) (2 * n + 1) m ∙ rw (scan-parts (small (runAt i)) (2 * n) 1))))
+  -- what is written into l arm by arm, and joined, is the run
+  pub run-made :
+      (l l₁ l₂ l₃ : List ℕ) (d e f : ℕ)
+      → length l ≡ runLength (i .component) (i .side)
+      → Put 0 m left l l₁ d
+      → Put (2 * n) (1 * 1) corner l₁ l₂ e
+      → Put (2 * n + 1) m up l₂ l₃ f
+      → (l₃ ≡ runOf i) × (sampleOk (bitOr (bitOr d e) f) ≡ samplesOk i)
+  unfolding runOf samplesOk
+  run-made l l₁ l₂ l₃ d e f long h₁ h₂ h₃ =
+      let r = putting-part 0 (runAt i) l l l₁ 0 0 0 m (2 * n) d d left refl (omega (arith, m-is)) (omega arith) left-run refl h₁ (putting-none 0 (runAt i) l) in
+      let s = putting-part 0 (runAt i) l l₁ l₂ d (2 * n) (2 * n) (1 * 1) (2 * n + 1) e (bitOr d e) corner (sym (zero-add (2 * n))) refl (omega arith) corner-run (joined d e) h₂ r in
+      let t = putting-part 0 (runAt i) l l₂ l₃ (bitOr d e) (2 * n + 1) (2 * n + 1) m (runLength (i .component) (i .side)) f (bitOr (bitOr d e) f) up (sym (zero-add (2 * n + 1))) (omega (arith, m-is)) (omega arith) up-run (joined (bitOr d e) f) h₃ s in
+      (is-tabulate (runAt i) (runLength (i .component) (i .side)) l₃ 0 (t .rows .long ∙ long) (λ k p. rw (zero-add k) at (t .rows .done k p)), t .tested)
 
 -- ---- the same, from what the code computed: the three arms, a unit's side and the block's
 
@@ -94,11 +85,15 @@ module _ (i : Around) (block : BlockOf (i .w) (i .h) (i .x) (i .y) (i .side)) (l
   abbrev of : Arm → ℕ → ℕ → ℕ
   of a n k = armAt a n (i .constrained) (i .plane) (i .words) k
 
-  pub run-of : (n : ℕ) → n ≡ sideOf (i .component) (i .side) → (r₀ r₁ r₂ r₃ : List ℕ) → length r₀ ≡ runLength (i .component) (i .side) → r₁ ≡ withRow 0 0 (i .side / 2 * u) (of l u) r₀ → r₂ ≡ withRow 0 (2 * n) (1 * 1) (of c 1) r₁ → r₃ ≡ withRow 0 (2 * n + 1) (i .side / 2 * u) (of p u) r₂ → r₃ ≡ runOf i
-  run-of n en r₀ r₁ r₂ r₃ long e₁ e₂ e₃ = rw (e₃, e₂, e₁, en, eu, el, ec, ep) (run-made i (beside _ _ _ _ _ _ block) r₀ long)
-
-  pub samples-of : (s t v : Bool) → s ≡ allBelow (small (of l u)) (i .side / 2 * u) → t ≡ allBelow (small (of c 1)) (1 * 1) → v ≡ allBelow (small (of p u)) (i .side / 2 * u) → ((s && t) && v) ≡ samplesOk i
-  samples-of s t v f g h = rw (f, g, h, eu, el, ec, ep) (samples-made i (beside _ _ _ _ _ _ block))
+  pub run-of :
+      (n : ℕ) → n ≡ sideOf (i .component) (i .side) → (r₀ r₁ r₂ r₃ : List ℕ) (d e f : ℕ)
+      → length r₀ ≡ runLength (i .component) (i .side)
+      → Put 0 (i .side / 2 * u) (of l u) r₀ r₁ d
+      → Put (2 * n) (1 * 1) (of c 1) r₁ r₂ e
+      → Put (2 * n + 1) (i .side / 2 * u) (of p u) r₂ r₃ f
+      → (r₃ ≡ runOf i) × (sampleOk (bitOr (bitOr d e) f) ≡ samplesOk i)
+  run-of n en r₀ r₁ r₂ r₃ d e f long h₁ h₂ h₃ =
+      run-made i (beside _ _ _ _ _ _ block) r₀ r₁ r₂ r₃ d e f long (rw (el, eu) at h₁) (rw (ec, en) at h₂) (rw (ep, eu, en) at h₃)
 
 -- a plane and words that pass
 pub lent-of : (c : Component) (w h : ℕ) (plane words : List ℕ) → lengthsOk c w h (length plane) (length words) ≡ true → Lent c w h plane words

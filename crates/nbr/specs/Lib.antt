@@ -1,4 +1,6 @@
 pub mod Units
 pub mod Ranks
 pub mod Gather
+pub mod Checks
+pub mod Puts
 pub mod Arms

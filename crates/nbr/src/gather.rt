@@ -1,13 +1,14 @@
 // Neighbour gathering: evc_get_nbr_b of ipred.rs. The Rust's three loops are one over an arm, with a start and a stride.
 ghost use mathlib.Core.Path.{_≡_};
-ghost use Prim.Native.Nat.{ℕ, _+_, _*_, _≤_, _<_, min};
+ghost use Prim.Native.Nat.{ℕ, _+_, _*_, _≤_, _<_};
 ghost use lib.ListN.{length, getD};
 ghost use Rattle.laws.specs.Plane.{withRow};
-ghost use Rattle.laws.specs.Scan.{allBelow};
-ghost use lib.Dec.{leb};
 ghost use Rattle.laws.specs.Call.{Gives};
 ghost use Rattle.def.specs.Answers.{answerNumber};
-ghost use Rattle.nbr.specs.Gather.{runLength, runOf, samplesOk, lengthsOk, checkOf, outcome};
+ghost use Rattle.samples.specs.Samples.{sampleOk};
+ghost use Rattle.nbr.specs.Gather.{runLength, runOf, samplesOk, lengthsOk, outcome};
+ghost use Rattle.nbr.specs.Checks.{formOf, gathered};
+ghost use Rattle.nbr.specs.Puts.{Put};
 ghost use Rattle.nbr.specs.Arms.{presentIn, armAt, Within, noArm, leftOf, cornerOf, upOf, Stands, LentTo, aroundOf};
 use def::Answer;
 use def::Component;
@@ -49,19 +50,24 @@ fn put_missing(run: &mut [u16], to: usize, n: usize)
     }
 }
 
-// n samples of the plane, `step` apart from `from`, into run from `to`.
-fn put_samples(run: &mut [u16], to: usize, plane: &[u16], from: usize, step: usize, n: usize)
+// n samples of the plane, `step` apart from `from`, into run from `to`; the answer is them joined by `|`.
+// What is joined is at most 1023 exactly where each sample is, as 1023 is 2^10 - 1: so the samples are read once, and tested once.
+fn put_samples(run: &mut [u16], to: usize, plane: &[u16], from: usize, step: usize, n: usize) -> u16
     requires { ⌜ (to + n ≤ length (now run)) × ((j : ℕ) → j < n → from + j * step < length (now plane)) ⌝ }
-    ensures { λ _. ⌜ now (run .exit) ≡ withRow 0 to n (λ (j : ℕ). getD (now (plane .entry)) (from + j * step) 0) (now (run .entry)) ⌝ }
+    ensures { λ r. ⌜ Put to n (λ (j : ℕ). getD (now (plane .entry)) (from + j * step) 0) (now (run .entry)) (now (run .exit)) r ⌝ }
 {
+    let mut all: u16 = 0;
     let mut j = 0;
     while j < n {
-        run[to + j] = plane[from + j * step];
+        let sample = plane[from + j * step];
+        run[to + j] = sample;
+        all = all | sample;
         j += 1;
     }
+    all
 }
 
-// Unit i of an arm into run from `to`: its n samples, or as many missing ones. Four is told apart so that its loops have a length that is known.
+// Unit i of an arm into run from `to`: its n samples, joined, or as many missing ones, which join nothing.
 fn put_unit(
     plane: &[u16],
     map_scu: &[u32],
@@ -71,27 +77,42 @@ fn put_unit(
     constrained: bool,
     run: &mut [u16],
     to: usize,
-)
+) -> u16
     requires { ⌜ Within arm n (now plane) (now «map_scu») × (to + n ≤ length (now run)) ⌝ }
-    ensures { λ _. ⌜ now (run .exit) ≡ withRow 0 to n (λ (j : ℕ). armAt arm n constrained (now (plane .entry)) (now («map_scu» .entry)) (i * n + j)) (now (run .entry)) ⌝ }
+    ensures { λ r. ⌜ Put to n (λ (j : ℕ). armAt arm n constrained (now (plane .entry)) (now («map_scu» .entry)) (i * n + j)) (now (run .entry)) (now (run .exit)) r ⌝ }
 {
     if !present(map_scu, arm, i, constrained) {
-        if n == 4 {
-            put_missing(run, to, 4);
-            return;
-        }
         put_missing(run, to, n);
-        return;
+        return 0;
     }
     let from = arm.from + i * n * arm.step;
-    if n == 4 {
-        put_samples(run, to, plane, from, arm.step, 4);
-        return;
-    }
-    put_samples(run, to, plane, from, arm.step, n);
+    put_samples(run, to, plane, from, arm.step, n)
 }
 
-// An arm of `units` units of n samples, into run from `to`.
+// An arm of `units` units of n samples, joined, into run from `to`.
+fn put_units(
+    plane: &[u16],
+    map_scu: &[u32],
+    arm: Arm,
+    units: usize,
+    n: usize,
+    constrained: bool,
+    run: &mut [u16],
+    to: usize,
+) -> u16
+    requires { ⌜ Within arm n (now plane) (now «map_scu») × (to + units * n ≤ length (now run)) ⌝ }
+    ensures { λ r. ⌜ Put to (units * n) (armAt arm n constrained (now (plane .entry)) (now («map_scu» .entry))) (now (run .entry)) (now (run .exit)) r ⌝ }
+{
+    let mut all: u16 = 0;
+    let mut i = 0;
+    while i < units {
+        all = all | put_unit(plane, map_scu, arm, i, n, constrained, run, to + i * n);
+        i += 1;
+    }
+    all
+}
+
+// The same. A unit's samples are told apart here, so that the loops over them have a length that is known.
 fn put_arm(
     plane: &[u16],
     map_scu: &[u32],
@@ -101,93 +122,17 @@ fn put_arm(
     constrained: bool,
     run: &mut [u16],
     to: usize,
-)
-    requires { ⌜ Within arm n (now plane) (now «map_scu») × (to + units * n ≤ length (now run)) ⌝ }
-    ensures { λ _. ⌜ now (run .exit) ≡ withRow 0 to (units * n) (armAt arm n constrained (now (plane .entry)) (now («map_scu» .entry))) (now (run .entry)) ⌝ }
+) -> u16
+    requires { ⌜ Within arm n (now plane) (now «map_scu») × (to + units * n ≤ length (now run)) × ((n ≡ 4 → ⊥) → (n ≡ 2 → ⊥) → n ≡ 1) ⌝ }
+    ensures { λ r. ⌜ Put to (units * n) (armAt arm n constrained (now (plane .entry)) (now («map_scu» .entry))) (now (run .entry)) (now (run .exit)) r ⌝ }
 {
-    let mut i = 0;
-    while i < units {
-        put_unit(plane, map_scu, arm, i, n, constrained, run, to + i * n);
-        i += 1;
+    if n == 4 {
+        put_units(plane, map_scu, arm, units, 4, constrained, run, to)
+    } else if n == 2 {
+        put_units(plane, map_scu, arm, units, 2, constrained, run, to)
+    } else {
+        put_units(plane, map_scu, arm, units, 1, constrained, run, to)
     }
-}
-
-// Whether n samples of the plane, `step` apart from `from`, are at most 1023.
-fn samples_small(plane: &[u16], from: usize, step: usize, n: usize) -> bool
-    requires { ⌜ ((j : ℕ) → j < n → from + j * step < length (now plane)) ⌝ }
-    ensures { λ r. ⌜ r ≡ allBelow (λ (j : ℕ). leb (getD (now (plane .entry)) (from + j * step) 0) 1023) n ⌝ }
-{
-    let mut small = true;
-    let mut j = 0;
-    while j < n {
-        small = small & (plane[from + j * step] <= 1023);
-        j += 1;
-    }
-    small
-}
-
-// Whether those of unit i of an arm are, where it is present.
-fn unit_small(
-    plane: &[u16],
-    map_scu: &[u32],
-    arm: Arm,
-    i: usize,
-    n: usize,
-    constrained: bool,
-) -> bool
-    requires { ⌜ Within arm n (now plane) (now «map_scu») ⌝ }
-    ensures { λ r. ⌜ r ≡ allBelow (λ (j : ℕ). leb (armAt arm n constrained (now (plane .entry)) (now («map_scu» .entry)) (i * n + j)) 1023) n ⌝ }
-{
-    if !present(map_scu, arm, i, constrained) {
-        return true;
-    }
-    samples_small(plane, arm.from + i * n * arm.step, arm.step, n)
-}
-
-// Whether those of an arm of `units` units are, one unit after the other.
-fn units_small(
-    plane: &[u16],
-    map_scu: &[u32],
-    arm: Arm,
-    units: usize,
-    n: usize,
-    constrained: bool,
-) -> bool
-    requires { ⌜ Within arm n (now plane) (now «map_scu») ⌝ }
-    ensures { λ r. ⌜ r ≡ allBelow (λ (k : ℕ). leb (armAt arm n constrained (now (plane .entry)) (now («map_scu» .entry)) k) 1023) (units * n) ⌝ }
-{
-    let mut small = true;
-    let mut i = 0;
-    while i < units {
-        small = small & unit_small(plane, map_scu, arm, i, n, constrained);
-        i += 1;
-    }
-    small
-}
-
-fn least(a: usize, b: usize) -> usize
-    ensures { λ r. ⌜ r ≡ min a b ⌝ }
-{
-    if a < b { a } else { b }
-}
-
-// The same. Where all that lies in the picture is small, present or not, no unit is asked.
-fn arm_small(
-    plane: &[u16],
-    map_scu: &[u32],
-    arm: Arm,
-    units: usize,
-    n: usize,
-    constrained: bool,
-) -> bool
-    requires { ⌜ Within arm n (now plane) (now «map_scu») ⌝ }
-    ensures { λ r. ⌜ r ≡ allBelow (λ (k : ℕ). leb (armAt arm n constrained (now (plane .entry)) (now («map_scu» .entry)) k) 1023) (units * n) ⌝ }
-{
-    let there = least(arm.there, units);
-    if samples_small(plane, arm.from, arm.step, there * n) {
-        return true;
-    }
-    units_small(plane, map_scu, arm, units, n, constrained)
 }
 
 // ---- the three arms of a block
@@ -310,68 +255,88 @@ fn lengths_ok(block: Block, plane: usize, words: usize) -> bool
     (plane == w * h) & (words == (block.w / 4) * (block.h / 4))
 }
 
-// Whether every sample to be gathered is at most 1023.
-fn samples_ok(plane: &[u16], map_scu: &[u32], block: Block, constrained: bool) -> bool
-    requires { ⌜ Stands block × LentTo block (now plane) (now «map_scu») ⌝ }
-    ensures { λ r. ⌜ r ≡ samplesOk (aroundOf block (now (plane .entry)) (now («map_scu» .entry)) constrained) ⌝ }
-{
-    let component = block.component;
-    let n = def::in_component(component, 4);
-    let units = block.side / 2;
-    let left = arm_small(plane, map_scu, left_arm(block), units, n, constrained);
-    let corner = arm_small(plane, map_scu, corner_arm(block), 1, 1, constrained);
-    let up = arm_small(plane, map_scu, up_arm(block), units, n, constrained);
-    left & corner & up
-}
-
-// The run, past the checks: left downwards, the corner, up rightwards.
-fn put_run(plane: &[u16], map_scu: &[u32], block: Block, constrained: bool, run: &mut [u16])
+// The run, past the checks of its form: left downwards, the corner, up rightwards. The answer is all of it joined.
+fn put_run(plane: &[u16], map_scu: &[u32], block: Block, constrained: bool, run: &mut [u16]) -> u16
     requires { ⌜ Stands block × LentTo block (now plane) (now «map_scu») × (length (now run) ≡ runLength (block .component) (block .side)) ⌝ }
-    ensures { λ _. ⌜ now (run .exit) ≡ runOf (aroundOf block (now (plane .entry)) (now («map_scu» .entry)) constrained) ⌝ }
+    ensures { λ r. ⌜ (now (run .exit) ≡ runOf (aroundOf block (now (plane .entry)) (now («map_scu» .entry)) constrained)) × (sampleOk r ≡ samplesOk (aroundOf block (now (plane .entry)) (now («map_scu» .entry)) constrained)) ⌝ }
 {
     let component = block.component;
     let n = def::in_component(component, 4);
     let units = block.side / 2;
-    let corner = 2 * def::in_component(component, block.side);
-    put_arm(
-        plane,
-        map_scu,
-        left_arm(block),
-        units,
-        n,
-        constrained,
-        run,
-        0,
-    );
-    put_arm(
-        plane,
-        map_scu,
-        corner_arm(block),
-        1,
-        1,
-        constrained,
-        run,
-        corner,
-    );
-    put_arm(
-        plane,
-        map_scu,
-        up_arm(block),
-        units,
-        n,
-        constrained,
-        run,
-        corner + 1,
-    );
+    let at = 2 * def::in_component(component, block.side);
+    let left = left_arm(block);
+    let mut all = put_arm(plane, map_scu, left, units, n, constrained, run, 0);
+    let corner = corner_arm(block);
+    all = all | put_arm(plane, map_scu, corner, 1, 1, constrained, run, at);
+    let up = up_arm(block);
+    all | put_arm(plane, map_scu, up, units, n, constrained, run, at + 1)
 }
 
-fn checked(plane: &[u16], map_scu: &[u32], block: Block, constrained: bool, run: usize) -> Answer
-    ensures { λ r. ⌜ r ≡ checkOf (aroundOf block (now (plane .entry)) (now («map_scu» .entry)) constrained) run ⌝ }
+// All of `own` into run.
+fn copy(own: &[u16], run: &mut [u16])
+    requires { ⌜ length (now own) ≡ length (now run) ⌝ }
+    ensures { λ _. ⌜ now (run .exit) ≡ now (own .entry) ⌝ }
+{
+    let mut k = 0;
+    while k < run.len() {
+        run[k] = own[k];
+        k += 1;
+    }
+}
+
+// The run by way of `own`: the lent one is written only where every sample passes.
+fn gather_by(
+    plane: &[u16],
+    map_scu: &[u32],
+    block: Block,
+    constrained: bool,
+    own: &mut [u16],
+    run: &mut [u16],
+) -> Answer
+    requires { ⌜ Stands block × LentTo block (now plane) (now «map_scu») ⌝ }
+    requires { ⌜ (length (now own) ≡ length (now run)) × (length (now run) ≡ runLength (block .component) (block .side)) ⌝ }
+    ensures { λ r. ⌜ Gives gathered
+        (record { around = aroundOf block (now (plane .entry)) (now («map_scu» .entry)) constrained; run = now (run .entry) })
+        (record { number = answerNumber r; run = now (run .exit) }) ⌝ }
+{
+    let all = put_run(plane, map_scu, block, constrained, &mut *own);
+    if 1023 < all {
+        return Answer::Refused(Refusal::Sample);
+    }
+    copy(&*own, run);
+    Answer::Done
+}
+
+// The same, with an array of its own: a small one for a small block, where clearing it counts.
+fn gather(
+    plane: &[u16],
+    map_scu: &[u32],
+    block: Block,
+    constrained: bool,
+    run: &mut [u16],
+) -> Answer
+    requires { ⌜ Stands block × LentTo block (now plane) (now «map_scu») × (length (now run) ≡ runLength (block .component) (block .side)) ⌝ }
+    ensures { λ r. ⌜ Gives gathered
+        (record { around = aroundOf block (now (plane .entry)) (now («map_scu» .entry)) constrained; run = now (run .entry) })
+        (record { number = answerNumber r; run = now (run .exit) }) ⌝ }
+{
+    let n = run.len();
+    if n <= 33 {
+        let mut small = [0u16; 33];
+        return gather_by(plane, map_scu, block, constrained, &mut small[0..n], run);
+    }
+    let mut own = [0u16; 257];
+    gather_by(plane, map_scu, block, constrained, &mut own[0..n], run)
+}
+
+// The checks of the form, by the lengths of the plane, the words and the run.
+fn checked(block: Block, plane: usize, words: usize, run: usize) -> Answer
+    ensures { λ r. ⌜ r ≡ formOf (block .component) (block .w) (block .h) (block .x .0) (block .y .0) (block .side) plane words run ⌝ }
 {
     if !def::size_ok(block.w, block.h) {
         return Answer::Refused(Refusal::Size);
     }
-    if !lengths_ok(block, plane.len(), map_scu.len()) {
+    if !lengths_ok(block, plane, words) {
         return Answer::Refused(Refusal::Length);
     }
     if !def::block_ok(block.w, block.h, block.x, block.y, block.side) {
@@ -380,9 +345,6 @@ fn checked(plane: &[u16], map_scu: &[u32], block: Block, constrained: bool, run:
     let component = block.component;
     if run != 4 * def::in_component(component, block.side) + 1 {
         return Answer::Refused(Refusal::Length);
-    }
-    if !samples_ok(plane, map_scu, block, constrained) {
-        return Answer::Refused(Refusal::Sample);
     }
     Answer::Done
 }
@@ -412,11 +374,8 @@ pub fn get_nbr(
         y,
         side,
     };
-    match checked(plane, map_scu, block, constrained, run.len()) {
+    match checked(block, plane.len(), map_scu.len(), run.len()) {
         Answer::Refused(r) => Answer::Refused(r),
-        Answer::Done => {
-            put_run(plane, map_scu, block, constrained, run);
-            Answer::Done
-        }
+        Answer::Done => gather(plane, map_scu, block, constrained, run),
     }
 }

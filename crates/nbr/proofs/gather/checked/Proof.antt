@@ -1,61 +1,54 @@
--- `nbr::gather::checked` meets its contract: a row of checks. `past1` to `past4` are what a check, passed, leaves of the row. Assumes nothing.
+-- `nbr::gather::checked` meets its contract: a row of checks. `past1` to `past3` are what a check, passed, leaves of the row. Assumes nothing.
 use Prim.Native.Nat.{ℕ, _+_, _*_, _≤_}
 use mathlib.Core.Path.{_≡_, refl, sym, ap, _∙_}
 use native.Mathlib.Omega.{arith}
 use borrow.Author.Needs.{needs}
 use borrow.Author.Tests.{not-false, eq-eqb, ne-eqb}
-use denote.Ref.{now}
 use lib.Dec.{eqb}
-use lib.ListN.{length}
 use Rattle.laws.specs.Call.{unless}
 use Rattle.laws.proofs.Calls.{stops, goes-on, at-refusal, past-refusal}
 use Rattle.def.specs.Blocks.{blockOk}
-use Rattle.def.specs.declared.Refusal.the-variants.{Length, Sample, Block}
+use Rattle.def.specs.declared.Refusal.the-variants as refusal
+use Rattle.def.specs.declared.Refusal.the-variants.{Length}
 use Rattle.def.specs.declared.Answer.{Answer}
 use Rattle.def.specs.declared.Answer.the-variants.{Done, Refused}
 use Rattle.def.proofs.Sizes.{sized}
 use Rattle.def.proofs.Blocks.{blocked}
-use Rattle.nbr.specs.Gather.{Around, runLength, lengthsOk, samplesOk, checkOf}
-use Rattle.nbr.specs.Arms.{aroundOf}
+use Rattle.nbr.specs.declared.gather.Block.{Block}
+use Rattle.nbr.specs.Gather.{runLength, lengthsOk}
+use Rattle.nbr.specs.Checks.{formOf}
 use Rattle.nbr.proofs.Sides.{scaled-le}
-use Rattle.nbr.proofs.Runs.{lent-of}
 use Rattle.nbr.proofs.gather.checked.Statement.{statement}
 use Rattle.nbr.proofs.gather.checked.Tie as tie
 
--- the input of a call
-abbrev of : tie.Start → Around
-of s = aroundOf (s .args .block) (now (s .args .plane)) (now (s .args .map-scu)) (s .args .constrained)
+-- what the row finds
+abbrev found : tie.Start → Answer
+found s =
+    let b = s .args .block in
+    formOf (b .component) (b .w) (b .h) (b .x .0) (b .y .0) (b .side) (s .args .plane) (s .args .words) (s .args .run)
 
--- the row past its first check, its second, its third and its fourth
-abbrev rest4 : Around → Answer
-rest4 i = unless (samplesOk i) (Refused Sample) Done
+-- the row past its first check, its second and its third
+abbrev rest3 : Block → ℕ → Answer
+rest3 b run = unless (eqb run (runLength (b .component) (b .side))) (Refused Length) Done
 
-abbrev rest3 : Around → ℕ → Answer
-rest3 i run = unless (eqb run (runLength (i .component) (i .side))) (Refused Length) (rest4 i)
+abbrev rest2 : Block → ℕ → Answer
+rest2 b run = unless (blockOk (b .w) (b .h) (b .x .0) (b .y .0) (b .side)) (Refused refusal.Block) (rest3 b run)
 
-abbrev rest2 : Around → ℕ → Answer
-rest2 i run = unless (blockOk (i .w) (i .h) (i .x) (i .y) (i .side)) (Refused Block) (rest3 i run)
+abbrev rest1 : Block → (plane words run : ℕ) → Answer
+rest1 b plane words run = unless (lengthsOk (b .component) (b .w) (b .h) plane words) (Refused Length) (rest2 b run)
 
-abbrev rest1 : Around → ℕ → Answer
-rest1 i run = unless (lengthsOk (i .component) (i .w) (i .h) (length (i .plane)) (length (i .words))) (Refused Length) (rest2 i run)
-
-past1 : (c : tie.Else1) (r : Answer) → let s = c .before .before .before .before in r ≡ rest1 (of s) (s .args .run) → r ≡ checkOf (of s) (s .args .run)
-unfolding checkOf
+past1 : (c : tie.Else1) (r : Answer) → let s = c .before .before in r ≡ rest1 (s .args .block) (s .args .plane) (s .args .words) (s .args .run) → r ≡ found s
+unfolding formOf
 past1 c r p = goes-on _ _ _ _ r (c .before .size-ok .ensures) (c .if1 .left) p
 
-past2 : (c : tie.Else2) (r : Answer) → let s = c .before .before .before .before .before .before in r ≡ rest2 (of s) (s .args .run) → r ≡ checkOf (of s) (s .args .run)
+past2 : (c : tie.Else2) (r : Answer) → let s = c .before .before .before .before in r ≡ rest2 (s .args .block) (s .args .run) → r ≡ found s
 past2 c r p = past1 (c .before .before) r (goes-on _ _ _ _ r (c .before .lengths-ok .ensures) (c .if2 .left) p)
 
-past3 : (c : tie.Else3) (r : Answer) → let s = c .before .before .before .before .before .before .before .before in r ≡ rest3 (of s) (s .args .run) → r ≡ checkOf (of s) (s .args .run)
+past3 : (c : tie.Else3) (r : Answer) → let s = c .before .before .before .before .before .before in r ≡ rest3 (s .args .block) (s .args .run) → r ≡ found s
 past3 c r p = past2 (c .before .before) r (goes-on _ _ _ _ r (c .before .block-ok .ensures) (c .if3 .left) p)
 
-past4 : (c : tie.Else4) (r : Answer) → let s = c .before .before .before .before .before .before .before .before .before .before in r ≡ rest4 (of s) → r ≡ checkOf (of s) (s .args .run)
-past4 c r p =
-    past3 (c .before .before) r
-    (past-refusal _ _ _ r (eq-eqb _ _ (c .if4 .left ∙ ap (λ (n : ℕ). 4 * n + 1) (c .before .in-component .ensures))) p)
-
 returns : tie.Need-returns
-unfolding checkOf
+unfolding formOf
 returns c = stops _ _ _ _ (c .before .size-ok .ensures) (c .if1 .taken)
 
 lengths-ok-requires : tie.Need-lengths-ok-requires
@@ -73,7 +66,7 @@ returns-3 c = past2 (c .before .before) _ (stops _ _ _ _ (c .before .block-ok .e
 short : (c : tie.After-in-component) → c .in-component .result ≤ 64
 short c =
     let k = blocked _ _ _ _ _ (sym (c .before .before .block-ok .ensures) ∙ not-false _ (c .before .if3 .left)) in
-    rw (c .in-component .ensures) (scaled-le (c .before .before .before .before .before .before .before .before .before .args .block .component) _ 64 (k .most))
+    rw (c .in-component .ensures) (scaled-le (c .before .before .before .before .before .before .before .args .block .component) _ 64 (k .most))
 
 mul-if4 : tie.Need-mul-if4
 mul-if4 c = omega (arith, short c)
@@ -86,18 +79,10 @@ returns-4 c =
     past3 (c .before .before) _
     (at-refusal _ _ _ (ne-eqb _ _ (λ e. c .if4 .taken (e ∙ sym (ap (λ (n : ℕ). 4 * n + 1) (c .before .in-component .ensures))))))
 
-samples-ok-requires : tie.Need-samples-ok-requires
-samples-ok-requires c κs =
-    let d = c .before .before in
-    let e = d .before .before in
-    let f = e .before .before in
-    (record { size = sym (f .before .size-ok .ensures) ∙ not-false _ (f .if1 .left); block = sym (d .before .block-ok .ensures) ∙ not-false _ (d .if3 .left) }, lent-of _ _ _ _ _ (sym (e .before .lengths-ok .ensures) ∙ not-false _ (e .if2 .left)))
-
 returns-5 : tie.Need-returns-5
-returns-5 c = past4 (c .before .before) _ (stops _ _ _ _ (c .before .samples-ok .ensures) (c .if5 .taken))
-
-returns-6 : tie.Need-returns-6
-returns-6 c = past4 (c .before .before) _ (goes-on _ _ _ _ _ (c .before .samples-ok .ensures) (c .if5 .left) refl)
+returns-5 c =
+    past3 (c .before .before) _
+    (past-refusal _ _ _ _ (eq-eqb _ _ (c .if4 .left ∙ ap (λ (n : ℕ). 4 * n + 1) (c .before .in-component .ensures))) refl)
 
 pub checked-spec : {M : Type 1} → statement M
 checked-spec =
@@ -113,6 +98,4 @@ checked-spec =
     mul-if4
     add-if4
     returns-4
-    samples-ok-requires
-    returns-5
-    returns-6)
+    returns-5)

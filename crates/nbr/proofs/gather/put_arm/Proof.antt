@@ -1,71 +1,61 @@
--- `nbr::gather::put_arm` meets its contract: a loop that writes one unit after the other. Assumes nothing.
-use Prim.Native.Nat.{ℕ, _+_, _-_, _*_, _≤_}
-use mathlib.Core.Path.{_≡_, refl, ap}
-use native.Mathlib.Nat.{zero-mul}
-use native.Mathlib.Omega.{arith}
+-- `nbr::gather::put_arm` meets its contract: in each branch a unit's samples are as many as the branch says. Assumes nothing.
+use Prim.Native.Nat.{ℕ, _+_, _*_, _≤_}
+use mathlib.Core.Path.{_≡_, sym}
+use mathlib.Core.List.{List}
 use borrow.Author.Needs.{needs}
 use denote.Ref.{now}
 use lib.ListN.{length}
-use Rattle.laws.proofs.Flat.{next-row, row-below}
-use Rattle.laws.proofs.Planes.{Rowed, rowed-none, rowed-all}
-use Rattle.laws.proofs.Parts.{rowed-part}
-use Rattle.nbr.specs.Arms.{armAt}
+use Rattle.nbr.specs.Puts.{Put}
+use Rattle.nbr.specs.Arms.{armAt, Within}
 use Rattle.nbr.proofs.gather.put_arm.Statement.{statement}
 use Rattle.nbr.proofs.gather.put_arm.Tie as tie
 
-abbrev Inv-loop : tie.InvT-loop
-Inv-loop plane map-scu arm units n constrained run₀ to i₀ run i = (i ≤ units) × Rowed 0 to (armAt arm n constrained plane map-scu) run₀ run (i * n)
+-- what is asked for units of k samples, and what they then are
+module _ (s : tie.Start) (k : ℕ) (e : s .args .n ≡ k) where
+  asked : Within (s .args .arm) k (now (s .args .plane)) (now (s .args .map-scu)) × (s .args .to + s .args .units * k ≤ length (now (s .args .run)))
+  asked = rw (sym e) (s .pre .0, s .pre .1)
 
-abbrev μ-loop : tie.MeasureT-loop
-μ-loop plane map-scu arm units n constrained run₀ to i₀ run i = units - i
+  put : (l : List ℕ) (all : ℕ) → let a = s .args in Put (a .to) (a .units * k) (armAt (a .arm) k (a .constrained) (now (a .plane)) (now (a .map-scu))) (now (a .run)) l all → Put (a .to) (a .units * a .n) (armAt (a .arm) (a .n) (a .constrained) (now (a .plane)) (now (a .map-scu))) (now (a .run)) l all
+  put l all h = rw e h
 
--- the unit of a turn is within the run
-room : (c : tie.In-loop Inv-loop μ-loop) → let a = c .before .before .before .before .before .args in a .to + (c .before .loop .i * a .n + a .n) ≤ length (now (a .run))
-room c =
-    let a = c .before .before .before .before .before .args in
-    let p : a .to + a .units * a .n ≤ length (now (a .run)) = c .before .before .before .before .before .pre .1 in
-    omega (arith, row-below (c .before .loop .i) (a .n) (a .units) (a .units * a .n) (omega arith) (omega arith))
+-- neither 4 nor 2
+one : (c : tie.Else2) → let s = c .before .before .before .before .before in s .args .n ≡ 1
+one c = c .before .before .before .before .before .pre .2 (c .before .if1 .left) (c .if2 .left)
 
-loop-holds : tie.Need-loop-holds Inv-loop μ-loop
-loop-holds c = (omega arith, rw (zero-mul (c .before .before .before .args .n)) (rowed-none _ _ _ _))
+put-units-requires : tie.Need-put-units-requires
+put-units-requires c κs = asked (c .before .before .before .before .before) 4 (c .before .if1 .taken)
 
-mul-put-unit : tie.Need-mul-put-unit Inv-loop μ-loop
-mul-put-unit c = omega (arith, room (c .before))
+put-units-requires-2 : tie.Need-put-units-requires-2
+put-units-requires-2 c κs = asked (c .before .before .before .before .before .before) 2 (c .before .if2 .taken)
 
-add-put-unit : tie.Need-add-put-unit Inv-loop μ-loop
-add-put-unit c = omega (arith, room (c .before))
+put-units-requires-3 : tie.Need-put-units-requires-3
+put-units-requires-3 c κs = asked (c .before .before .before .before .before .before) 1 (one (c .before))
 
-put-unit-requires : tie.Need-put-unit-requires Inv-loop μ-loop
-put-unit-requires c κs = (c .before .before .before .before .before .before .pre .0, omega (arith, room (c .before), c .before .before .loop .inv .1 .long))
-
-loop-again : tie.Need-loop-again Inv-loop μ-loop
-loop-again c =
-    let t = c .before .before .before .before in
-    let a = t .before .before .before .before .before .args in
-    let i = t .before .loop .i in
-    (search needs, rw (c .before .before .put-unit .ensures, next-row i (a .n)) (rowed-part _ _ _ _ _ (i * a .n) (a .n) _ (room t) (λ j p. refl) (t .before .loop .inv .1)))
-
-same-length : tie.Need-same-length Inv-loop μ-loop
-same-length c = c .before .loop .inv .1 .long
-
-returns : tie.Need-returns Inv-loop μ-loop
+returns : tie.Need-returns
 returns c =
-    let a = c .before .before .before .before .before .args in
-    let e : c .before .loop .i ≡ a .units = omega arith in
-    rowed-all _ _ _ _ _ _ (c .before .loop .i * a .n) (ap (λ (k : ℕ). k * a .n) e) (c .before .loop .inv .1)
+    let d = c .before .before .before .before in
+    put (d .before .before .before .before) 4 (d .if1 .taken) _ _ (c .before .before .put-units .ensures)
+
+returns-2 : tie.Need-returns-2
+returns-2 c =
+    let d = c .before .before .before .before in
+    put (d .before .before .before .before .before) 2 (d .if2 .taken) _ _ (c .before .before .put-units2 .ensures)
+
+returns-3 : tie.Need-returns-3
+returns-3 c =
+    let d = c .before .before .before .before in
+    put (d .before .before .before .before .before) 1 (one d) _ _ (c .before .before .put-units3 .ensures)
 
 pub put-arm-spec : {M : Type 1} → statement M
 put-arm-spec =
     tie.close
     (tie.spec
-    Inv-loop
-    μ-loop
-    loop-holds
-    mul-put-unit
-    add-put-unit
-    put-unit-requires
+    put-units-requires
+    put-units-requires-2
+    put-units-requires-3
     (λ c. search needs)
+    returns
     (λ c. search needs)
-    loop-again
-    same-length
-    returns)
+    returns-2
+    (λ c. search needs)
+    returns-3)

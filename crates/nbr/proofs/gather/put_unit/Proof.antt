@@ -6,11 +6,10 @@ use native.Mathlib.Omega.{arith}
 use borrow.Author.Needs.{needs}
 use borrow.Author.Tests.{not-true, not-false}
 use denote.Ref.{now}
-use lib.ListN.{length, getD}
-use Rattle.laws.specs.Plane.{withRow}
-use Rattle.laws.proofs.Whole.{row-same}
-use Rattle.nbr.specs.Arms.{presentIn, armAt}
+use lib.ListN.{length}
+use Rattle.nbr.specs.Arms.{presentIn}
 use Rattle.nbr.proofs.Arms.{unit-missing, unit-sample, unit-in, unit-few}
+use Rattle.nbr.proofs.Puts.{put-missing, put-alike}
 use Rattle.nbr.proofs.gather.put_unit.Statement.{statement}
 use Rattle.nbr.proofs.gather.put_unit.Tie as tie
 
@@ -33,17 +32,10 @@ few c = unit-few _ _ _ _ _ _ (c .before .before .before .before .before .pre .0)
 present-requires : tie.Need-present-requires
 present-requires c κs = c .before .before .before .pre .0 .words-in (c .before .before .before .args .i)
 
-missing : (c : tie.Then1) → let a = c .before .before .before .before .before .args in withRow 0 (a .to) (a .n) (λ (j : ℕ). 512) (now (a .run)) ≡ withRow 0 (a .to) (a .n) (λ (j : ℕ). armAt (a .arm) (a .n) (a .constrained) (now (a .plane)) (now (a .map-scu)) (a .i * a .n + j)) (now (a .run))
-missing c = row-same _ _ _ _ _ _ (λ j p. sym (unit-missing _ _ _ _ _ _ j p (absent c)))
-
-copied : (c : tie.Else1) → let a = c .before .before .before .before .before .args in withRow 0 (a .to) (a .n) (λ (j : ℕ). getD (now (a .plane)) (a .arm .from + a .i * a .n * a .arm .step + j * a .arm .step) 0) (now (a .run)) ≡ withRow 0 (a .to) (a .n) (λ (j : ℕ). armAt (a .arm) (a .n) (a .constrained) (now (a .plane)) (now (a .map-scu)) (a .i * a .n + j)) (now (a .run))
-copied c = row-same _ _ _ _ _ _ (λ j p. sym (unit-sample _ _ _ _ _ _ j p (there c)))
-
 returns : tie.Need-returns
-returns c = c .before .before .put-missing .ensures ∙ rw (sym (c .before .before .before .before .if2 .taken)) (missing (c .before .before .before .before .before))
-
-returns-2 : tie.Need-returns-2
-returns-2 c = c .before .before .put-missing2 .ensures ∙ missing (c .before .before .before .before .before)
+returns c =
+    let d = c .before .before .before .before in
+    put-alike _ _ _ _ _ _ _ (λ j p. sym (unit-missing _ _ _ _ _ _ j p (absent d))) (put-missing _ _ _ _ (c .before .before .put-missing .ensures))
 
 mul-from : tie.Need-mul-from
 mul-from c = omega (arith, few c)
@@ -56,19 +48,13 @@ add-from c = omega (arith, first (c .before .before))
 
 put-samples-requires : tie.Need-put-samples-requires
 put-samples-requires c κs =
-    let d = c .before .before .before .before in
-    (omega (arith, d .before .before .before .before .before .pre .1), λ j p. inside d j (omega arith))
-
-returns-3 : tie.Need-returns-3
-returns-3 c = c .before .before .put-samples .ensures ∙ rw (sym (c .before .before .before .before .if3 .taken)) (copied (c .before .before .before .before .before .before .before))
-
-put-samples-requires-2 : tie.Need-put-samples-requires-2
-put-samples-requires-2 c κs =
-    let d = c .before .before .before .before in
+    let d = c .before .before .before in
     (omega (arith, d .before .before .before .before .before .pre .1), inside d)
 
-returns-4 : tie.Need-returns-4
-returns-4 c = c .before .before .put-samples2 .ensures ∙ copied (c .before .before .before .before .before .before .before)
+returns-2 : tie.Need-returns-2
+returns-2 c =
+    let d = c .before .before .before .before .before .before in
+    put-alike _ _ _ _ _ _ _ (λ j p. sym (unit-sample _ _ _ _ _ _ j p (there d))) (c .before .before .put-samples .ensures)
 
 pub put-unit-spec : {M : Type 1} → statement M
 put-unit-spec =
@@ -78,15 +64,9 @@ put-unit-spec =
     (λ c κs. search needs)
     (λ c. search needs)
     returns
-    (λ c κs. search needs)
-    (λ c. search needs)
-    returns-2
     mul-from
     mul-from-2
     add-from
     put-samples-requires
     (λ c. search needs)
-    returns-3
-    put-samples-requires-2
-    (λ c. search needs)
-    returns-4)
+    returns-2)
