@@ -1,5 +1,6 @@
 -- A table that is filled from the front: by a loop that puts one entry after the other, and by runs of entries.
 --     row-more      a loop's turn
+--     row-last      the last entry of a run
 --     Filled, filled-row, filled-all     the first n entries are right
 -- Assumes nothing.
 use mathlib.Core.Path.{_≡_, ap, _∙_}
@@ -18,6 +19,14 @@ use Rattle.chroma_qp.specs.Mapping.{qpAt}
 -- l′ is l with what is held as x put at the next place, k
 pub row-more : (a : ℕ) (h : ℕ → ℕ) (l₀ l l′ : List ℤ) (c x k : ℕ) → a + c < length l₀ → k ≡ a + c → l′ ≡ set l k (qpAt x) → x ≡ h c → Rowed (pos 0) a (λ (k : ℕ). qpAt (h k)) l₀ l c → Rowed (pos 0) a (λ (k : ℕ). qpAt (h k)) l₀ l′ (c + 1)
 row-more a h l₀ l l′ c x k p q e f r = rw (e, q) (rowed-more (pos 0) a (λ (k : ℕ). qpAt (h k)) l₀ l c (qpAt x) p (ap qpAt f) r)
+
+-- l′ is l with a run of n entries past place i
+pub row-last : (h : ℕ → ℕ) (l l′ : List ℤ) (i n : ℕ) → l′ ≡ withRow (pos 0) (i + 1) n (λ (k : ℕ). qpAt (h (k + 1))) l → 0 < n → i + n < length l → getD l′ (i + n) (pos 0) ≡ qpAt (h n)
+row-last h l l′ i n e some p =
+    let q : i + n - (i + 1) + 1 ≡ n = omega arith in
+    ap (λ (l : List ℤ). getD l (i + n) (pos 0)) e
+    ∙ getD-row (pos 0) (i + 1) n (λ (k : ℕ). qpAt (h (k + 1))) l (i + n) p
+    ∙ rw (within-yes (i + 1) n (i + n) (omega arith) (omega arith), q)
 
 pub record Filled (f : ℕ → ℤ) (l : List ℤ) (n : ℕ) : Type 0 where
   pub long : length l ≡ 70

@@ -23,6 +23,14 @@ pub qp-le : (k l : ℕ) → leZ (qpAt k) (qpAt l) ≡ leb k l
 unfolding qpAt
 qp-le k l = diff-le k 12 l 12 ∙ leb-alike (k + 12) (l + 12) k l (λ h. (omega arith)) (λ h. (omega arith))
 
+-- what is held is 12 more
+pub qp-held : (k : ℕ) → qpAt k +ℤ pos 12 ≡ pos k
+unfolding qpAt
+qp-held k = ap (λ (z : ℤ). (pos k -ℤ pos 12) +ℤ z) (diff-none 12) ∙ diff-add k 12 12 0 ∙ diff-same (k + 12) 12 k 0 (omega arith) ∙ sym (diff-none k)
+
+pub qp-apart : (k l : ℕ) → qpAt k ≡ qpAt l → k ≡ l
+qp-apart k l e = let p : pos k ≡ pos l = sym (qp-held k) ∙ ap (λ (z : ℤ). z +ℤ pos 12) e ∙ qp-held l in cc
+
 -- a number that n more takes past 140 is a QP's
 pub qp-of : (q : ℕ) → 128 ≤ q → pos q -ℤ pos 140 ≡ qpAt (q - 128)
 unfolding qpAt

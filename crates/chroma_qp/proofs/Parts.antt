@@ -2,11 +2,12 @@
 --     up-most, down-most      how far an entry lies from the part's start, in either direction
 --     up-least, down-least, down-exact      and at its end, where a part that falls over two entries or more ends at most 1 above
 --     entry-most, end-least, end-most
+--     held-up, held-down      of the two quotients of an entry one is of 0
 --     between-held
 -- Assumes nothing.
 use mathlib.Core.Path.{_≡_, sym, ap, _∙_}
 use Prim.Native.Nat.{ℕ, suc, _+_, _-_, _*_, _/_, _≤_, _<_}
-use native.Mathlib.Nat.{add-zero, add-mul, suc-mul, mul-le-mul-left, mul-le-mul-right, div-lt-iff-lt-mul, div-le-of-le-mul, le-div-iff-mul-le, mul-comm, zero-mul}
+use native.Mathlib.Nat.{add-zero, add-mul, suc-mul, mul-le-mul-left, mul-le-mul-right, div-lt-iff-lt-mul, div-le-of-le-mul, le-div-iff-mul-le, mul-comm, zero-mul, zero-div}
 use native.Mathlib.Decide.{decLe, ℕ-discrete}
 use native.Mathlib.Omega.{arith}
 use lib.IntN.{ℤ, pos, _+ℤ_, _-ℤ_, _*ℤ_}
@@ -89,6 +90,18 @@ module _ (i v from to n : ℕ) (some : 0 < n) (high : from ≤ v) (most : 2 * v 
         low-enough x y p q one (no e) = omega arith
 
 -- ---- and what it is
+
+none : (x y n : ℕ) → x ≤ y → (x - y) / n ≡ 0
+none x y n h = let e : x - y ≡ 0 = omega arith in rw e (zero-div n)
+
+module _ (v from to n m : ℕ) where
+  pub held-up : from * m ≤ to * m + n / 2 → v + (to * m + n / 2 - from * m) / n ≡ heldBetween v from to n m
+  unfolding heldBetween
+  held-up h = rw (none (from * m) (to * m + n / 2) n h) (omega arith)
+
+  pub held-down : to * m + n / 2 < from * m → v - (from * m - (to * m + n / 2)) / n ≡ heldBetween v from to n m
+  unfolding heldBetween
+  held-down h = rw (none (to * m + n / 2) (from * m) n (omega arith)) (omega arith)
 
 module _ (i v from to n m : ℕ) (some : 0 < n) (within : m ≤ n) (high : from ≤ v) where
   moved : qpAt v +ℤ (pos ((to * m + n / 2 - from * m) / n) -ℤ pos ((from * m - (to * m + n / 2)) / n)) ≡ qpAt (heldBetween v from to n m)

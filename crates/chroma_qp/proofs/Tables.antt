@@ -1,6 +1,6 @@
 -- A table made from its points as `fill` does: up to the first pivot, then part by part, then past the last.
---     first-range, next-range     the pivots' numbers, as they are held, are in range
---     Made, made-first, made-next, made-all     the table up to a pivot
+--     first-range, Next, next-range     the pivots' numbers, as they are held, are in range
+--     Made, made-first, next-entry, made-next, made-all     the table up to a pivot, whose entry is read back from the table
 -- Assumes nothing.
 use mathlib.Core.Path.{_≡_, refl, sym, ap, _∙_, subst}
 use mathlib.Core.Bool.{true}
@@ -9,14 +9,16 @@ use Prim.Native.Nat.{ℕ, suc, _+_, _-_, _<_}
 use native.Mathlib.Nat.{zero-add}
 use native.Mathlib.Omega.{arith}
 use lib.IntN.{ℤ, pos, _-ℤ_}
-use lib.ListN.{length}
+use lib.ListN.{length, getD}
 use lib.Signed.{leZ}
 use Rattle.laws.specs.Plane.{withRow}
 use Rattle.laws.proofs.Scans.{scan-at}
 use Rattle.chroma_qp.specs.Derived.{pivotOk, pivotsOk}
-use Rattle.chroma_qp.specs.Held.{heldBelow, heldBetween, heldPast, Checked}
+use Rattle.chroma_qp.specs.Held.{heldBelow, heldBetween, heldPast, Entry, Checked}
 use Rattle.chroma_qp.specs.Mapping.{Points, aAt, bAt, qpAt, lastOf, mapped, tableOf}
-use Rattle.chroma_qp.proofs.Filled.{Filled, filled-none, filled-row, filled-all}
+use Rattle.chroma_qp.proofs.Filled.{row-last, Filled, filled-none, filled-row, filled-all}
+use Rattle.chroma_qp.proofs.Offsets.{qp-apart}
+use Rattle.chroma_qp.proofs.Parts.{entry-most}
 use Rattle.chroma_qp.proofs.Pivots.{Held, held-first, held-next, Tested, tested, Reached, reached-first, reached-next, at-below, at-between, at-past, settled}
 use Rattle.chroma_qp.proofs.Points.{countable}
 
@@ -34,6 +36,12 @@ module _ (s : ℕ) (p : Points) where
     pub within : j < p .count
     pub reached : Reached (qpAt s) p j i o v
     pub filled : Filled entry t (i + 1)
+
+-- pivot j is not the last; x is the next one's a, and y is 128 more than its b
+pub record Next (p : Points) (j x y : ℕ) : Type 0 where
+  pub there : suc j < p .count
+  pub at-a : aAt p (suc j) ≡ pos x
+  pub at-b : bAt p (suc j) ≡ pos y -ℤ pos 128
 
 module _ (s : ℕ) (p : Points) (ok : Checked s p) where
   rises : (j : ℕ) → suc j < p .count → leZ (pos 0) (aAt p (suc j)) ≡ true
@@ -65,31 +73,54 @@ module _ (s : ℕ) (p : Points) (ok : Checked s p) where
 
   -- ---- a pivot, and the next
   module _ (t : List ℤ) (i o v j : ℕ) (m : Made s p t i o v j) where
-    module _ (x y : ℕ) (h : suc j < p .count) (at-a : aAt p (suc j) ≡ pos x) (at-b : bAt p (suc j) ≡ pos y -ℤ pos 128) where
+    module _ (x y : ℕ) (n : Next p j x y) where
       held-1 : Held (qpAt s) p (suc j) (i + (x + 1)) (o + (x + 1) + y)
-      held-1 = held-next (qpAt s) p j i x (m .reached .in-is) at-a o y (m .reached .out-is) at-b
+      held-1 = held-next (qpAt s) p j i x (m .reached .in-is) (n .at-a) o y (m .reached .out-is) (n .at-b)
 
       pub next-range : Tested (qpAt s) p (suc j) (i + (x + 1)) (o + (x + 1) + y)
-      next-range = tested (qpAt s) p (suc j) (i + (x + 1)) (o + (x + 1) + y) held-1 (passes (qpAt s) p (ok .pivots) (suc j) h)
+      next-range = tested (qpAt s) p (suc j) (i + (x + 1)) (o + (x + 1) + y) held-1 (passes (qpAt s) p (ok .pivots) (suc j) (n .there))
 
-      pub made-next :
-          Made s p (withRow (pos 0) (i + 1) (x + 1) (λ (k : ℕ). qpAt (heldBetween v o (o + (x + 1) + y - 128) (x + 1) (k + 1))) t)
-          (i + (x + 1)) (o + (x + 1) + y - 128) (heldBetween v o (o + (x + 1) + y - 128) (x + 1) (x + 1)) (suc j)
-      made-next =
+      -- the part's entries, as they are held
+      abbrev part : ℕ → ℕ
+      part k = heldBetween v o (o + (x + 1) + y - 128) (x + 1) k
+
+      made-part :
+          Made s p (withRow (pos 0) (i + 1) (x + 1) (λ (k : ℕ). qpAt (part (k + 1))) t)
+          (i + (x + 1)) (o + (x + 1) + y - 128) (part (x + 1)) (suc j)
+      made-part =
           let r = next-range in
           record {
-            within = h;
-            reached = reached-next (qpAt s) p j i o v (m .reached) x (o + (x + 1) + y - 128) at-a (r .out-is) (r .in-most) (omega (arith, r .out-most));
+            within = n .there;
+            reached = reached-next (qpAt s) p j i o v (m .reached) x (o + (x + 1) + y - 128) (n .at-a) (r .out-is) (r .in-most) (omega (arith, r .out-most));
             filled =
                 subst (Filled (entry s p) _) (omega arith)
                 (filled-row (entry s p) t (i + 1) (x + 1) _ (omega (arith, r .in-most)) (λ c q. right c q) (m .filled));
           } where
-            right : (c : ℕ) → c < x + 1 → qpAt (heldBetween v o (o + (x + 1) + y - 128) (x + 1) (c + 1)) ≡ entry s p (i + 1 + c)
+            right : (c : ℕ) → c < x + 1 → qpAt (part (c + 1)) ≡ entry s p (i + 1 + c)
             right c q =
                 let e : i + 1 + c ≡ i + (c + 1) = omega arith in
                 sym
-                (ap (entry s p) e ∙ settled (qpAt s) p rises (suc j) (i + (x + 1)) (i + (c + 1)) h (held-1 .in-is) (omega arith)
-                ∙ at-between (qpAt s) p j i o v (m .reached) x (o + (x + 1) + y - 128) at-a (next-range .out-is) (c + 1) (omega arith) (omega arith))
+                (ap (entry s p) e ∙ settled (qpAt s) p rises (suc j) (i + (x + 1)) (i + (c + 1)) (n .there) (held-1 .in-is) (omega arith)
+                ∙ at-between (qpAt s) p j i o v (m .reached) x (o + (x + 1) + y - 128) (n .at-a) (next-range .out-is) (c + 1) (omega arith) (omega arith))
+
+      -- u is t with the part
+      module _ (u : List ℤ) (e : u ≡ withRow (pos 0) (i + 1) (x + 1) (λ (k : ℕ). qpAt (part (k + 1))) t) where
+        end-is : getD u (i + (x + 1)) (pos 0) ≡ qpAt (part (x + 1))
+        end-is = row-last part t u i (x + 1) e (omega arith) (omega (arith, m .filled .long, next-range .in-most))
+
+        pub next-entry : Entry (getD u (i + (x + 1)) (pos 0))
+        next-entry =
+            let r = next-range in
+            record {
+              v = part (x + 1);
+              is = end-is;
+              most =
+                  entry-most i v o (o + (x + 1) + y - 128) (x + 1) (omega arith) (m .reached .least) (m .reached .most) (x + 1) (omega arith) (r .in-most)
+                  (m .reached .out-most) (omega (arith, r .out-most));
+            }
+
+        pub made-next : (w : ℕ) → qpAt w ≡ getD u (i + (x + 1)) (pos 0) → Made s p u (i + (x + 1)) (o + (x + 1) + y - 128) w (suc j)
+        made-next w q = rw (e, qp-apart w (part (x + 1)) (q ∙ end-is)) made-part
 
     -- ---- past the last
     pub made-all : j ≡ lastOf p → withRow (pos 0) (i + 1) (69 - i) (λ (k : ℕ). qpAt (heldPast v (k + 1))) t ≡ tableOf (qpAt s) p

@@ -3,6 +3,7 @@
 use Prim.Native.Nat.{ℕ, _+_, _-_, _*_, _/_, _≤_, min}
 use mathlib.Core.Path.{_≡_}
 use mathlib.Core.Bool.{true}
+use lib.IntN.{ℤ}
 use lib.ListN.{length}
 use Rattle.chroma_qp.specs.Derived.{pointsOk, pivotsOk}
 use Rattle.chroma_qp.specs.Mapping.{Points, qpAt}
@@ -18,6 +19,12 @@ heldBetween v from to n m = v + (to * m + n / 2 - from * m) / n - (from * m - (t
 -- the entry m past the last pivot's, v
 unfoldable pub heldPast : (v m : ℕ) → ℕ
 heldPast v m = min (v + m) 69
+
+-- an entry z, which is held as v
+pub record Entry (z : ℤ) : Type 0 where
+  pub v : ℕ
+  pub is : z ≡ qpAt v
+  pub most : v ≤ 103
 
 -- what has been checked of a table's points: their count and their a, and then their pivots
 pub record Counted (s : ℕ) (p : Points) : Type 0 where

@@ -11,7 +11,7 @@ ghost use Rattle.laws.specs.Call.{Gives};
 ghost use Rattle.laws.specs.Plane.{withRow};
 ghost use Rattle.def.specs.Answers.{answerNumber};
 ghost use Rattle.chroma_qp.specs.Derived.{lengthsOk, pointsOk, pivotsOk, check, outcome};
-ghost use Rattle.chroma_qp.specs.Held.{heldBelow, heldBetween, heldPast, Counted, Checked};
+ghost use Rattle.chroma_qp.specs.Held.{heldBelow, heldBetween, heldPast, Entry, Counted, Checked};
 ghost use Rattle.chroma_qp.specs.Mapping.{startOf, qpAt, tableOf};
 use def::Answer;
 use def::Refusal;
@@ -53,6 +53,14 @@ fn put(t: &mut [i8], k: usize, v: usize)
     ensures { λ _. ⌜ now (t .exit) ≡ set (now (t .entry)) k (qpAt v) ⌝ }
 {
     t[k] = v as i8 - 12;
+}
+
+// What the entry at k is held as.
+fn held_at(t: &[i8], k: usize) -> usize
+    requires { ⌜ (k < length (now t)) × Entry (getD (now t) k (pos 0)) ⌝ }
+    ensures { λ r. ⌜ qpAt r ≡ getD (now (t .entry)) k (pos 0) ⌝ }
+{
+    (t[k] + 12) as usize
 }
 
 // The start: 16 with the global flag, else -12.
@@ -177,14 +185,18 @@ fn checked(
 // ---- entries
 
 // What stands m entries past the entry v, on the way from a pivot's out to that of the next, n entries on: v + ((to - from)*m + n/2) / n.
-// What is above 0 and what is below are each rounded down, which is toward zero; one of the two is 0.
+// What is above 0 and what is below are each rounded down, which is toward zero.
 fn between(v: usize, from: usize, to: usize, n: usize, m: usize) -> usize
     requires { ⌜ (v ≤ 103) × (from ≤ v) × (from ≤ 69) × (to ≤ 69) × (0 < n) × (n ≤ 69) × (m ≤ n) ⌝ }
     ensures { λ r. ⌜ r ≡ heldBetween v from to n m ⌝ }
 {
     let up = to * m + n / 2;
     let down = from * m;
-    v + less(up, down) / n - less(down, up) / n
+    if down <= up {
+        v + (up - down) / n
+    } else {
+        v - (down - up) / n
+    }
 }
 
 // The entries up to the first pivot: its out at its in, and one less a step below.
@@ -239,8 +251,8 @@ fn fill(t: &mut [i8], s: usize, count: usize, a: &[i8], b: &[i8])
         let n = delta_in(a, j) + 1;
         let next = qp_out + n + delta_out(b, j) - 128;
         fill_between(&mut *t, qp_in, v, qp_out, next, n);
-        v = between(v, qp_out, next, n, n);
         qp_in += n;
+        v = held_at(&*t, qp_in);
         qp_out = next;
     }
     fill_past(&mut *t, qp_in, v);

@@ -68,13 +68,14 @@ module _ (i : Input) (seen : Bool) (is : seen ≡ samplesOk (i .run)) where
       on-refusal (refused i) (done i) (Refused Sample) (dataCheck i) Sample
       (past-refusal (modeOk (i .mode)) _ _ _ (both-left (modeOk (i .mode)) seen e) (at-refusal (samplesOk (i .run)) _ _ (sym is ∙ both-right (modeOk (i .mode)) seen e))) refl
 
-  pub at-mode : (k : ℕ) (block : List ℕ) → (modeOk (i .mode) && not seen) ≡ false → i .mode ≡ k → k ≤ 4 → block ≡ blockOf (i .side) (predicted k (i .side) (i .run)) → Gives chosen i (record { number = 0; block = block })
+  -- k and n are what the code knows of the mode and of the side
+  pub at-mode : (k n : ℕ) (block : List ℕ) → (modeOk (i .mode) && not seen) ≡ false → i .mode ≡ k → i .side ≡ n → k ≤ 4 → block ≡ blockOf n (predicted k n (i .run)) → Gives chosen i (record { number = 0; block = block })
   unfolding chosen
-  at-mode k block e q p b =
+  at-mode k n block e q s p b =
       on-done (refused i) (done i) Done (dataCheck i) _
       (past-refusal (modeOk (i .mode)) _ _ _ (le-leb (i .mode) 4 (omega arith)) (past-refusal (samplesOk (i .run)) _ _ _ (good-samples (i .mode) (i .run) seen is e (omega arith)) refl))
       refl
-      (ap (λ (l : List ℕ). record { number = 0; block = l }) (b ∙ ap (λ (m : ℕ). blockOf (i .side) (predicted m (i .side) (i .run))) (sym q)))
+      (ap (λ (l : List ℕ). record { number = 0; block = l }) (rw (q, s) b))
 
 pub no-mode : (i : Input) → 4 < i .mode → Gives chosen i (refused i Mode)
 unfolding chosen

@@ -142,6 +142,7 @@ fn ipred_ur(side: usize, run: &[u16], block: &mut [u16])
 // ---- the call
 
 // The prediction is chosen by the mode's number. 9 comes before 7, so samples are tested for a mode that there is.
+// A side of 4 is a literal at each mode, so that the compiler lays its loops out flat.
 fn predict(mode: u8, side: usize, run: &[u16], block: &mut [u16]) -> Answer
     requires { ⌜ (Lent side (now run) (now block)) × (componentSideOk side ≡ true) ⌝ }
     ensures { λ r. ⌜ Gives chosen
@@ -152,11 +153,31 @@ fn predict(mode: u8, side: usize, run: &[u16], block: &mut [u16]) -> Answer
         return Answer::Refused(Refusal::Sample);
     }
     match mode {
-        0 => ipred_dc_b(side, run, block),
-        1 => ipred_hor_b(side, run, block),
-        2 => ipred_vert(side, run, block),
-        3 => ipred_ul(side, run, block),
-        4 => ipred_ur(side, run, block),
+        0 => if side == 4 {
+            ipred_dc_b(4, run, block)
+        } else {
+            ipred_dc_b(side, run, block)
+        },
+        1 => if side == 4 {
+            ipred_hor_b(4, run, block)
+        } else {
+            ipred_hor_b(side, run, block)
+        },
+        2 => if side == 4 {
+            ipred_vert(4, run, block)
+        } else {
+            ipred_vert(side, run, block)
+        },
+        3 => if side == 4 {
+            ipred_ul(4, run, block)
+        } else {
+            ipred_ul(side, run, block)
+        },
+        4 => if side == 4 {
+            ipred_ur(4, run, block)
+        } else {
+            ipred_ur(side, run, block)
+        },
         5..=255 => return Answer::Refused(Refusal::Mode),
     }
     Answer::Done

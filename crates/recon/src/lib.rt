@@ -137,8 +137,8 @@ pub fn recon(coded: bool, side: usize, pred: &[u16], coef: &[i16], rec: &mut [u1
 
 // ---- into a plane
 
-// The block of n by n samples at column x, row y of the plane of rows of w.
-fn recon_block(
+// The block of n by n samples at column x, row y of the plane of rows of w, row by row.
+fn recon_rows(
     coded: bool,
     w: usize,
     x: usize,
@@ -155,6 +155,52 @@ fn recon_block(
     while r < n {
         recon_row(coded, rec, (y + r) * w + x, pred, coef, r * n, n);
         r += 1;
+    }
+}
+
+// The same for a block of at most 4 by 4: summed flat into an array of its own, which no lent slice can overlap, and so all at once; then its rows are copied.
+fn recon_small(
+    coded: bool,
+    w: usize,
+    x: usize,
+    y: usize,
+    n: usize,
+    pred: &[u16],
+    coef: &[i16],
+    rec: &mut [u16],
+)
+    requires { ⌜ (Fitting w x y n (now pred) (now coef) (now rec)) × (n ≤ 4) ⌝ }
+    ensures { λ _. ⌜ now (rec .exit) ≡ withBlock 0 w x y n n (blockAt coded (now (pred .entry)) (now (coef .entry)) n) (now (rec .entry)) ⌝ }
+{
+    let mut own = [0u16; 16];
+    recon_row(coded, &mut own, 0, pred, coef, 0, n * n);
+    let mut r = 0;
+    while r < n {
+        copy_row(rec, (y + r) * w + x, &own, r * n, n);
+        r += 1;
+    }
+}
+
+// The same for any block. A side that is a literal lets the compiler lay the loops of the small ones out flat.
+fn recon_block(
+    coded: bool,
+    w: usize,
+    x: usize,
+    y: usize,
+    n: usize,
+    pred: &[u16],
+    coef: &[i16],
+    rec: &mut [u16],
+)
+    requires { ⌜ Fitting w x y n (now pred) (now coef) (now rec) ⌝ }
+    ensures { λ _. ⌜ now (rec .exit) ≡ withBlock 0 w x y n n (blockAt coded (now (pred .entry)) (now (coef .entry)) n) (now (rec .entry)) ⌝ }
+{
+    if n == 4 {
+        recon_small(coded, w, x, y, 4, pred, coef, rec)
+    } else if n == 2 {
+        recon_small(coded, w, x, y, 2, pred, coef, rec)
+    } else {
+        recon_rows(coded, w, x, y, n, pred, coef, rec)
     }
 }
 

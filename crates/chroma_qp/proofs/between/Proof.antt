@@ -1,10 +1,9 @@
 -- `chroma_qp::between` meets its contract: the numbers are small, and what is taken away is no more than what is there. Assumes nothing.
-use Prim.Native.Nat.{ℕ, _-_, _*_, _/_, _≤_}
+use Prim.Native.Nat.{ℕ, _*_, _≤_}
 use native.Mathlib.Nat.{mul-le-mul}
 use native.Mathlib.Omega.{arith}
 use borrow.Author.Needs.{needs}
-use Rattle.chroma_qp.specs.Held.{heldBetween}
-use Rattle.chroma_qp.proofs.Parts.{up-most, down-most}
+use Rattle.chroma_qp.proofs.Parts.{up-most, down-most, held-up, held-down}
 use Rattle.chroma_qp.proofs.between.Statement.{statement}
 use Rattle.chroma_qp.proofs.between.Tie as tie
 
@@ -20,24 +19,19 @@ add-up c = omega (arith, product (c .args .to) (c .args .m) (omega arith) (omega
 mul-down : tie.Need-mul-down
 mul-down c = omega (arith, product (c .args .from) (c .args .m) (omega arith) (omega arith))
 
--- how far up, and how far down
-up : (c : tie.After-less) → let a = c .before .args in c .less .result / a .n ≤ a .to - a .from
-up c = rw (c .less .ensures) (up-most _ _ _ _ (omega arith) (omega arith))
-
-down : (c : tie.After-less2) → let a = c .before .before .args in c .less2 .result / a .n ≤ a .from - a .to
-down c = rw (c .less2 .ensures) (down-most _ _ _ _ (omega arith) (omega arith))
-
 add-result : tie.Need-add-result
-add-result c = omega (arith, up c)
+add-result c = let a = c .before .args in omega (arith, up-most (a .from) (a .to) (a .n) (a .m) (omega arith) (omega arith))
 
-sub-result : tie.Need-sub-result
-sub-result c = omega (arith, down c)
+sub-result-2 : tie.Need-sub-result-2
+sub-result-2 c = let a = c .before .args in omega (arith, down-most (a .from) (a .to) (a .n) (a .m) (omega arith) (omega arith))
 
 returns : tie.Need-returns
-unfolding heldBetween
-returns c = rw (c .before .less .ensures, c .less2 .ensures)
+returns c = held-up _ _ _ _ _ (c .if1 .taken)
+
+returns-2 : tie.Need-returns-2
+returns-2 c = held-down _ _ _ _ _ (c .if1 .left)
 
 pub between-spec : {M : Type 1} → statement M
 between-spec =
     tie.close
-    (tie.spec mul-up add-up mul-down (λ c κs. search needs) (λ c. search needs) add-result (λ c κs. search needs) (λ c. search needs) sub-result returns)
+    (tie.spec mul-up add-up mul-down (λ c. search needs) add-result (λ c. search needs) (λ c. search needs) sub-result-2 returns returns-2)

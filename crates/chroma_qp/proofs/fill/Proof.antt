@@ -7,7 +7,7 @@ use denote.Ref.{now}
 use Rattle.chroma_qp.specs.Mapping.{Points, qpAt}
 use Rattle.chroma_qp.proofs.Pivots.{Tested}
 use Rattle.chroma_qp.proofs.Points.{countable}
-use Rattle.chroma_qp.proofs.Tables.{Made, first-range, made-first, next-range, made-next, made-all}
+use Rattle.chroma_qp.proofs.Tables.{Made, first-range, made-first, Next, next-range, next-entry, made-next, made-all}
 use Rattle.chroma_qp.proofs.fill.Statement.{statement}
 use Rattle.chroma_qp.proofs.fill.Tie as tie
 
@@ -75,11 +75,14 @@ delta-out-requires-2 c κs =
 add-next-2 : tie.Need-add-next-2 Inv-loop μ-loop
 add-next-2 c = omega (arith, c .before .before .before .loop .inv .reached .out-most)
 
--- the next pivot is in range
+-- the next pivot's point, and that the pivot is in range
+point : (c : tie.After-delta-out2 Inv-loop μ-loop) → Next (points (c .before .before .before .before .before .before .before .before .before)) (c .before .before .before .loop .j) (c .before .delta-in2 .result) (c .delta-out2 .result)
+point c =
+    let j = c .before .before .before .loop .j in
+    record { there = omega arith; at-a = rw (add-one j) at (c .before .delta-in2 .ensures .0); at-b = rw (add-one j) at (c .delta-out2 .ensures .0) }
+
 next : (c : tie.After-delta-out2 Inv-loop μ-loop) → let at = c .before .before .before .before .before .before .before .before .before in let l = c .before .before .before .loop in let n = c .before .delta-in2 .result + 1 in Tested (qpAt (at .args .s)) (points at) (suc (l .j)) (l .qp-in + n) (l .qp-out + n + c .delta-out2 .result)
-next c =
-    let l = c .before .before .before .loop in
-    next-range _ _ (c .before .before .before .before .before .before .before .before .before .pre .1) _ _ _ _ _ (l .inv) _ _ (omega arith) (rw (add-one (l .j)) at (c .before .delta-in2 .ensures .0)) (rw (add-one (l .j)) at (c .delta-out2 .ensures .0))
+next c = next-range _ _ (c .before .before .before .before .before .before .before .before .before .pre .1) _ _ _ _ _ (c .before .before .before .loop .inv) _ _ (point c)
 
 sub-next : tie.Need-sub-next Inv-loop μ-loop
 sub-next c = next c .out-least
@@ -90,24 +93,24 @@ fill-between-requires c κs =
     let r = next (c .before) in
     (m .filled .long, r .in-most, omega arith, omega (arith, m .reached .least), omega (arith, m .reached .most), m .reached .out-most, omega (arith, r .out-most))
 
-between-requires : tie.Need-between-requires Inv-loop μ-loop
-between-requires c κs =
-    let m = c .before .before .before .before .before .before .loop .inv in
-    let r = next (c .before .before .before) in
-    omega (arith, m .reached .in-most, m .reached .least, m .reached .most, m .reached .out-most, r .in-most, r .out-most)
-
 add-qp-in-2 : tie.Need-add-qp-in-2 Inv-loop μ-loop
-add-qp-in-2 c = omega (arith, next (c .before .before .before .before) .in-most)
+add-qp-in-2 c = omega (arith, next (c .before .before .before) .in-most)
+
+held-at-requires : tie.Need-held-at-requires Inv-loop μ-loop
+held-at-requires c κs =
+    let two = c .before .before .before .before in
+    let l = two .before .before .before in
+    (omega (arith, c .before .before .fill-between .kept .0, l .loop .inv .filled .long, next two .in-most), next-entry _ _ (l .before .before .before .before .before .before .pre .1) _ _ _ _ _ (l .loop .inv) _ _ (point two) _ (c .before .before .fill-between .ensures))
 
 loop-less : tie.Need-loop-less Inv-loop μ-loop
-loop-less c = omega (arith, c .before .before .before .before .before .before .loop-test .taken)
+loop-less c = omega (arith, c .before .before .before .before .before .before .before .loop-test .taken)
 
 loop-again : tie.Need-loop-again Inv-loop μ-loop
 loop-again c =
-    let l = c .before .before .before .before .before .before .before .loop in
-    let two = c .before .before .before .before in
-    rw (c .before .before .fill-between .ensures, c .between .ensures, add-one (l .j))
-    (made-next _ _ (c .before .before .before .before .before .before .before .before .before .before .before .before .before .pre .1) _ _ _ _ _ (l .inv) _ _ (omega arith) (rw (add-one (l .j)) at (two .before .delta-in2 .ensures .0)) (rw (add-one (l .j)) at (two .delta-out2 .ensures .0)))
+    let two = c .before .before .before .before .before in
+    let l = two .before .before .before in
+    rw (add-one (l .loop .j))
+    (made-next _ _ (l .before .before .before .before .before .before .pre .1) _ _ _ _ _ (l .loop .inv) _ _ (point two) _ (c .before .before .before .fill-between .ensures) _ (c .held-at .ensures))
 
 fill-past-requires : tie.Need-fill-past-requires Inv-loop μ-loop
 fill-past-requires c κs = let m = c .before .before .loop .inv in (m .filled .long, m .reached .in-most, omega (arith, m .reached .in-most, m .reached .most, m .reached .out-most))
@@ -124,5 +127,5 @@ pub fill-spec : {M : Type 1} → statement M
 fill-spec =
     tie.close
     (tie.spec Inv-loop μ-loop delta-in-requires add-qp-in delta-out-requires add-qp-out sub-qp-out fill-below-requires loop-holds add-loop add-j
-    delta-in-requires-2 add-n add-next delta-out-requires-2 add-next-2 sub-next fill-between-requires between-requires add-qp-in-2 loop-less loop-again
+    delta-in-requires-2 add-n add-next delta-out-requires-2 add-next-2 sub-next fill-between-requires add-qp-in-2 held-at-requires loop-less loop-again
     fill-past-requires same-length returns)
