@@ -65,7 +65,12 @@ fn copy_lent(block: Block, lent: &[u16], pred: &mut [u16])
 
 // ---- a mode
 
-// Room for the longest run. A function of its own: what calls it knows the array's length, and does not look into it.
+// Room for a run: where the side is 8 or less, and for any. A room is cleared for every component of every leaf, and for a small block to clear a long one counts.
+// Functions of their own: what calls them knows the array's length, and does not look into it.
+fn blank_short() -> [u16; 33] {
+    [0; 33]
+}
+
 fn blank_run() -> [u16; 257] {
     [0; 257]
 }
@@ -107,19 +112,32 @@ fn predict(block: Block, mode: u8, plane: &[u16], map_scu: &[u32], pred: &mut [u
     let component = block.component;
     let n = def::in_component(component, block.side);
     let long = 4 * n + 1;
+    if n <= 8 {
+        let mut short = blank_short();
+        predict_from(block, mode, n, plane, map_scu, &mut short[0..long], pred);
+        return;
+    }
     let mut run = blank_run();
     predict_from(block, mode, n, plane, map_scu, &mut run[0..long], pred);
 }
 
 // ---- both
 
-// Room for a prediction, and a residual that is nowhere read: small ones for a small block.
+// Room for a prediction, and a residual that is nowhere read: for a block of up to 4 by 4, of up to 16 by 16, and for any, as clearing counts here too.
+fn blank_least() -> [u16; 16] {
+    [0; 16]
+}
+
 fn blank_small() -> [u16; 256] {
     [0; 256]
 }
 
 fn blank_pred() -> [u16; 4096] {
     [0; 4096]
+}
+
+fn no_least() -> [i16; 16] {
+    [0; 16]
 }
 
 fn no_small() -> [i16; 256] {
@@ -180,7 +198,89 @@ fn draw_from(
     );
 }
 
-// The prediction lies in an array of its own, a small one for a small block.
+// The prediction lies in an array of its own. A function for each length, so that no other array is cleared.
+fn draw_least(
+    block: Block,
+    kind: u8,
+    coded: bool,
+    lent: &[u16],
+    coef: &[i16],
+    map_scu: &[u32],
+    plane: &mut [u16],
+)
+    requires { ⌜ BlockAsked (aroundBlock block (now plane) (now «map_scu»)) × LentTo block (now lent) × (length (now coef) ≡ sampleCount (block .component) (block .side)) ⌝ }
+    requires { ⌜ length (now coef) ≤ 16 ⌝ }
+    ensures { λ _. ⌜ now (plane .exit) ≡ planeOf (aroundBlock block (now (plane .entry)) (now («map_scu» .entry))) kind (now (lent .entry)) coded (now (coef .entry)) ⌝ }
+{
+    let long = coef.len();
+    let mut pred = blank_least();
+    draw_from(
+        block,
+        kind,
+        coded,
+        lent,
+        coef,
+        map_scu,
+        plane,
+        &mut pred[0..long],
+    );
+}
+
+fn draw_small(
+    block: Block,
+    kind: u8,
+    coded: bool,
+    lent: &[u16],
+    coef: &[i16],
+    map_scu: &[u32],
+    plane: &mut [u16],
+)
+    requires { ⌜ BlockAsked (aroundBlock block (now plane) (now «map_scu»)) × LentTo block (now lent) × (length (now coef) ≡ sampleCount (block .component) (block .side)) ⌝ }
+    requires { ⌜ length (now coef) ≤ 256 ⌝ }
+    ensures { λ _. ⌜ now (plane .exit) ≡ planeOf (aroundBlock block (now (plane .entry)) (now («map_scu» .entry))) kind (now (lent .entry)) coded (now (coef .entry)) ⌝ }
+{
+    let long = coef.len();
+    let mut pred = blank_small();
+    draw_from(
+        block,
+        kind,
+        coded,
+        lent,
+        coef,
+        map_scu,
+        plane,
+        &mut pred[0..long],
+    );
+}
+
+fn draw_large(
+    block: Block,
+    kind: u8,
+    coded: bool,
+    lent: &[u16],
+    coef: &[i16],
+    map_scu: &[u32],
+    plane: &mut [u16],
+)
+    requires { ⌜ BlockAsked (aroundBlock block (now plane) (now «map_scu»)) × LentTo block (now lent) × (length (now coef) ≡ sampleCount (block .component) (block .side)) ⌝ }
+    requires { ⌜ length (now coef) ≤ 4096 ⌝ }
+    ensures { λ _. ⌜ now (plane .exit) ≡ planeOf (aroundBlock block (now (plane .entry)) (now («map_scu» .entry))) kind (now (lent .entry)) coded (now (coef .entry)) ⌝ }
+{
+    let long = coef.len();
+    let mut pred = blank_pred();
+    draw_from(
+        block,
+        kind,
+        coded,
+        lent,
+        coef,
+        map_scu,
+        plane,
+        &mut pred[0..long],
+    );
+}
+
+// In the smallest array that holds the prediction.
 fn draw(
     block: Block,
     kind: u8,
@@ -194,31 +294,15 @@ fn draw(
     ensures { λ _. ⌜ now (plane .exit) ≡ planeOf (aroundBlock block (now (plane .entry)) (now («map_scu» .entry))) kind (now (lent .entry)) coded (now (coef .entry)) ⌝ }
 {
     let long = coef.len();
-    if long <= 256 {
-        let mut small = blank_small();
-        draw_from(
-            block,
-            kind,
-            coded,
-            lent,
-            coef,
-            map_scu,
-            plane,
-            &mut small[0..long],
-        );
+    if long <= 16 {
+        draw_least(block, kind, coded, lent, coef, map_scu, plane);
         return;
     }
-    let mut pred = blank_pred();
-    draw_from(
-        block,
-        kind,
-        coded,
-        lent,
-        coef,
-        map_scu,
-        plane,
-        &mut pred[0..long],
-    );
+    if long <= 256 {
+        draw_small(block, kind, coded, lent, coef, map_scu, plane);
+        return;
+    }
+    draw_large(block, kind, coded, lent, coef, map_scu, plane);
 }
 
 // Where the component is not coded, a residual of its length is lent all the same; nothing of it is read.
@@ -233,6 +317,11 @@ fn draw_uncoded(
     requires { ⌜ BlockAsked (aroundBlock block (now plane) (now «map_scu»)) × LentTo block (now lent) × (long ≡ sampleCount (block .component) (block .side)) ⌝ }
     ensures { λ _. ⌜ now (plane .exit) ≡ planeOf (aroundBlock block (now (plane .entry)) (now («map_scu» .entry))) kind (now (lent .entry)) false [] ⌝ }
 {
+    if long <= 16 {
+        let least = no_least();
+        draw(block, kind, false, lent, &least[0..long], map_scu, plane);
+        return;
+    }
     if long <= 256 {
         let small = no_small();
         draw(block, kind, false, lent, &small[0..long], map_scu, plane);

@@ -5,16 +5,18 @@
 --     leaves-given    of an accepted picture `leaves` refuses no root
 --     leaves-met    where its checks pass, `leaves` does not refuse
 --     index-back    the number of the root at the place of root i is i
+--     root-met, root-told    of an accepted picture the call for root i is not refused, and its list holds the root's leaves
 -- Assumes nothing.
 use mathlib.Core.Bool.{true}
-use mathlib.Core.List.{List}
-use mathlib.Core.Path.{_≡_, refl, sym, ap, _∙_}
-use Prim.Native.Nat.{ℕ, _*_, _/_, _%_, _<_}
+use mathlib.Core.List.{List, List·Memᴰ, List·Memᴰ·head, Memᴰ·append-left, Memᴰ·append-right}
+use mathlib.Core.Path.{_≡_, refl, sym, ap, _∙_, subst}
+use Prim.Native.Nat.{ℕ, zero, suc, _+_, _*_, _/_, _%_, _≤_, _<_}
 use native.Mathlib.Nat.{zero-add, div-add-mod'}
 use native.Mathlib.Omega.{arith}
-use borrow.Author.Tests.{eq-eqb, lt-ltb}
-use lib.ListN.{length}
-use lib.Seq.{sets}
+use borrow.Author.Tests.{eq-eqb, lt-ltb, eqb-true, eqb-false}
+use lib.Dec.{eqb}
+use lib.ListN.{length, getD}
+use lib.Seq.{sets, length-sets}
 use Rattle.def.specs.Answers.{answerNumber, afterChecks}
 use Rattle.def.specs.Picture.{sizeOk, rootsAlong, rootCount}
 use Rattle.def.specs.Refusals.{numberOf}
@@ -27,13 +29,16 @@ use Rattle.laws.specs.Call.{Gives}
 use Rattle.laws.specs.Orders.{each}
 use Rattle.split.specs.CheckCall as check-call
 use Rattle.split.specs.LeavesCall as leaves-call
-use Rattle.split.specs.Picture.{roots, rootWalk, pictureWalk}
-use Rattle.split.specs.Stored.{leafNumbers, counted, leavesFrom, Ready, Stored}
+use Rattle.split.specs.Picture.{roots, rootWalk, rootLeaves, pictureWalk}
+use Rattle.split.specs.Stored.{leafNumbers, counted, leafFrom, leavesFrom, LeafAt, Ready, Stored}
 use Rattle.split.specs.declared.Walked.{Walked}
 use Rattle.split.specs.declared.Walked.the-variants.{Done as Counted, Refused as NotCounted}
+use Rattle.split.proofs.Induct.{test}
 use Rattle.split.proofs.Listing.{read-back, ready}
 use Rattle.split.proofs.Outcomes.{LeavesPassed, leaves-passed}
-use Rattle.split.proofs.Roots.{index-in, roots-units}
+use Rattle.split.proofs.Places.{sound-at, stands-at}
+use Rattle.split.proofs.Ranks.{Stands}
+use Rattle.split.proofs.Roots.{index-in, roots-units, some-wide, root-column, root-row}
 use Rattle.split.proofs.Walks.{each-done}
 
 -- ---- check
@@ -63,6 +68,7 @@ pub record Told (i : leaves-call.Input) (o : List ℕ) (n : ℕ) : Type 0 where
   pub count : n ≡ length (leaves-call.leavesAt (i .w) (i .h) (i .splits) (i .x) (i .y))
   pub back : leavesFrom o n ≡ leaves-call.leavesAt (i .w) (i .h) (i .splits) (i .x) (i .y)
   pub leaves : Ready o n
+  pub same-long : length o ≡ length (i .out)
 
 record Given (i : leaves-call.Input) (o : List ℕ) (n : ℕ) (k : Answer) : Type 0 where
   done : k ≡ Done
@@ -88,6 +94,7 @@ leaves-told i o n e =
       count = g .count;
       back = read-back (i .splits) (i .w / 4) (i .h / 4) at (p .walked) d (p .room) n refl;
       leaves = ready (i .splits) (i .w / 4) (i .h / 4) at (p .walked) d (p .room) n refl (omega (arith, z .wide)) (omega (arith, z .high));
+      same-long = ap length (g .out) ∙ simp length-sets;
     }
 
 -- the number of the root at the place of root i
@@ -112,3 +119,56 @@ unfolding leaves-call.outcome
 leaves-met i r o q d e z =
     let f : leaves-call.after (NotCounted q) o ≡ leaves-call.done i = ap (λ (a : Walked). leaves-call.after a o) (sym z) ∙ e ∙ ap (afterChecks (leaves-call.refused i) (leaves-call.done i)) d in
     omega (arith, number-some q, ap (λ (p : leaves-call.Outcome). p .reading .number) f)
+
+-- ---- the roots of an accepted picture
+
+-- the call for root i
+abbrev pub rootInput : (w h : ℕ) → List ℕ → ℕ → List ℕ → leaves-call.Input
+rootInput w h s i out = record { w = w; h = h; splits = s; x = 64 * (i % rootsAlong w); y = 64 * (i / rootsAlong w); out = out }
+
+-- leaf j of a list, in a picture of w by h units
+pub record Leafed (w h : ℕ) (list : List ℕ) (j : ℕ) : Type 0 where
+  pub numbers : LeafAt (getD list (3 * j) 0) (getD list (3 * j + 1) 0) (getD list (3 * j + 2) 0)
+  pub stands : Stands (leafFrom list j)
+  pub columns : leafFrom list j .x + leafFrom list j .side ≤ w
+  pub rows : leafFrom list j .y + leafFrom list j .side ≤ h
+
+-- the list of root i, of which n leaves were answered
+pub record RootTold (w h : ℕ) (s : List ℕ) (i : ℕ) (list : List ℕ) (n : ℕ) : Type 0 where
+  pub same : leavesFrom list n ≡ rootLeaves s (w / 4) (h / 4) i
+  pub long : length list ≡ 768
+  pub few : n ≤ 256
+  pub leaves : (j : ℕ) → j < n → Leafed (w / 4) (h / 4) list j
+
+from-in : (list : List ℕ) (n j : ℕ) → j < n → List·Memᴰ (leafFrom list j) (leavesFrom list n)
+unfolding leavesFrom
+from-in list zero j l = absurd (omega arith)
+from-in list (suc n) j l =
+    test (eqb j n) (λ t. Memᴰ·append-right (leavesFrom list n) (List·Memᴰ·head (ap (leafFrom list) (eqb-true j n t))))
+    (λ t. let ne = eqb-false j n t in Memᴰ·append-left _ (from-in list n j (omega arith)))
+
+module _ (w h : ℕ) (s : List ℕ) (size : sizeOk w h ≡ true) (bytes : length s ≡ 1024 * rootCount w h) (walked : pictureWalk s (w / 4) (h / 4) .answer ≡ Done) (i : ℕ) (early : i < rootCount w h)
+    (out list : List ℕ) (r : Walked) (room : length out ≡ 768) (g : Gives leaves-call.outcome (rootInput w h s i out) (leaves-call.after r list)) where
+  pub root-met : (q : Refusal) → r ≡ NotCounted q → ⊥
+  root-met q =
+      let z = sized w h size in
+      let d = leaves-given w h s _ _ size bytes walked (omega arith) (omega arith) (root-column z i early) (root-row z i early) in
+      leaves-met (rootInput w h s i out) r list q (rw room d) g
+
+  pub root-told : (n : ℕ) → r ≡ Counted n → RootTold w h s i list n
+  root-told n e =
+      let z = sized w h size in
+      let t = leaves-told (rootInput w h s i out) list n (rw e at g) in
+      let same : leavesFrom list n ≡ rootLeaves s (w / 4) (h / 4) i = t .back ∙ ap (rootLeaves s (w / 4) (h / 4)) (index-back w i) in
+      let long = t .same-long ∙ room in
+      let fine = each-done (rootWalk s (w / 4) (h / 4)) (roots (w / 4) (h / 4)) walked in
+      let in-time : i < roots (w / 4) (h / 4) = rw (roots-units z) early in
+      record {
+        same = same;
+        long = long;
+        few = omega (arith, t .leaves .long);
+        leaves = λ j l.
+            let m = subst (List·Memᴰ (leafFrom list j)) same (from-in list n j l) in
+            let d = sound-at s (w / 4) (h / 4) (some-wide z) fine i in-time _ m in
+            record { numbers = t .leaves .leaves j l; stands = stands-at s (w / 4) (h / 4) (some-wide z) fine i in-time _ m; columns = d .columns; rows = d .rows };
+      }

@@ -1,12 +1,11 @@
 -- `df::pass::root_leaves` meets its contract: the walk was accepted, so the call lists the root's leaves. Assumes nothing.
-use Prim.Native.Nat.{ℕ, _+_, _*_, _/_, _%_, _≤_, _<_}
+use Prim.Native.Nat.{_+_, _*_, _/_, _%_, _<_}
 use native.Mathlib.Omega.{arith}
-use native.Mathlib.Nat.{mod-lt, div-le-self}
 use borrow.Author.Needs.{needs}
-use Rattle.def.specs.Picture.{rootCount}
 use Rattle.def.proofs.Sizes.{Sized, sized}
+use Rattle.split.proofs.Callers.{root-met, root-told}
 use Rattle.split.proofs.Roots.{root-column, root-row}
-use Rattle.df_rules.proofs.Leaves.{root-refused, root-done}
+use Rattle.df_rules.proofs.Leaves.{rooted}
 use Rattle.df.proofs.pass.root_leaves.Statement.{statement}
 use Rattle.df.proofs.pass.root_leaves.Tie as tie
 
@@ -22,12 +21,12 @@ row s = root-row (size s) (s .args .i) (s .pre .1)
 returns : tie.Need-returns
 returns c =
     let s = c .before .before .before .before .before .before .before .before .before in
-    root-done (s .pre .0) (s .args .i) (s .pre .1) _ _ _ (s .pre .2) (c .before .before .before .before .before .leaves .ensures) _ (c .before .n .given .1)
+    rooted (root-told _ _ _ (s .pre .0 .sides) (s .pre .0 .long) (s .pre .0 .walked) (s .args .i) (s .pre .1) _ _ _ (s .pre .2) (c .before .before .before .before .before .leaves .ensures) _ (c .before .n .given .1))
 
 returns-2 : tie.Need-returns-2
 returns-2 c =
     let s = c .before .before .before .before .before .before .before .before in
-    absurd (root-refused (s .pre .0) (s .args .i) (s .pre .1) _ _ _ (s .pre .2) (c .before .before .before .before .leaves .ensures) _ (c .enum-told .given .1))
+    absurd (root-met _ _ _ (s .pre .0 .sides) (s .pre .0 .long) (s .pre .0 .walked) (s .args .i) (s .pre .1) _ _ _ (s .pre .2) (c .before .before .before .before .leaves .ensures) _ (c .enum-told .given .1))
 
 pub root-leaves-spec : {M : Type 1} → statement M
 root-leaves-spec =

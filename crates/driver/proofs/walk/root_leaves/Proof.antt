@@ -3,8 +3,9 @@ use Prim.Native.Nat.{_+_, _*_, _/_, _%_, _<_}
 use native.Mathlib.Omega.{arith}
 use borrow.Author.Needs.{needs}
 use Rattle.def.proofs.Sizes.{Sized, sized}
+use Rattle.split.proofs.Callers.{root-met, root-told}
 use Rattle.split.proofs.Roots.{root-column, root-row}
-use Rattle.driver_rules.proofs.Lists.{never-refused, listed}
+use Rattle.driver_rules.proofs.Lists.{listed}
 use Rattle.driver.proofs.walk.root_leaves.Statement.{statement}
 use Rattle.driver.proofs.walk.root_leaves.Tie as tie
 
@@ -20,12 +21,12 @@ row s = root-row (size s) (s .args .i) (s .pre .1)
 returns : tie.Need-returns
 returns c =
     let s = c .before .before .before .before .before .before .before .before .before in
-    listed (s .pre .0) (s .args .i) (s .pre .1) _ _ _ (s .pre .2) (c .before .before .before .before .before .leaves .ensures) _ (c .before .n .given .1)
+    listed (root-told _ _ _ (s .pre .0 .size) (s .pre .0 .long) (s .pre .0 .walked) (s .args .i) (s .pre .1) _ _ _ (s .pre .2) (c .before .before .before .before .before .leaves .ensures) _ (c .before .n .given .1))
 
 returns-2 : tie.Need-returns-2
 returns-2 c =
     let s = c .before .before .before .before .before .before .before .before in
-    absurd (never-refused (s .pre .0) (s .args .i) (s .pre .1) _ _ _ (s .pre .2) (c .before .before .before .before .leaves .ensures) _ (c .enum-told .given .1))
+    absurd (root-met _ _ _ (s .pre .0 .size) (s .pre .0 .long) (s .pre .0 .walked) (s .args .i) (s .pre .1) _ _ _ (s .pre .2) (c .before .before .before .before .leaves .ensures) _ (c .enum-told .given .1))
 
 pub root-leaves-spec : {M : Type 1} → statement M
 root-leaves-spec =
