@@ -2,4 +2,3 @@ pub mod Accepted
 pub mod Near
 pub mod Around
 pub mod Readings
-pub mod Once

@@ -5,7 +5,6 @@ pub mod Highest
 pub mod Filled
 pub mod Fits
 pub mod Offsets
-pub mod Once
 pub mod Outcomes
 pub mod Parts
 pub mod Pivots

@@ -56,7 +56,7 @@ use Rattle.df_check.specs.Checks as checks
 use Rattle.df_check.specs.ChromaQp.{indexOf, mappedZ}
 use Rattle.df_check.specs.declared.VEdge.the-variants.{Source}
 use Rattle.df.specs.Deblock as deblock
-use Rattle.df.proofs.Once.{reading-apart as deblocked-apart}
+use Rattle.df.proofs.Apart.{reading-apart as deblocked-apart}
 use Rattle.sheet_lines.specs.Lines.{startOf, lineOf, startsWith, isNumber, numberLine, edgeLine, sameLine, splitsLine, numberAfter, valueFrom, lineOk, firstBad, widthOf, heightOf, limitOf, digitsOf}
 use Rattle.sheet_lines.specs.ReadCall as sheet
 use Rattle.sheet_lines.specs.Words.{widthKey, heightKey, limitKey, ownEdge, splitsKey}

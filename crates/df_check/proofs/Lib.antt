@@ -1,5 +1,4 @@
 pub mod ChromaQp
-pub mod Once
 pub mod Passed
 pub mod Strengths
 pub mod Units

@@ -1,4 +1,3 @@
-pub mod Once
 pub mod Outcomes
 pub mod Puts
 pub mod Written

@@ -1,5 +1,4 @@
 pub mod Dc
-pub mod Once
 pub mod Outcomes
 pub mod Promises
 pub mod Rows

@@ -1,3 +1,2 @@
 pub mod Unsigned
 pub mod ByLane
-pub mod Once

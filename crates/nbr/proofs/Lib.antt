@@ -7,4 +7,3 @@ pub mod Around
 pub mod Puts
 pub mod Runs
 pub mod Gathered
-pub mod Once

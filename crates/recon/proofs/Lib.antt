@@ -1,6 +1,5 @@
 pub mod Checks
 pub mod Lengths
-pub mod Once
 pub mod Outcomes
 pub mod Promises
 pub mod Residuals

@@ -2,7 +2,6 @@ pub mod Blocks
 pub mod Descents
 pub mod Founds
 pub mod Lists
-pub mod Once
 pub mod Outcomes
 pub mod Pictures
 pub mod Puts

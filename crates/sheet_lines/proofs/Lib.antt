@@ -1,5 +1,4 @@
 pub mod Answers
 pub mod Forms
 pub mod Ladder
-pub mod Once
 pub mod Reading

@@ -6,7 +6,6 @@ pub mod Demand3
 pub mod Example
 pub mod Induct
 pub mod Listing
-pub mod Once
 pub mod Order
 pub mod Outcomes
 pub mod Parts

@@ -1,0 +1,13 @@
+-- The reading of what `deblock` answers tells all answers apart. Assumes nothing.
+use mathlib.Core.Path.{_≡_, ap}
+use native.Mathlib.Omega.{arith}
+use Rattle.def.proofs.Answers.{number-some, number-apart}
+use Rattle.df.specs.Deblock.{Reading, readingOf}
+use Rattle.df.specs.declared.Deblocked.{Deblocked}
+use Rattle.df.specs.declared.Deblocked.the-variants.{Done, Refused}
+
+pub reading-apart : (a b : Deblocked) → readingOf a ≡ readingOf b → a ≡ b
+reading-apart (Done m n) (Done j k) e = λ x. Done (e x .vertical) (e x .horizontal)
+reading-apart (Done m n) (Refused r) e = absurd (omega (arith, number-some r, ap (λ (x : Reading). x .number) e))
+reading-apart (Refused r) (Done m n) e = absurd (omega (arith, number-some r, ap (λ (x : Reading). x .number) e))
+reading-apart (Refused r) (Refused q) e = ap Refused (number-apart r q (ap (λ (x : Reading). x .number) e))
