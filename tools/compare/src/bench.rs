@@ -134,18 +134,47 @@ fn deblocked(given: &Picture) -> (f64, f64) {
         words.copy_from_slice(&given.words);
     };
     let ours = best(&mut ours, refill, |(planes, words)| {
-        let [y, u, v] = planes;
-        let maps = lomsakeun::Maps {
-            splits: &given.splits,
-            motion: &given.motion,
-            refs: &given.refs,
-            tables: given.tables.each_ref().map(|table| &table[..]),
-            strengths: &given.strengths,
-        };
-        let settings = lomsakeun::Settings { limit: 6, own: false, u_offset: offsets[0], v_offset: offsets[1] };
-        lomsakeun::deblock(lomsakeun::Picture { w: given.w, h: given.h, y, u, v, words }, maps, settings).unwrap();
+        finish(given, planes, words);
     });
     (theirs / count, ours / count)
+}
+
+/// The product's call over a picture; the answer is how many edges of units it filtered.
+fn finish(given: &Picture, planes: &mut [Vec<u16>; 3], words: &mut [u32]) -> usize {
+    let [y, u, v] = planes;
+    let maps = lomsakeun::Maps {
+        splits: &given.splits,
+        motion: &given.motion,
+        refs: &given.refs,
+        tables: given.tables.each_ref().map(|table| &table[..]),
+        strengths: &given.strengths,
+    };
+    let [u_offset, v_offset] = given.offsets.map(|offset| offset as i8);
+    let settings = lomsakeun::Settings { limit: 6, own: false, u_offset, v_offset };
+    let filtered =
+        lomsakeun::deblock(lomsakeun::Picture { w: given.w, h: given.h, y, u, v, words }, maps, settings);
+    filtered.map(|(vertical, horizontal)| vertical + horizontal).unwrap()
+}
+
+/// What is deblocked: pictures of these leaves, all units intra or all inter.
+fn kinds() -> impl Iterator<Item = (String, trees::Taste, bool)> {
+    LEAVES.into_iter().flat_map(|(leaves, taste)| {
+        [true, false].map(|intra| {
+            let units = if intra { "intra" } else { "inter" };
+            (format!("deblocking, {units}, leaves {leaves}"), taste, intra)
+        })
+    })
+}
+
+/// Deblocks one picture of 1024 by 1024 of a kind, by its place among them, for an instruction count; false where there is no such kind.
+pub fn count(kind: usize) -> bool {
+    let Some((what, taste, intra)) = kinds().nth(kind) else { return false };
+    let rng = &mut Rng::new(1);
+    let drawn = picture(rng, 1024, 1024, taste);
+    let given = alike(rng, drawn, intra);
+    let edges = finish(&given, &mut given.planes.clone(), &mut given.words.clone());
+    println!("{what}: {edges} edges of units");
+    true
 }
 
 /// The same kind of samples, words, motion and tables at every size, so that the sizes can be compared: noise around a middle grey, QP 37.
@@ -164,20 +193,16 @@ fn alike(rng: &mut Rng, given: Picture, intra: bool) -> Picture {
     }
 }
 
-/// Deblocking of pictures of these leaves, all units intra or all inter.
 fn deblocking(rng: &mut Rng) -> Vec<Series> {
-    let mut all = Vec::new();
-    for (leaves, taste) in LEAVES {
-        for intra in [true, false] {
-            let what = format!("deblocking, {}, leaves {leaves}", if intra { "intra" } else { "inter" });
-            all.push(series(&what, |size| {
+    kinds()
+        .map(|(what, taste, intra)| {
+            series(&what, |size| {
                 let drawn = picture(rng, size, size, taste);
                 let given = alike(rng, drawn, intra);
                 deblocked(&given)
-            }));
-        }
-    }
-    all
+            })
+        })
+        .collect()
 }
 
 fn series(what: &str, mut measure: impl FnMut(usize) -> (f64, f64)) -> Series {

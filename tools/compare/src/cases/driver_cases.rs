@@ -1,7 +1,7 @@
 //! Which pictures are recorded for the block driver, and what is compared beside them.
+use super::data::size;
 use super::deblock_cases::{square, strip};
 use super::driver::{of, picture, Driver, KINDS, MASKS};
-use super::data::size;
 use super::driver_refusals;
 use super::tape::{Case, Tape};
 use super::trees;
