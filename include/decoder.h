@@ -78,7 +78,7 @@ uint8_t lomsakeun_get_avail_inter(
     size_t w, size_t h, const uint32_t *map_scu, size_t map_scu_len,
     size_t x, size_t y, size_t side, uint8_t *neighbours);
 
-/* The five mode ranks for the unit of column x and row y, copied from the lent table (nbr). */
+/* The five mode ranks for the unit of column x and row y, copied from the lent table (mpm). */
 uint8_t lomsakeun_get_mpm(
     size_t w, size_t h, const uint32_t *map_scu, size_t map_scu_len, const uint8_t *map_ipm, size_t map_ipm_len,
     const uint8_t *table, size_t table_len, size_t x, size_t y, uint8_t *ranks, size_t ranks_len);

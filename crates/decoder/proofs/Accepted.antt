@@ -18,7 +18,7 @@ use Rattle.chroma_qp.specs.Mapping.{Points, inOf, outOf}
 use Rattle.avail.specs.Around as around
 use Rattle.avail.specs.Calls as avail
 use Rattle.nbr.specs.Gather as gather
-use Rattle.nbr.specs.Ranks as ranks
+use Rattle.mpm.specs.Ranks as ranks
 use Rattle.ipred.specs.Predict as predict
 use Rattle.recon.specs.Plane as plane
 use Rattle.recon.specs.Recon as recon

@@ -37,7 +37,7 @@ use Rattle.avail.specs.Inter.{interNeighbours}
 use Rattle.avail.specs.Intra.{intraNeighbours}
 use Rattle.avail.proofs.Readings.{reading-apart}
 use Rattle.nbr.specs.Gather as gather
-use Rattle.nbr.specs.Ranks as ranks
+use Rattle.mpm.specs.Ranks as ranks
 use Rattle.ipred.specs.Predict as predict
 use Rattle.recon.specs.Plane as plane
 use Rattle.recon.specs.Recon as recon

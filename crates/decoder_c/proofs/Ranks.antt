@@ -16,8 +16,8 @@ use Rattle.def.specs.declared.Answer.the-variants.{Done, Refused}
 use Rattle.def.specs.declared.Refusal.{Refusal}
 use Rattle.def.specs.declared.Refusal.the-variants.{Size, Length}
 use Rattle.def.proofs.Answers.{answer-apart, number-some}
-use Rattle.nbr.specs.Ranks as lookup
-use Rattle.nbr.proofs.Parts.{five-where-done}
+use Rattle.mpm.specs.Ranks as lookup
+use Rattle.mpm.proofs.Parts.{five-where-done}
 use Rattle.decoder_c.specs.Ranks.{checkOf, ranksOf}
 
 -- the companion's number tells what its checks found

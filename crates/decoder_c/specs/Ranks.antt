@@ -12,7 +12,7 @@ use Rattle.def.specs.declared.Refusal.{Refusal}
 use Rattle.def.specs.declared.Refusal.the-variants.{Size, Length}
 use Rattle.def.specs.declared.Answer.{Answer}
 use Rattle.def.specs.declared.Answer.the-variants.{Refused}
-use Rattle.nbr.specs.Ranks as lookup
+use Rattle.mpm.specs.Ranks as lookup
 
 pub record Input : Type 0 where
   pub around : lookup.Input

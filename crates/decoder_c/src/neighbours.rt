@@ -112,7 +112,7 @@ fn ranks_checked(
     if ranks != 5 {
         return Answer::Refused(Refusal::Length);
     }
-    nbr::get_mpm_number(w, h, map_scu, map_ipm, table, Scu(x), Scu(y))
+    mpm::get_mpm_number(w, h, map_scu, map_ipm, table, Scu(x), Scu(y))
 }
 
 // A part's bytes, into a slice of its length.
@@ -147,7 +147,7 @@ pub extern "C" fn lomsakeun_get_mpm(
         Answer::Refused(r) => def::refusal_number(r),
         Answer::Done => {
             copy(
-                nbr::get_mpm(w, h, map_scu, map_ipm, table, Scu(x), Scu(y)),
+                mpm::get_mpm(w, h, map_scu, map_ipm, table, Scu(x), Scu(y)),
                 ranks,
             );
             0

@@ -3,4 +3,5 @@ pub mod Blocks
 pub mod Ladders
 pub mod Sides
 pub mod Sizes
+pub mod Units
 pub mod Words

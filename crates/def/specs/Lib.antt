@@ -3,4 +3,5 @@ pub mod Blocks
 pub mod Components
 pub mod Picture
 pub mod Refusals
+pub mod Units
 pub mod Word

@@ -33,7 +33,7 @@ use Rattle.ipred.specs.Modes.{predicted, blockOf}
 use Rattle.ipred.proofs.Promises as ipred
 use Rattle.nbr.specs.Gather as nbr
 use Rattle.nbr.specs.Gather.{Around, unitSide, sideOf, across, column, row, counts, presentAt, sampleAt, nearAt, runAt, runOf, runLength}
-use Rattle.nbr.specs.Units.{unitAt}
+use Rattle.def.specs.Units.{unitAt}
 use Rattle.nbr.proofs.Runs.{run-long, run-samples}
 use Rattle.nbr.proofs.Sides.{scaled-le}
 use Rattle.recon.specs.Recon.{blockAt}

@@ -33,7 +33,7 @@ use Rattle.def.specs.declared.Component.{Component}
 use Rattle.def.specs.declared.Component.the-variants.{Luma, Chroma}
 use Rattle.def.proofs.Sizes.{sized}
 use Rattle.def.proofs.Words.{leaf-word}
-use Rattle.nbr.specs.Units.{unitAt}
+use Rattle.def.specs.Units.{unitAt}
 use Rattle.samples.specs.Samples.{samplesOk}
 use Rattle.samples.proofs.Samples.{samples-pass}
 use Rattle.split.specs.Picture.{roots, rootWalk}

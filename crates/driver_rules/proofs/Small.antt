@@ -25,7 +25,7 @@ use Rattle.def.specs.declared.Component.the-variants.{Luma, Chroma}
 use Rattle.def.proofs.Blocks.{blocked}
 use Rattle.def.proofs.Sizes.{sized}
 use Rattle.nbr.specs.Gather.{unitSide}
-use Rattle.nbr.specs.Units.{unitAt}
+use Rattle.def.specs.Units.{unitAt}
 use Rattle.nbr.proofs.Sides.{four}
 use Rattle.driver_rules.specs.Asked.{DoneSmall}
 use Rattle.driver_rules.specs.Steps.{withUnits}

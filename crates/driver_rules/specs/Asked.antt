@@ -13,7 +13,7 @@ use Rattle.def.specs.declared.Component.{Component}
 use Rattle.def.specs.declared.Component.the-variants.{Luma, Chroma}
 use Rattle.def.specs.declared.Answer.the-variants.{Done}
 use Rattle.nbr.specs.Gather.{Around, unitSide}
-use Rattle.nbr.specs.Units.{unitAt}
+use Rattle.def.specs.Units.{unitAt}
 use Rattle.samples.specs.Samples.{samplesOk}
 use Rattle.split.specs.Picture.{pictureWalk, rootLeaves}
 use Rattle.split.specs.Stored.{leavesFrom}

@@ -8,7 +8,7 @@ use lib.Dec.{leb}
 use lib.ListN.{length, getD}
 use Rattle.laws.specs.Scan.{allIn}
 use Rattle.def.specs.Word.{qpOf, doneOf}
-use Rattle.nbr.specs.Units.{unitAt}
+use Rattle.def.specs.Units.{unitAt}
 use Rattle.samples.specs.Samples.{samplesOk}
 use Rattle.split.specs.Tiling.{Holds}
 use Rattle.split.specs.Walk.{Leaf, leaf}

@@ -13,7 +13,7 @@ use lib.Dec.{ltb}
 use lib.ListN.{length, getD}
 use Rattle.laws.proofs.Calls.{all-at}
 use Rattle.laws.proofs.Flat.{next-row}
-use Rattle.nbr.specs.declared.gather.Arm.{Arm}
+use Rattle.nbr.specs.declared.Arm.{Arm}
 use Rattle.nbr.specs.Gather.{counts}
 use Rattle.nbr.specs.Arms.{presentIn, armAt, Within}
 

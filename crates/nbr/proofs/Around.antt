@@ -16,10 +16,10 @@ use Rattle.def.specs.Components.{scaleOf}
 use Rattle.def.specs.declared.Component.{Component}
 use Rattle.def.proofs.Sizes.{sized}
 use Rattle.def.proofs.Blocks.{blocked}
-use Rattle.nbr.specs.declared.gather.Arm.{Arm}
+use Rattle.nbr.specs.declared.Arm.{Arm}
 use Rattle.nbr.specs.Gather.{Around, unitSide, across, column, row, sampleAt, nearAt}
 use Rattle.nbr.specs.Arms.{presentIn, armAt, Within, noArm, leftArm, cornerArm, upArm, BlockOf, Lent}
-use Rattle.nbr.proofs.Units.{unit-below}
+use Rattle.def.proofs.Units.{unit-below}
 use Rattle.nbr.proofs.Sides.{Sided, four, scaled-le, sided, UnitSided, unit-sided}
 
 -- ---- a block that passes, along both sides of the picture

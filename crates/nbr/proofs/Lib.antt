@@ -1,6 +1,3 @@
-pub mod Units
-pub mod Modes
-pub mod Parts
 pub mod Arms
 pub mod Sides
 pub mod Around

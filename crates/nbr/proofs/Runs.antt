@@ -19,7 +19,7 @@ use Rattle.def.specs.declared.Component.{Component}
 use Rattle.samples.specs.Samples.{sampleOk}
 use Rattle.samples.proofs.Samples.{joined}
 use Rattle.nbr.specs.Gather.{Around, unitSide, sideOf, runAt, runOf, runLength, samplesOk, lengthTests, lengthsOk}
-use Rattle.nbr.specs.declared.gather.Arm.{Arm}
+use Rattle.nbr.specs.declared.Arm.{Arm}
 use Rattle.nbr.specs.Puts.{Put}
 use Rattle.nbr.specs.Arms.{armAt, Within, leftArm, cornerArm, upArm, BlockOf, Lent}
 use Rattle.nbr.proofs.Sides.{scaled-le, unit-sided}

@@ -11,8 +11,8 @@ use Rattle.def.specs.Blocks.{blockOk}
 use Rattle.def.specs.Components.{scaleOf, planeLength}
 use Rattle.def.specs.Picture.{sizeOk, unitCount}
 use Rattle.def.specs.declared.Component.{Component}
-use Rattle.nbr.specs.declared.gather.Arm.{Arm}
-use Rattle.nbr.specs.declared.gather.Block.{Block}
+use Rattle.nbr.specs.declared.Arm.{Arm}
+use Rattle.nbr.specs.declared.Block.{Block}
 use Rattle.nbr.specs.Gather.{Around, counts}
 
 -- unit i of an arm is present

@@ -19,7 +19,7 @@ use Rattle.def.specs.declared.Refusal.{Refusal}
 use Rattle.def.specs.declared.Refusal.the-variants.{Size, Length, Sample, Block}
 use Rattle.def.specs.declared.Answer.{Answer}
 use Rattle.def.specs.declared.Answer.the-variants.{Done, Refused}
-use Rattle.nbr.specs.Units.{unitAt}
+use Rattle.def.specs.Units.{unitAt}
 
 -- a block with the plane and the words that are lent; x, y and side are its own in luma, for chroma too
 pub record Around : Type 0 where

@@ -1,5 +1,3 @@
-pub mod Units
-pub mod Ranks
 pub mod Gather
 pub mod Checks
 pub mod Puts

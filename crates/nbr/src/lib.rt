@@ -1,7 +1,381 @@
-// What a block's neighbours tell intra prediction: the ranks of its modes, and the samples around it. The Rust beside it: ipred.rs.
-mod gather;
-mod ranks;
+// Neighbour gathering: evc_get_nbr_b of ipred.rs. The Rust's three loops are one over an arm, with a start and a stride.
+ghost use mathlib.Core.Path.{_≡_};
+ghost use Prim.Native.Nat.{ℕ, _+_, _*_, _≤_, _<_};
+ghost use lib.ListN.{length, getD};
+ghost use Rattle.laws.specs.Plane.{withRow};
+ghost use Rattle.laws.specs.Call.{Gives};
+ghost use Rattle.def.specs.Answers.{answerNumber};
+ghost use Rattle.samples.specs.Samples.{sampleOk};
+ghost use Rattle.nbr.specs.Gather.{runLength, runOf, samplesOk, lengthsOk, outcome};
+ghost use Rattle.nbr.specs.Checks.{formOf, gathered};
+ghost use Rattle.nbr.specs.Puts.{Put};
+ghost use Rattle.nbr.specs.Arms.{presentIn, armAt, Within, noArm, leftOf, cornerOf, upOf, Stands, LentTo, aroundOf};
+use def::Answer;
+use def::Component;
+use def::Pel;
+use def::Refusal;
 
-pub use gather::get_nbr;
-pub use ranks::get_mpm;
-pub use ranks::get_mpm_number;
+// A side of the run: samples `step` apart in the plane from `from`; the words of their units `next` apart from `word`.
+// The first `there` units lie in the picture.
+struct Arm {
+    from: usize,
+    step: usize,
+    word: usize,
+    next: usize,
+    there: usize,
+}
+
+// Whether unit i of an arm is present: in the picture and done, and intra when constrained.
+fn present(map_scu: &[u32], arm: Arm, i: usize, constrained: bool) -> bool
+    requires { ⌜ (i < arm .there → arm .word + i * arm .next < length (now «map_scu»)) ⌝ }
+    ensures { λ r. ⌜ r ≡ presentIn arm constrained (now («map_scu» .entry)) i ⌝ }
+{
+    if arm.there <= i {
+        return false;
+    }
+    let at = arm.word + i * arm.next;
+    let word = map_scu[at];
+    def::get_cod(word) & (!constrained | def::get_if(word))
+}
+
+// n samples that are missing, into run from `to`.
+fn put_missing(run: &mut [u16], to: usize, n: usize)
+    requires { ⌜ to + n ≤ length (now run) ⌝ }
+    ensures { λ _. ⌜ now (run .exit) ≡ withRow 0 to n (λ (j : ℕ). 512) (now (run .entry)) ⌝ }
+{
+    let mut j = 0;
+    while j < n {
+        run[to + j] = 512;
+        j += 1;
+    }
+}
+
+// n samples of the plane, `step` apart from `from`, into run from `to`; the answer is them joined by `|`.
+// What is joined is at most 1023 exactly where each sample is, as 1023 is 2^10 - 1: so the samples are read once, and tested once.
+fn put_samples(run: &mut [u16], to: usize, plane: &[u16], from: usize, step: usize, n: usize) -> u16
+    requires { ⌜ (to + n ≤ length (now run)) × ((j : ℕ) → j < n → from + j * step < length (now plane)) ⌝ }
+    ensures { λ r. ⌜ Put to n (λ (j : ℕ). getD (now (plane .entry)) (from + j * step) 0) (now (run .entry)) (now (run .exit)) r ⌝ }
+{
+    let mut all: u16 = 0;
+    let mut j = 0;
+    while j < n {
+        let sample = plane[from + j * step];
+        run[to + j] = sample;
+        all = all | sample;
+        j += 1;
+    }
+    all
+}
+
+// Unit i of an arm into run from `to`: its n samples, joined, or as many missing ones, which join nothing.
+fn put_unit(
+    plane: &[u16],
+    map_scu: &[u32],
+    arm: Arm,
+    i: usize,
+    n: usize,
+    constrained: bool,
+    run: &mut [u16],
+    to: usize,
+) -> u16
+    requires { ⌜ Within arm n (now plane) (now «map_scu») × (to + n ≤ length (now run)) ⌝ }
+    ensures { λ r. ⌜ Put to n (λ (j : ℕ). armAt arm n constrained (now (plane .entry)) (now («map_scu» .entry)) (i * n + j)) (now (run .entry)) (now (run .exit)) r ⌝ }
+{
+    if !present(map_scu, arm, i, constrained) {
+        put_missing(run, to, n);
+        return 0;
+    }
+    let from = arm.from + i * n * arm.step;
+    put_samples(run, to, plane, from, arm.step, n)
+}
+
+// An arm of `units` units of n samples, joined, into run from `to`.
+fn put_units(
+    plane: &[u16],
+    map_scu: &[u32],
+    arm: Arm,
+    units: usize,
+    n: usize,
+    constrained: bool,
+    run: &mut [u16],
+    to: usize,
+) -> u16
+    requires { ⌜ Within arm n (now plane) (now «map_scu») × (to + units * n ≤ length (now run)) ⌝ }
+    ensures { λ r. ⌜ Put to (units * n) (armAt arm n constrained (now (plane .entry)) (now («map_scu» .entry))) (now (run .entry)) (now (run .exit)) r ⌝ }
+{
+    let mut all: u16 = 0;
+    let mut i = 0;
+    while i < units {
+        all = all | put_unit(plane, map_scu, arm, i, n, constrained, run, to + i * n);
+        i += 1;
+    }
+    all
+}
+
+// The same. A unit's samples are told apart here, so that the loops over them have a length that is known.
+fn put_arm(
+    plane: &[u16],
+    map_scu: &[u32],
+    arm: Arm,
+    units: usize,
+    n: usize,
+    constrained: bool,
+    run: &mut [u16],
+    to: usize,
+) -> u16
+    requires { ⌜ Within arm n (now plane) (now «map_scu») × (to + units * n ≤ length (now run)) × ((n ≡ 4 → ⊥) → (n ≡ 2 → ⊥) → n ≡ 1) ⌝ }
+    ensures { λ r. ⌜ Put to (units * n) (armAt arm n constrained (now (plane .entry)) (now («map_scu» .entry))) (now (run .entry)) (now (run .exit)) r ⌝ }
+{
+    if n == 4 {
+        put_units(plane, map_scu, arm, units, 4, constrained, run, to)
+    } else if n == 2 {
+        put_units(plane, map_scu, arm, units, 2, constrained, run, to)
+    } else {
+        put_units(plane, map_scu, arm, units, 1, constrained, run, to)
+    }
+}
+
+// ---- the three arms of a block
+
+// A block of a picture of w by h, by its place and side in luma, in one component.
+struct Block {
+    component: Component,
+    w: usize,
+    h: usize,
+    x: Pel,
+    y: Pel,
+    side: usize,
+}
+
+// The place of column c in row r, the rows having n.
+fn flat(n: usize, c: usize, r: usize) -> usize
+    requires { ⌜ (n ≤ 4096) × (c ≤ 4096) × (r ≤ 4096) ⌝ }
+    ensures { λ p. ⌜ p ≡ r * n + c ⌝ }
+{
+    r * n + c
+}
+
+// An arm that the picture has nothing of.
+fn no_arm() -> Arm
+    ensures { λ r. ⌜ r ≡ noArm ⌝ }
+{
+    Arm {
+        from: 0,
+        step: 0,
+        word: 0,
+        next: 0,
+        there: 0,
+    }
+}
+
+// Down the column left of the block.
+fn left_arm(block: Block) -> Arm
+    requires { ⌜ Stands block ⌝ }
+    ensures { λ r. ⌜ r ≡ leftOf block ⌝ }
+{
+    let w = block.w;
+    let u = def::pel2scu(block.x).0;
+    let v = def::pel2scu(block.y).0;
+    if u == 0 {
+        return no_arm();
+    }
+    let component = block.component;
+    let across = def::in_component(component, w);
+    let column = def::in_component(component, block.x.0);
+    let row = def::in_component(component, block.y.0);
+    Arm {
+        from: flat(across, column - 1, row),
+        step: across,
+        word: flat(w / 4, u - 1, v),
+        next: w / 4,
+        there: block.h / 4 - v,
+    }
+}
+
+// The corner, an arm of one sample.
+fn corner_arm(block: Block) -> Arm
+    requires { ⌜ Stands block ⌝ }
+    ensures { λ r. ⌜ r ≡ cornerOf block ⌝ }
+{
+    let w = block.w;
+    let u = def::pel2scu(block.x).0;
+    let v = def::pel2scu(block.y).0;
+    if u == 0 {
+        return no_arm();
+    }
+    if v == 0 {
+        return no_arm();
+    }
+    let component = block.component;
+    let across = def::in_component(component, w);
+    let column = def::in_component(component, block.x.0);
+    let row = def::in_component(component, block.y.0);
+    Arm {
+        from: flat(across, column - 1, row - 1),
+        step: 1,
+        word: flat(w / 4, u - 1, v - 1),
+        next: 1,
+        there: 1,
+    }
+}
+
+// Along the row above the block.
+fn up_arm(block: Block) -> Arm
+    requires { ⌜ Stands block ⌝ }
+    ensures { λ r. ⌜ r ≡ upOf block ⌝ }
+{
+    let w = block.w;
+    let u = def::pel2scu(block.x).0;
+    let v = def::pel2scu(block.y).0;
+    if v == 0 {
+        return no_arm();
+    }
+    let component = block.component;
+    let across = def::in_component(component, w);
+    let column = def::in_component(component, block.x.0);
+    let row = def::in_component(component, block.y.0);
+    Arm {
+        from: flat(across, column, row - 1),
+        step: 1,
+        word: flat(w / 4, u, v - 1),
+        next: 1,
+        there: w / 4 - u,
+    }
+}
+
+// ---- the call
+
+fn lengths_ok(block: Block, plane: usize, words: usize) -> bool
+    requires { ⌜ (block .w ≤ 4096) × (block .h ≤ 4096) ⌝ }
+    ensures { λ r. ⌜ r ≡ lengthsOk (block .component) (block .w) (block .h) plane words ⌝ }
+{
+    let component = block.component;
+    let w = def::in_component(component, block.w);
+    let h = def::in_component(component, block.h);
+    (plane == w * h) & (words == (block.w / 4) * (block.h / 4))
+}
+
+// The run, past the checks of its form: left downwards, the corner, up rightwards. The answer is all of it joined.
+fn put_run(plane: &[u16], map_scu: &[u32], block: Block, constrained: bool, run: &mut [u16]) -> u16
+    requires { ⌜ Stands block × LentTo block (now plane) (now «map_scu») × (length (now run) ≡ runLength (block .component) (block .side)) ⌝ }
+    ensures { λ r. ⌜ (now (run .exit) ≡ runOf (aroundOf block (now (plane .entry)) (now («map_scu» .entry)) constrained)) × (sampleOk r ≡ samplesOk (aroundOf block (now (plane .entry)) (now («map_scu» .entry)) constrained)) ⌝ }
+{
+    let component = block.component;
+    let n = def::in_component(component, 4);
+    let units = block.side / 2;
+    let at = 2 * def::in_component(component, block.side);
+    let left = left_arm(block);
+    let mut all = put_arm(plane, map_scu, left, units, n, constrained, run, 0);
+    let corner = corner_arm(block);
+    all = all | put_arm(plane, map_scu, corner, 1, 1, constrained, run, at);
+    let up = up_arm(block);
+    all | put_arm(plane, map_scu, up, units, n, constrained, run, at + 1)
+}
+
+// All of `own` into run.
+fn copy(own: &[u16], run: &mut [u16])
+    requires { ⌜ length (now own) ≡ length (now run) ⌝ }
+    ensures { λ _. ⌜ now (run .exit) ≡ now (own .entry) ⌝ }
+{
+    let mut k = 0;
+    while k < run.len() {
+        run[k] = own[k];
+        k += 1;
+    }
+}
+
+// The run by way of `own`: the lent one is written only where every sample passes.
+fn gather_by(
+    plane: &[u16],
+    map_scu: &[u32],
+    block: Block,
+    constrained: bool,
+    own: &mut [u16],
+    run: &mut [u16],
+) -> Answer
+    requires { ⌜ Stands block × LentTo block (now plane) (now «map_scu») ⌝ }
+    requires { ⌜ (length (now own) ≡ length (now run)) × (length (now run) ≡ runLength (block .component) (block .side)) ⌝ }
+    ensures { λ r. ⌜ Gives gathered
+        (record { around = aroundOf block (now (plane .entry)) (now («map_scu» .entry)) constrained; run = now (run .entry) })
+        (record { number = answerNumber r; run = now (run .exit) }) ⌝ }
+{
+    let all = put_run(plane, map_scu, block, constrained, &mut *own);
+    if 1023 < all {
+        return Answer::Refused(Refusal::Sample);
+    }
+    copy(&*own, run);
+    Answer::Done
+}
+
+// The same, with an array of its own: a small one for a small block, where clearing it counts.
+fn gather(
+    plane: &[u16],
+    map_scu: &[u32],
+    block: Block,
+    constrained: bool,
+    run: &mut [u16],
+) -> Answer
+    requires { ⌜ Stands block × LentTo block (now plane) (now «map_scu») × (length (now run) ≡ runLength (block .component) (block .side)) ⌝ }
+    ensures { λ r. ⌜ Gives gathered
+        (record { around = aroundOf block (now (plane .entry)) (now («map_scu» .entry)) constrained; run = now (run .entry) })
+        (record { number = answerNumber r; run = now (run .exit) }) ⌝ }
+{
+    let n = run.len();
+    if n <= 33 {
+        let mut small = [0u16; 33];
+        return gather_by(plane, map_scu, block, constrained, &mut small[0..n], run);
+    }
+    let mut own = [0u16; 257];
+    gather_by(plane, map_scu, block, constrained, &mut own[0..n], run)
+}
+
+// The checks of the form, by the lengths of the plane, the words and the run.
+fn checked(block: Block, plane: usize, words: usize, run: usize) -> Answer
+    ensures { λ r. ⌜ r ≡ formOf (block .component) (block .w) (block .h) (block .x .0) (block .y .0) (block .side) plane words run ⌝ }
+{
+    if !def::size_ok(block.w, block.h) {
+        return Answer::Refused(Refusal::Size);
+    }
+    if !lengths_ok(block, plane, words) {
+        return Answer::Refused(Refusal::Length);
+    }
+    if !def::block_ok(block.w, block.h, block.x, block.y, block.side) {
+        return Answer::Refused(Refusal::Block);
+    }
+    let component = block.component;
+    if run != 4 * def::in_component(component, block.side) + 1 {
+        return Answer::Refused(Refusal::Length);
+    }
+    Answer::Done
+}
+
+// The samples around the block of `side` at (x, y) in luma, those of one component: 4 times its side there and 1.
+pub fn get_nbr(
+    component: Component,
+    w: usize,
+    h: usize,
+    plane: &[u16],
+    map_scu: &[u32],
+    x: Pel,
+    y: Pel,
+    side: usize,
+    constrained: bool,
+    run: &mut [u16],
+) -> Answer
+    ensures { λ r. ⌜ Gives outcome
+        (record { around = record { component = component; w = w; h = h; plane = now (plane .entry); words = now («map_scu» .entry); x = x .0; y = y .0; side = side; constrained = constrained }; run = now (run .entry) })
+        (record { number = answerNumber r; run = now (run .exit) }) ⌝ }
+{
+    let block = Block {
+        component,
+        w,
+        h,
+        x,
+        y,
+        side,
+    };
+    match checked(block, plane.len(), map_scu.len(), run.len()) {
+        Answer::Refused(r) => Answer::Refused(r),
+        Answer::Done => gather(plane, map_scu, block, constrained, run),
+    }
+}

@@ -29,9 +29,9 @@ fn one(s: &[u8], at: usize) -> usize {
 }
 
 fn looked_up(w: usize, h: usize, words: &[u32], modes: &[u8], table: &[u8], x: usize, y: usize) {
-    let answer = nbr::get_mpm_number(w, h, words, modes, table, Scu(x), Scu(y));
+    let answer = mpm::get_mpm_number(w, h, words, modes, table, Scu(x), Scu(y));
     replay::print_first(def::answer_number(answer));
-    replay::print_u8(nbr::get_mpm(w, h, words, modes, table, Scu(x), Scu(y)));
+    replay::print_u8(mpm::get_mpm(w, h, words, modes, table, Scu(x), Scu(y)));
     replay::print_end();
 }
 
