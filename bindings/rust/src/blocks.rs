@@ -15,6 +15,7 @@ pub enum Component {
 /// four times the side in the component, and one. Refusals: [`Size`](Refusal::Size), [`Length`](Refusal::Length), [`Block`](Refusal::Block),
 /// [`Sample`](Refusal::Sample).
 #[allow(clippy::too_many_arguments)]
+#[inline]
 pub fn get_nbr(
     component: Component,
     w: usize,
@@ -50,6 +51,7 @@ pub fn get_nbr(
 
 /// Predicts a block of `side` from its run: mode 0 DC, 1 horizontal, 2 vertical, 3 UL, 4 UR. Refusals: [`Block`](Refusal::Block),
 /// [`Length`](Refusal::Length), [`Mode`](Refusal::Mode), [`Sample`](Refusal::Sample).
+#[inline]
 pub fn ipred_b(mode: u8, side: usize, run: &[u16], block: &mut [u16]) -> Result<(), Refusal> {
     // As above.
     let number =
@@ -59,6 +61,7 @@ pub fn ipred_b(mode: u8, side: usize, run: &[u16], block: &mut [u16]) -> Result<
 
 /// Writes a block: the prediction, or, where `coded`, prediction and residual clipped to 0..=1023. Refusals: [`Block`](Refusal::Block),
 /// [`Length`](Refusal::Length), [`Sample`](Refusal::Sample).
+#[inline]
 pub fn recon(coded: bool, side: usize, pred: &[u16], coef: &[i16], rec: &mut [u16]) -> Result<(), Refusal> {
     // As above.
     let number = unsafe {
@@ -79,6 +82,7 @@ pub fn recon(coded: bool, side: usize, pred: &[u16], coef: &[i16], rec: &mut [u1
 /// The same into the plane of a component, at the luma block of `side` at (x, y). Refusals: [`Size`](Refusal::Size),
 /// [`Length`](Refusal::Length), [`Block`](Refusal::Block), [`Sample`](Refusal::Sample).
 #[allow(clippy::too_many_arguments)]
+#[inline]
 pub fn recon_plane(
     component: Component,
     w: usize,

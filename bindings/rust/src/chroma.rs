@@ -15,6 +15,7 @@ pub struct Points<'a> {
 
 /// Derives both chroma QP tables, 70 entries each, that of QP q at 12 + q. With `same_table` the second is a copy, and the second points are
 /// not read. Refusals: [`Length`](Refusal::Length), [`Points`](Refusal::Points), [`Pivot`](Refusal::Pivot).
+#[inline]
 pub fn derived_chroma_qp_mapping_tables(
     global_offset: bool,
     same_table: bool,

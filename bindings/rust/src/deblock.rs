@@ -33,6 +33,7 @@ pub struct Settings {
 
 /// Deblocks a picture, sets done in every word, and answers how many edges each pass visited. Refusals: [`Size`](Refusal::Size), [`Length`](Refusal::Length),
 /// [`Setting`](Refusal::Setting), [`Split`](Refusal::Split), [`Leaf`](Refusal::Leaf), [`Qp`](Refusal::Qp), [`Sample`](Refusal::Sample).
+#[inline]
 pub fn deblock(picture: Picture, maps: Maps, settings: Settings) -> Result<(usize, usize), Refusal> {
     let Picture { w, h, y, u, v, words } = picture;
     let Maps { splits, motion, refs, tables: [table0, table1], strengths } = maps;

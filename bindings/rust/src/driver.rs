@@ -22,6 +22,7 @@ pub struct Blocks<'a> {
 /// unit words, and its modes: a byte a unit, 255 where the prediction was lent. What the picture and the modes held before counts for nothing.
 /// Refusals: [`Size`](Refusal::Size), [`Length`](Refusal::Length), [`Split`](Refusal::Split), [`Leaf`](Refusal::Leaf),
 /// [`Record`](Refusal::Record), [`Mode`](Refusal::Mode), [`Qp`](Refusal::Qp), [`Sample`](Refusal::Sample).
+#[inline]
 pub fn reconstruct(blocks: Blocks, picture: Picture, modes: &mut [u8]) -> Result<(), Refusal> {
     let Blocks { splits, leaves, residual, predictions: [pred_y, pred_u, pred_v], constrained } = blocks;
     let Picture { w, h, y, u, v, words } = picture;

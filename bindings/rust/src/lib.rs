@@ -3,7 +3,7 @@
 //!
 //! Every call accepts every input. A bad one answers a [`Refusal`] and leaves every lent slice as it was; nothing is trusted, and each
 //! slice's length goes with it. Places and sizes are in luma samples unless a call says units (4x4 luma samples); planes and maps are flat,
-//! row by row.
+//! row by row. Each function is a thin wrapper and marked `inline`, so that a call is one call of the archive.
 //!
 //! ```
 //! use lomsakeun::{ipred_b, list_edges, recon, Refusal};

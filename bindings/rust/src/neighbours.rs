@@ -42,6 +42,7 @@ impl Neighbours {
 
 /// Which neighbours of the luma block of `side` at (x, y) are there for intra prediction; `map_scu` has a word a unit.
 /// Refusals: [`Size`](Refusal::Size), [`Length`](Refusal::Length), [`Block`](Refusal::Block).
+#[inline]
 pub fn get_avail_intra(
     w: usize,
     h: usize,
@@ -58,6 +59,7 @@ pub fn get_avail_intra(
 }
 
 /// The same for inter prediction.
+#[inline]
 pub fn get_avail_inter(
     w: usize,
     h: usize,
@@ -75,6 +77,7 @@ pub fn get_avail_inter(
 
 /// The five mode ranks for the unit of column x and row y: those of the rank table, 180 bytes, that the modes left and above choose.
 /// Refusals: [`Size`](Refusal::Size), [`Length`](Refusal::Length), [`Block`](Refusal::Block), [`Mode`](Refusal::Mode).
+#[inline]
 pub fn get_mpm(
     w: usize,
     h: usize,

@@ -10,6 +10,7 @@ pub const LISTING_LENGTH: usize = 81920;
 
 /// Whether the walk over a picture's split bytes, 1,024 a root, is accepted. Refusals: [`Size`](Refusal::Size), [`Length`](Refusal::Length),
 /// and [`Split`](Refusal::Split) or [`Leaf`](Refusal::Leaf) as the walk meets them.
+#[inline]
 pub fn check(w: usize, h: usize, splits: &[u8]) -> Result<(), Refusal> {
     // The pointer comes from a slice that lives through the call, with its own length.
     answer(unsafe { sys::lomsakeun_check(w, h, splits.as_ptr(), splits.len()) }, ())
@@ -17,6 +18,7 @@ pub fn check(w: usize, h: usize, splits: &[u8]) -> Result<(), Refusal> {
 
 /// The leaves of the root at (x, y), in the order of the walk: x, y and side of each go to `out`, of [`LEAVES_LENGTH`] numbers. Answers how
 /// many. Refusals: those of [`check`] for that root, and [`Block`](Refusal::Block).
+#[inline]
 pub fn leaves(w: usize, h: usize, splits: &[u8], x: usize, y: usize, out: &mut [u16]) -> Result<usize, Refusal> {
     let mut count = 0;
     // As above, and a local.
@@ -27,6 +29,7 @@ pub fn leaves(w: usize, h: usize, splits: &[u8], x: usize, y: usize, out: &mut [
 }
 
 /// The visiting rank of the unit of column x and row y of a root, each below 16. Refusal: [`Block`](Refusal::Block).
+#[inline]
 pub fn visiting_rank(x: usize, y: usize) -> Result<u8, Refusal> {
     let mut rank = 0;
     // A local.
@@ -36,6 +39,7 @@ pub fn visiting_rank(x: usize, y: usize) -> Result<u8, Refusal> {
 
 /// The edges that each pass of deblocking visits, in order: x and y of each edge's first luma sample of Q, into two buffers of two numbers a
 /// unit. Answers how many edges each pass has. Refusals: those of [`check`], and [`Setting`](Refusal::Setting).
+#[inline]
 pub fn list_edges(
     w: usize,
     h: usize,
@@ -66,6 +70,7 @@ pub fn list_edges(
 
 /// The text that `edgelist` prints for a sheet, a refusal's line too: put first into `out`, of [`LISTING_LENGTH`] bytes. Answers how long it
 /// is. Refusal: [`Length`](Refusal::Length).
+#[inline]
 pub fn listing(input: &[u8], out: &mut [u8]) -> Result<usize, Refusal> {
     let mut length = 0;
     // As above.
