@@ -3,3 +3,5 @@ pub mod Joined
 pub mod Numbers
 pub mod Promises
 pub mod Refusing
+pub mod Settled
+pub mod Values

@@ -1,11 +1,11 @@
--- Every public call in one place.
+-- Every public call that may refuse, in one place; `Values` has the others.
 --     NAME-once        over the contract as the checker reads it from the source: the arguments determine the answer and every slice that the call may write
 --     NAME-refusals    the refusals that the call gives, in the order of its ladder, each with an input that meets it; of a call that gives none, nothing
 -- The answer is determined, and not its reading alone, because each reading tells all answers apart: `answer-apart` (def), `reading-apart` (avail, df,
 -- sheet_lines, sheet), `leaves-apart`, `rank-apart`, `list-apart` (split), and `number-apart` (def) of the refusals.
 -- Assumes nothing.
 use Prim.Native.Nat.{ℕ, _*_, _/_}
-use mathlib.Core.Path.{refl, sym, ap, ap₂, _∙_}
+use mathlib.Core.Path.{refl}
 use mathlib.Core.Bool.{true, false, _||_}
 use mathlib.Core.List.{List, [], _∷_, _++_, map}
 use denote.Ref.{now, ptr}
@@ -18,7 +18,7 @@ use Rattle.laws.specs.Call.{allOf}
 use Rattle.laws.specs.Clip.{maxZ, minZ, clipZ}
 use Rattle.laws.specs.Orders.{run}
 use Rattle.laws.specs.Scan.{allBelow}
-use Rattle.def.specs.Answers.{answerNumber}
+use Rattle.def.specs.Answers.{answerNumber, afterChecks}
 use Rattle.def.specs.Blocks.{blockSideOk, componentSideOk, blockOk, unitOk}
 use Rattle.def.specs.Components.{scaleOf, planeLength}
 use Rattle.def.specs.Picture.{sizeOk, unitCount, rootCount}
@@ -35,6 +35,7 @@ use Rattle.avail.specs.Around as around
 use Rattle.avail.specs.Calls as avail
 use Rattle.avail.specs.Inter.{interNeighbours}
 use Rattle.avail.specs.Intra.{intraNeighbours}
+use Rattle.avail.specs.declared.Neighbours.{Neighbours}
 use Rattle.avail.proofs.Readings.{reading-apart}
 use Rattle.nbr.specs.Gather as gather
 use Rattle.mpm.specs.Ranks as ranks
@@ -67,6 +68,7 @@ use Rattle.sheet.specs.Text.{sidesOk, foundBy, foundOf, foundIn}
 use Rattle.sheet.specs.Words.{newline}
 use Rattle.sheet.proofs.Outcomes.{reading-apart as printed-apart}
 use Rattle.decoder.specs.Promise.{ended, Sole, Refuses, refusalIn}
+use Rattle.decoder.proofs.Settled.{told, settled}
 use Rattle.decoder.proofs.Refusing.{Stops, last, rung, walk-rung, by-checks, root-stops, picture-stops, line-said, sheet-rung, digits-said}
 use Rattle.decoder.proofs.derived_chroma_qp_mapping_tables.Kinds as tables-kinds
 use Rattle.decoder.proofs.derived_chroma_qp_mapping_tables.Reads as tables-reads
@@ -104,57 +106,11 @@ use Rattle.decoder.proofs.read.Kinds as read-kinds
 use Rattle.decoder.proofs.read.Reads as read-reads
 use Rattle.decoder.proofs.listing.Kinds as listing-kinds
 use Rattle.decoder.proofs.listing.Reads as listing-reads
-use Rattle.decoder.proofs.pel2scu.Kinds as pel2scu-kinds
-use Rattle.decoder.proofs.pel2scu.Reads as pel2scu-reads
-use Rattle.decoder.proofs.in_component.Kinds as in-component-kinds
-use Rattle.decoder.proofs.in_component.Reads as in-component-reads
-use Rattle.decoder.proofs.get_if.Kinds as get-if-kinds
-use Rattle.decoder.proofs.get_if.Reads as get-if-reads
-use Rattle.decoder.proofs.get_qp.Kinds as get-qp-kinds
-use Rattle.decoder.proofs.get_qp.Reads as get-qp-reads
-use Rattle.decoder.proofs.get_cbfl.Kinds as get-cbfl-kinds
-use Rattle.decoder.proofs.get_cbfl.Reads as get-cbfl-reads
-use Rattle.decoder.proofs.get_cod.Kinds as get-cod-kinds
-use Rattle.decoder.proofs.get_cod.Reads as get-cod-reads
-use Rattle.decoder.proofs.set_cod.Kinds as set-cod-kinds
-use Rattle.decoder.proofs.set_cod.Reads as set-cod-reads
-use Rattle.decoder.proofs.clr_cod.Kinds as clr-cod-kinds
-use Rattle.decoder.proofs.clr_cod.Reads as clr-cod-reads
-use Rattle.decoder.proofs.leaf_word.Kinds as leaf-word-kinds
-use Rattle.decoder.proofs.leaf_word.Reads as leaf-word-reads
-use Rattle.decoder.proofs.size_ok.Kinds as size-ok-kinds
-use Rattle.decoder.proofs.size_ok.Reads as size-ok-reads
-use Rattle.decoder.proofs.block_side_ok.Kinds as block-side-ok-kinds
-use Rattle.decoder.proofs.block_side_ok.Reads as block-side-ok-reads
-use Rattle.decoder.proofs.component_side_ok.Kinds as component-side-ok-kinds
-use Rattle.decoder.proofs.component_side_ok.Reads as component-side-ok-reads
-use Rattle.decoder.proofs.block_ok.Kinds as block-ok-kinds
-use Rattle.decoder.proofs.block_ok.Reads as block-ok-reads
-use Rattle.decoder.proofs.unit_ok.Kinds as unit-ok-kinds
-use Rattle.decoder.proofs.unit_ok.Reads as unit-ok-reads
-use Rattle.decoder.proofs.refusal_number.Kinds as refusal-number-kinds
-use Rattle.decoder.proofs.refusal_number.Reads as refusal-number-reads
-use Rattle.decoder.proofs.answer_number.Kinds as answer-number-kinds
-use Rattle.decoder.proofs.answer_number.Reads as answer-number-reads
-use Rattle.decoder.proofs.samples_ok.Kinds as samples-ok-kinds
-use Rattle.decoder.proofs.samples_ok.Reads as samples-ok-reads
-use Rattle.decoder.proofs.mask_of.Kinds as mask-of-kinds
-use Rattle.decoder.proofs.mask_of.Reads as mask-of-reads
-use Rattle.decoder.proofs.line.Kinds as line-kinds
-use Rattle.decoder.proofs.line.Reads as line-reads
-use Rattle.decoder.proofs.entries.Kinds as entries-kinds
-use Rattle.decoder.proofs.entries.Reads as entries-reads
-use Rattle.decoder.proofs.lanes.Kinds as lanes-kinds
-use Rattle.decoder.proofs.lanes.Reads as lanes-reads
-use Rattle.decoder.proofs.motion_row.Kinds as motion-row-kinds
-use Rattle.decoder.proofs.motion_row.Reads as motion-row-reads
 
 -- ---- chroma QP
 
 pub derived-chroma-qp-mapping-tables-once : Sole 6 tables-kinds.ps tables-kinds.r tables-reads.Post (λ κs r x. ended r (now (x .1 .1 .1 .1 .1 .1 .1 .1 .0) ∷ now (x .1 .1 .1 .1 .1 .1 .1 .1 .1 .0) ∷ []))
-derived-chroma-qp-mapping-tables-once κs a r r′ x x′ p q =
-    let e = one-outcome derived.outcome _ _ _ p q in
-    ap₂ ended (answer-apart r r′ (ap (λ (o : derived.Outcome). o .number) e)) (ap (λ (o : derived.Outcome). o .t0 ∷ o .t1 ∷ []) e)
+derived-chroma-qp-mapping-tables-once κs a r r′ x x′ p q = settled derived.outcome (λ o. o .number) (λ o. o .t0 ∷ o .t1 ∷ []) p q (answer-apart r r′)
 
 -- 58 points that have one a, of which some count; a table; and a call with them
 abbrev points : ℕ → ℤ → Points
@@ -190,21 +146,22 @@ derived-chroma-qp-mapping-tables-refusals =
 -- ---- availability
 
 pub get-avail-intra-once : Sole 1 get-avail-intra-kinds.ps get-avail-intra-kinds.r get-avail-intra-reads.Post (λ κs r x. r)
-get-avail-intra-once κs a r r′ x x′ p q = reading-apart r r′ (ap (λ (o : avail.Outcome). o .reading) (one-outcome avail.intraOutcome _ _ _ p q))
+get-avail-intra-once κs a r r′ x x′ p q = told avail.intraOutcome (λ o. o .reading) p q (reading-apart r r′)
 
 pub get-avail-inter-once : Sole 1 get-avail-inter-kinds.ps get-avail-inter-kinds.r get-avail-inter-reads.Post (λ κs r x. r)
-get-avail-inter-once κs a r r′ x x′ p q = reading-apart r r′ (ap (λ (o : avail.Outcome). o .reading) (one-outcome avail.interOutcome _ _ _ p q))
+get-avail-inter-once κs a r r′ x x′ p q = told avail.interOutcome (λ o. o .reading) p q (reading-apart r r′)
 
 -- a block of some side at the start of a picture w wide and 4 high
 abbrev unit : ℕ → List ℕ → ℕ → around.Input
 unit w words side = record { w = w; h = 4; words = words; x = 0; y = 0; side = side }
 
-pub get-avail-intra-refusals : Refuses avail.intraOutcome (λ o. o .reading .number) (Size ∷ Length ∷ Block ∷ [])
-unfolding avail.intraOutcome avail.checkOf sizeOk blockOk blockSideOk
-get-avail-intra-refusals =
+-- whatever the neighbours are
+availability-refuses : (f : around.Input → Neighbours) → Refuses (λ (i : around.Input). afterChecks avail.refused (avail.done (f i)) (avail.check i)) (λ o. o .reading .number) (Size ∷ Length ∷ Block ∷ [])
+unfolding avail.checkOf sizeOk blockOk blockSideOk
+availability-refuses f =
     record {
       only = λ i.
-          by-checks (λ o. o .reading .number) avail.refused (avail.done (intraNeighbours i)) (Size ∷ Length ∷ Block ∷ []) (avail.check i) (λ r. refl) refl
+          by-checks (λ o. o .reading .number) avail.refused (avail.done (f i)) (Size ∷ Length ∷ Block ∷ []) (avail.check i) (λ r. refl) refl
           (rung (sizeOk (i .w) (i .h)) Size _
           (rung (eqb (length (i .words)) (unitCount (i .w) (i .h))) Length _
           (rung (blockOk (i .w) (i .h) (i .x) (i .y) (i .side)) Block _ last)));
@@ -212,18 +169,13 @@ get-avail-intra-refusals =
       given = refl;
     }
 
+pub get-avail-intra-refusals : Refuses avail.intraOutcome (λ o. o .reading .number) (Size ∷ Length ∷ Block ∷ [])
+unfolding avail.intraOutcome
+get-avail-intra-refusals = availability-refuses intraNeighbours
+
 pub get-avail-inter-refusals : Refuses avail.interOutcome (λ o. o .reading .number) (Size ∷ Length ∷ Block ∷ [])
-unfolding avail.interOutcome avail.checkOf sizeOk blockOk blockSideOk
-get-avail-inter-refusals =
-    record {
-      only = λ i.
-          by-checks (λ o. o .reading .number) avail.refused (avail.done (interNeighbours i)) (Size ∷ Length ∷ Block ∷ []) (avail.check i) (λ r. refl) refl
-          (rung (sizeOk (i .w) (i .h)) Size _
-          (rung (eqb (length (i .words)) (unitCount (i .w) (i .h))) Length _
-          (rung (blockOk (i .w) (i .h) (i .x) (i .y) (i .side)) Block _ last)));
-      shown = unit 0 [] 4 ∷ unit 4 [] 4 ∷ unit 4 (0 ∷ []) 0 ∷ [];
-      given = refl;
-    }
+unfolding avail.interOutcome
+get-avail-inter-refusals = availability-refuses interNeighbours
 
 -- ---- mode ranks: the part itself, by the memory that it lies in, its start and its bytes
 
@@ -231,7 +183,7 @@ pub get-mpm-once : Sole 3 get-mpm-kinds.ps get-mpm-kinds.r get-mpm-reads.Post {O
 get-mpm-once κs a r r′ x x′ p q = one-outcome ranks.partOutcome _ _ _ p q
 
 pub get-mpm-number-once : Sole 3 get-mpm-number-kinds.ps get-mpm-number-kinds.r get-mpm-number-reads.Post (λ κs r x. r)
-get-mpm-number-once κs a r r′ x x′ p q = answer-apart r r′ (ap (λ (o : ranks.Outcome). o .number) (one-outcome ranks.numberOutcome _ _ _ p q))
+get-mpm-number-once κs a r r′ x x′ p q = told ranks.numberOutcome (λ o. o .number) p q (answer-apart r r′)
 
 -- the second of two units side by side, the first intra, done and of mode 7
 abbrev second : ℕ → List ℕ → ℕ → ranks.Input
@@ -254,9 +206,7 @@ get-mpm-number-refusals =
 -- ---- gathering
 
 pub get-nbr-once : Sole 3 get-nbr-kinds.ps get-nbr-kinds.r get-nbr-reads.Post (λ κs r x. ended r (now (x .1 .1 .1 .1 .1 .1 .1 .1 .1 .0) ∷ []))
-get-nbr-once κs a r r′ x x′ p q =
-    let e = one-outcome gather.outcome _ _ _ p q in
-    ap₂ ended (answer-apart r r′ (ap (λ (o : gather.Outcome). o .number) e)) (ap (λ (o : gather.Outcome). o .run ∷ []) e)
+get-nbr-once κs a r r′ x x′ p q = settled gather.outcome (λ o. o .number) (λ o. o .run ∷ []) p q (answer-apart r r′)
 
 -- around the second of two units side by side, of samples that are all 1024
 abbrev gathered : ℕ → List ℕ → ℕ → List ℕ → gather.Input
@@ -290,9 +240,7 @@ get-nbr-refusals =
 -- ---- the five modes
 
 pub ipred-b-once : Sole 2 ipred-b-kinds.ps ipred-b-kinds.r ipred-b-reads.Post (λ κs r x. ended r (now (x .1 .1 .1 .0) ∷ []))
-ipred-b-once κs a r r′ x x′ p q =
-    let e = one-outcome predict.outcome _ _ _ p q in
-    ap₂ ended (answer-apart r r′ (ap (λ (o : predict.Outcome). o .number) e)) (ap (λ (o : predict.Outcome). o .block ∷ []) e)
+ipred-b-once κs a r r′ x x′ p q = settled predict.outcome (λ o. o .number) (λ o. o .block ∷ []) p q (answer-apart r r′)
 
 abbrev predicting : ℕ → ℕ → List ℕ → predict.Input
 predicting mode side run = record { mode = mode; side = side; run = run; block = replicate 4 0 }
@@ -319,14 +267,10 @@ ipred-b-refusals =
 -- ---- residual addition
 
 pub recon-once : Sole 3 recon-kinds.ps recon-kinds.r recon-reads.Post (λ κs r x. ended r (now (x .1 .1 .1 .1 .0) ∷ []))
-recon-once κs a r r′ x x′ p q =
-    let e = one-outcome recon.outcome _ _ _ p q in
-    ap₂ ended (answer-apart r r′ (ap (λ (o : recon.Outcome). o .number) e)) (ap (λ (o : recon.Outcome). o .rec ∷ []) e)
+recon-once κs a r r′ x x′ p q = settled recon.outcome (λ o. o .number) (λ o. o .rec ∷ []) p q (answer-apart r r′)
 
 pub recon-plane-once : Sole 3 recon-plane-kinds.ps recon-plane-kinds.r recon-plane-reads.Post (λ κs r x. ended r (now (x .1 .1 .1 .1 .1 .1 .1 .1 .1 .0) ∷ []))
-recon-plane-once κs a r r′ x x′ p q =
-    let e = one-outcome plane.outcome _ _ _ p q in
-    ap₂ ended (answer-apart r r′ (ap (λ (o : recon.Outcome). o .number) e)) (ap (λ (o : recon.Outcome). o .rec ∷ []) e)
+recon-plane-once κs a r r′ x x′ p q = settled plane.outcome (λ o. o .number) (λ o. o .rec ∷ []) p q (answer-apart r r′)
 
 abbrev adding : ℕ → List ℕ → recon.Input
 adding side pred = record { coded = true; side = side; pred = pred; coef = replicate 4 (pos 0); rec = replicate 4 0 }
@@ -373,20 +317,16 @@ recon-plane-refusals =
 -- ---- the split tree
 
 pub leaves-once : Sole 2 leaves-kinds.ps leaves-kinds.r leaves-reads.Post (λ κs r x. ended r (now (x .1 .1 .1 .1 .1 .0) ∷ []))
-leaves-once κs a r r′ x x′ p q =
-    let e = one-outcome leaves.outcome _ _ _ p q in
-    ap₂ ended (leaves-apart r r′ (ap (λ (o : leaves.Outcome). o .reading) e)) (ap (λ (o : leaves.Outcome). o .out ∷ []) e)
+leaves-once κs a r r′ x x′ p q = settled leaves.outcome (λ o. o .reading) (λ o. o .out ∷ []) p q (leaves-apart r r′)
 
 pub check-once : Sole 1 check-kinds.ps check-kinds.r check-reads.Post (λ κs r x. r)
-check-once κs a r r′ x x′ p q = answer-apart r r′ (ap (λ (o : check.Outcome). o .number) (one-outcome check.outcome _ _ _ p q))
+check-once κs a r r′ x x′ p q = told check.outcome (λ o. o .number) p q (answer-apart r r′)
 
 pub visiting-rank-once : Sole 0 visiting-rank-kinds.ps visiting-rank-kinds.r visiting-rank-reads.Post (λ κs r x. r)
-visiting-rank-once κs a r r′ x x′ p q = rank-apart r r′ (ap (λ (o : rank.Outcome). o .reading) (one-outcome rank.outcome _ _ _ p q))
+visiting-rank-once κs a r r′ x x′ p q = told rank.outcome (λ o. o .reading) p q (rank-apart r r′)
 
 pub list-edges-once : Sole 3 list-edges-kinds.ps list-edges-kinds.r list-edges-reads.Post (λ κs r x. ended r (now (x .1 .1 .1 .1 .0) ∷ now (x .1 .1 .1 .1 .1 .0) ∷ []))
-list-edges-once κs a r r′ x x′ p q =
-    let e = one-outcome list.outcome _ _ _ p q in
-    ap₂ ended (list-apart r r′ (ap (λ (o : list.Outcome). o .reading) e)) (ap (λ (o : list.Outcome). o .vertical ∷ o .horizontal ∷ []) e)
+list-edges-once κs a r r′ x x′ p q = settled list.outcome (λ o. o .reading) (λ o. o .vertical ∷ o .horizontal ∷ []) p q (list-apart r r′)
 
 -- the split bytes of a root, all of them b. In a picture of one unit a block of 64 reaches past the picture
 abbrev root : ℕ → List ℕ
@@ -457,9 +397,7 @@ list-edges-refusals =
 -- the three planes, the words and the modes
 pub reconstruct-once : Sole 11 reconstruct-kinds.ps reconstruct-kinds.r reconstruct-reads.Post
     (λ κs r x. let t = x .1 .1 .1 .1 .1 .1 .1 .1 .1 in ended r (now (t .0) ∷ now (t .1 .0) ∷ now (t .1 .1 .0) ∷ now (t .1 .1 .1 .0) ∷ now (t .1 .1 .1 .1 .0) ∷ []))
-reconstruct-once κs a r r′ x x′ p q =
-    let e = one-outcome driver.outcome _ _ _ p q in
-    ap₂ ended (answer-apart r r′ (ap (λ (o : driver.Outcome). o .number) e)) (ap (λ (o : driver.Outcome). o .y ∷ o .u ∷ o .v ∷ o .words ∷ o .modes ∷ []) e)
+reconstruct-once κs a r r′ x x′ p q = settled driver.outcome (λ o. o .number) (λ o. o .y ∷ o .u ∷ o .v ∷ o .words ∷ o .modes ∷ []) p q (answer-apart r r′)
 
 -- a picture of one unit, w wide: its split bytes, the word to be written, its leaf's record, and the number that every sample of the lent luma prediction is
 abbrev driven : ℕ → List ℕ → List ℕ → List ℕ → ℕ → driver.Input
@@ -510,9 +448,7 @@ reconstruct-refusals =
 -- ---- deblocking
 
 pub deblock-once : Sole 10 deblock-kinds.ps deblock-kinds.r deblock-reads.Post (λ κs r x. ended r (now (x .1 .1 .0) ∷ now (x .1 .1 .1 .0) ∷ now (x .1 .1 .1 .1 .0) ∷ now (x .1 .1 .1 .1 .1 .0) ∷ []))
-deblock-once κs a r r′ x x′ p q =
-    let e = one-outcome deblock.outcome _ _ _ p q in
-    ap₂ ended (deblocked-apart r r′ (ap (λ (o : deblock.Outcome). o .reading) e)) (ap (λ (o : deblock.Outcome). o .y ∷ o .u ∷ o .v ∷ o .words ∷ []) e)
+deblock-once κs a r r′ x x′ p q = settled deblock.outcome (λ o. o .reading) (λ o. o .y ∷ o .u ∷ o .v ∷ o .words ∷ []) p q (deblocked-apart r r′)
 
 pub checked-once : Sole 7 checked-kinds.ps checked-kinds.r checked-reads.Post (λ κs r x. r)
 checked-once κs a r r′ x x′ p q = one-outcome checks.checkOf _ _ _ p q
@@ -577,16 +513,14 @@ checked-refusals = record { only = λ i. checks-stop i .by; shown = map deblock.
 -- ---- the sheet
 
 pub read-once : Sole 1 read-kinds.ps read-kinds.r read-reads.Post (λ κs r x. r)
-read-once κs a r r′ x x′ p q = sheet-apart r r′ (ap (λ (o : sheet.Outcome). o .reading) (one-outcome sheet.outcome _ _ _ p q))
+read-once κs a r r′ x x′ p q = told sheet.outcome (λ o. o .reading) p q (sheet-apart r r′)
 
 pub read-refusals : Refuses sheet.outcome (λ o. o .reading .number) (Sheet ∷ [])
 unfolding sheet.outcome sheet.readOf firstBad lineOk startOf lineOf numberLine startsWith
 read-refusals = record { only = λ i. line-said (eqb (firstBad (i .input)) 0) (firstBad (i .input)) (sheet.wholeSheet (i .input)) refl; shown = record { input = [] } ∷ []; given = refl }
 
 pub listing-once : Sole 2 listing-kinds.ps listing-kinds.r listing-reads.Post (λ κs r x. ended r (now (x .1 .0) ∷ []))
-listing-once κs a r r′ x x′ p q =
-    let e = one-outcome listing.outcome _ _ _ p q in
-    ap₂ ended (printed-apart r r′ (ap (λ (o : listing.Outcome). o .reading) e)) (ap (λ (o : listing.Outcome). o .out ∷ []) e)
+listing-once κs a r r′ x x′ p q = settled listing.outcome (λ o. o .reading) (λ o. o .out ∷ []) p q (printed-apart r r′)
 
 -- of its buffer alone: what a sheet is refused for is its text
 pub listing-refusals : Refuses listing.outcome (λ o. o .reading .number) (Length ∷ [])
@@ -624,71 +558,3 @@ sheet-refusals =
           ∷ [];
       given = refl;
     }
-
--- ---- values: what is shared, the line filter and its rows. They refuse nothing
-
-pub pel2scu-once : Sole 0 pel2scu-kinds.ps pel2scu-kinds.r pel2scu-reads.Post (λ κs r x. r)
-pel2scu-once κs a r r′ x x′ p q = ap (λ (n : ℕ). record { 0 = n }) (p ∙ sym q)
-
-pub in-component-once : Sole 0 in-component-kinds.ps in-component-kinds.r in-component-reads.Post (λ κs r x. r)
-in-component-once κs a r r′ x x′ p q = p ∙ sym q
-
-pub get-if-once : Sole 0 get-if-kinds.ps get-if-kinds.r get-if-reads.Post (λ κs r x. r)
-get-if-once κs a r r′ x x′ p q = p ∙ sym q
-
-pub get-qp-once : Sole 0 get-qp-kinds.ps get-qp-kinds.r get-qp-reads.Post (λ κs r x. r)
-get-qp-once κs a r r′ x x′ p q = p .0 ∙ sym (q .0)
-
-pub get-cbfl-once : Sole 0 get-cbfl-kinds.ps get-cbfl-kinds.r get-cbfl-reads.Post (λ κs r x. r)
-get-cbfl-once κs a r r′ x x′ p q = p ∙ sym q
-
-pub get-cod-once : Sole 0 get-cod-kinds.ps get-cod-kinds.r get-cod-reads.Post (λ κs r x. r)
-get-cod-once κs a r r′ x x′ p q = p ∙ sym q
-
-pub set-cod-once : Sole 0 set-cod-kinds.ps set-cod-kinds.r set-cod-reads.Post (λ κs r x. r)
-set-cod-once κs a r r′ x x′ p q = p ∙ sym q
-
-pub clr-cod-once : Sole 0 clr-cod-kinds.ps clr-cod-kinds.r clr-cod-reads.Post (λ κs r x. r)
-clr-cod-once κs a r r′ x x′ p q = p ∙ sym q
-
-pub leaf-word-once : Sole 0 leaf-word-kinds.ps leaf-word-kinds.r leaf-word-reads.Post (λ κs r x. r)
-leaf-word-once κs a r r′ x x′ p q = p ∙ sym q
-
-pub size-ok-once : Sole 0 size-ok-kinds.ps size-ok-kinds.r size-ok-reads.Post (λ κs r x. r)
-size-ok-once κs a r r′ x x′ p q = p ∙ sym q
-
-pub block-side-ok-once : Sole 0 block-side-ok-kinds.ps block-side-ok-kinds.r block-side-ok-reads.Post (λ κs r x. r)
-block-side-ok-once κs a r r′ x x′ p q = p ∙ sym q
-
-pub component-side-ok-once : Sole 0 component-side-ok-kinds.ps component-side-ok-kinds.r component-side-ok-reads.Post (λ κs r x. r)
-component-side-ok-once κs a r r′ x x′ p q = p ∙ sym q
-
-pub block-ok-once : Sole 0 block-ok-kinds.ps block-ok-kinds.r block-ok-reads.Post (λ κs r x. r)
-block-ok-once κs a r r′ x x′ p q = p ∙ sym q
-
-pub unit-ok-once : Sole 0 unit-ok-kinds.ps unit-ok-kinds.r unit-ok-reads.Post (λ κs r x. r)
-unit-ok-once κs a r r′ x x′ p q = p ∙ sym q
-
-pub refusal-number-once : Sole 0 refusal-number-kinds.ps refusal-number-kinds.r refusal-number-reads.Post (λ κs r x. r)
-refusal-number-once κs a r r′ x x′ p q = p ∙ sym q
-
-pub answer-number-once : Sole 0 answer-number-kinds.ps answer-number-kinds.r answer-number-reads.Post (λ κs r x. r)
-answer-number-once κs a r r′ x x′ p q = p ∙ sym q
-
-pub samples-ok-once : Sole 1 samples-ok-kinds.ps samples-ok-kinds.r samples-ok-reads.Post (λ κs r x. r)
-samples-ok-once κs a r r′ x x′ p q = p ∙ sym q
-
-pub mask-of-once : Sole 0 mask-of-kinds.ps mask-of-kinds.r mask-of-reads.Post (λ κs r x. r)
-mask-of-once κs a r r′ x x′ p q = p ∙ sym q
-
-pub line-once : Sole 0 line-kinds.ps line-kinds.r line-reads.Post (λ κs r x. r)
-line-once κs a r r′ x x′ p q = p ∙ sym q
-
-pub lanes-once : Sole 0 lanes-kinds.ps lanes-kinds.r lanes-reads.Post (λ κs r x. r)
-lanes-once κs a r r′ x x′ p q = p ∙ sym q
-
-pub entries-once : Sole 3 entries-kinds.ps entries-kinds.r entries-reads.Post (λ κs r x. r)
-entries-once κs a r r′ x x′ p q = p ∙ sym q
-
-pub motion-row-once : Sole 0 motion-row-kinds.ps motion-row-kinds.r motion-row-reads.Post (λ κs r x. r)
-motion-row-once κs a r r′ x x′ p q = p .0 ∙ sym (q .0)

@@ -1,0 +1,116 @@
+-- The public calls that answer a value and refuse nothing: what is shared, the line filter and its rows.
+--     NAME-once    over the contract as the checker reads it from the source: the arguments determine the answer
+-- Assumes nothing.
+use Prim.Native.Nat.{ℕ}
+use mathlib.Core.Path.{sym, ap, _∙_}
+use Rattle.decoder.specs.Promise.{Sole}
+use Rattle.decoder.proofs.pel2scu.Kinds as pel2scu-kinds
+use Rattle.decoder.proofs.pel2scu.Reads as pel2scu-reads
+use Rattle.decoder.proofs.in_component.Kinds as in-component-kinds
+use Rattle.decoder.proofs.in_component.Reads as in-component-reads
+use Rattle.decoder.proofs.get_if.Kinds as get-if-kinds
+use Rattle.decoder.proofs.get_if.Reads as get-if-reads
+use Rattle.decoder.proofs.get_qp.Kinds as get-qp-kinds
+use Rattle.decoder.proofs.get_qp.Reads as get-qp-reads
+use Rattle.decoder.proofs.get_cbfl.Kinds as get-cbfl-kinds
+use Rattle.decoder.proofs.get_cbfl.Reads as get-cbfl-reads
+use Rattle.decoder.proofs.get_cod.Kinds as get-cod-kinds
+use Rattle.decoder.proofs.get_cod.Reads as get-cod-reads
+use Rattle.decoder.proofs.set_cod.Kinds as set-cod-kinds
+use Rattle.decoder.proofs.set_cod.Reads as set-cod-reads
+use Rattle.decoder.proofs.clr_cod.Kinds as clr-cod-kinds
+use Rattle.decoder.proofs.clr_cod.Reads as clr-cod-reads
+use Rattle.decoder.proofs.leaf_word.Kinds as leaf-word-kinds
+use Rattle.decoder.proofs.leaf_word.Reads as leaf-word-reads
+use Rattle.decoder.proofs.size_ok.Kinds as size-ok-kinds
+use Rattle.decoder.proofs.size_ok.Reads as size-ok-reads
+use Rattle.decoder.proofs.block_side_ok.Kinds as block-side-ok-kinds
+use Rattle.decoder.proofs.block_side_ok.Reads as block-side-ok-reads
+use Rattle.decoder.proofs.component_side_ok.Kinds as component-side-ok-kinds
+use Rattle.decoder.proofs.component_side_ok.Reads as component-side-ok-reads
+use Rattle.decoder.proofs.block_ok.Kinds as block-ok-kinds
+use Rattle.decoder.proofs.block_ok.Reads as block-ok-reads
+use Rattle.decoder.proofs.unit_ok.Kinds as unit-ok-kinds
+use Rattle.decoder.proofs.unit_ok.Reads as unit-ok-reads
+use Rattle.decoder.proofs.refusal_number.Kinds as refusal-number-kinds
+use Rattle.decoder.proofs.refusal_number.Reads as refusal-number-reads
+use Rattle.decoder.proofs.answer_number.Kinds as answer-number-kinds
+use Rattle.decoder.proofs.answer_number.Reads as answer-number-reads
+use Rattle.decoder.proofs.samples_ok.Kinds as samples-ok-kinds
+use Rattle.decoder.proofs.samples_ok.Reads as samples-ok-reads
+use Rattle.decoder.proofs.mask_of.Kinds as mask-of-kinds
+use Rattle.decoder.proofs.mask_of.Reads as mask-of-reads
+use Rattle.decoder.proofs.line.Kinds as line-kinds
+use Rattle.decoder.proofs.line.Reads as line-reads
+use Rattle.decoder.proofs.entries.Kinds as entries-kinds
+use Rattle.decoder.proofs.entries.Reads as entries-reads
+use Rattle.decoder.proofs.lanes.Kinds as lanes-kinds
+use Rattle.decoder.proofs.lanes.Reads as lanes-reads
+use Rattle.decoder.proofs.motion_row.Kinds as motion-row-kinds
+use Rattle.decoder.proofs.motion_row.Reads as motion-row-reads
+
+pub pel2scu-once : Sole 0 pel2scu-kinds.ps pel2scu-kinds.r pel2scu-reads.Post (λ κs r x. r)
+pel2scu-once κs a r r′ x x′ p q = ap (λ (n : ℕ). record { 0 = n }) (p ∙ sym q)
+
+pub in-component-once : Sole 0 in-component-kinds.ps in-component-kinds.r in-component-reads.Post (λ κs r x. r)
+in-component-once κs a r r′ x x′ p q = p ∙ sym q
+
+pub get-if-once : Sole 0 get-if-kinds.ps get-if-kinds.r get-if-reads.Post (λ κs r x. r)
+get-if-once κs a r r′ x x′ p q = p ∙ sym q
+
+pub get-qp-once : Sole 0 get-qp-kinds.ps get-qp-kinds.r get-qp-reads.Post (λ κs r x. r)
+get-qp-once κs a r r′ x x′ p q = p .0 ∙ sym (q .0)
+
+pub get-cbfl-once : Sole 0 get-cbfl-kinds.ps get-cbfl-kinds.r get-cbfl-reads.Post (λ κs r x. r)
+get-cbfl-once κs a r r′ x x′ p q = p ∙ sym q
+
+pub get-cod-once : Sole 0 get-cod-kinds.ps get-cod-kinds.r get-cod-reads.Post (λ κs r x. r)
+get-cod-once κs a r r′ x x′ p q = p ∙ sym q
+
+pub set-cod-once : Sole 0 set-cod-kinds.ps set-cod-kinds.r set-cod-reads.Post (λ κs r x. r)
+set-cod-once κs a r r′ x x′ p q = p ∙ sym q
+
+pub clr-cod-once : Sole 0 clr-cod-kinds.ps clr-cod-kinds.r clr-cod-reads.Post (λ κs r x. r)
+clr-cod-once κs a r r′ x x′ p q = p ∙ sym q
+
+pub leaf-word-once : Sole 0 leaf-word-kinds.ps leaf-word-kinds.r leaf-word-reads.Post (λ κs r x. r)
+leaf-word-once κs a r r′ x x′ p q = p ∙ sym q
+
+pub size-ok-once : Sole 0 size-ok-kinds.ps size-ok-kinds.r size-ok-reads.Post (λ κs r x. r)
+size-ok-once κs a r r′ x x′ p q = p ∙ sym q
+
+pub block-side-ok-once : Sole 0 block-side-ok-kinds.ps block-side-ok-kinds.r block-side-ok-reads.Post (λ κs r x. r)
+block-side-ok-once κs a r r′ x x′ p q = p ∙ sym q
+
+pub component-side-ok-once : Sole 0 component-side-ok-kinds.ps component-side-ok-kinds.r component-side-ok-reads.Post (λ κs r x. r)
+component-side-ok-once κs a r r′ x x′ p q = p ∙ sym q
+
+pub block-ok-once : Sole 0 block-ok-kinds.ps block-ok-kinds.r block-ok-reads.Post (λ κs r x. r)
+block-ok-once κs a r r′ x x′ p q = p ∙ sym q
+
+pub unit-ok-once : Sole 0 unit-ok-kinds.ps unit-ok-kinds.r unit-ok-reads.Post (λ κs r x. r)
+unit-ok-once κs a r r′ x x′ p q = p ∙ sym q
+
+pub refusal-number-once : Sole 0 refusal-number-kinds.ps refusal-number-kinds.r refusal-number-reads.Post (λ κs r x. r)
+refusal-number-once κs a r r′ x x′ p q = p ∙ sym q
+
+pub answer-number-once : Sole 0 answer-number-kinds.ps answer-number-kinds.r answer-number-reads.Post (λ κs r x. r)
+answer-number-once κs a r r′ x x′ p q = p ∙ sym q
+
+pub samples-ok-once : Sole 1 samples-ok-kinds.ps samples-ok-kinds.r samples-ok-reads.Post (λ κs r x. r)
+samples-ok-once κs a r r′ x x′ p q = p ∙ sym q
+
+pub mask-of-once : Sole 0 mask-of-kinds.ps mask-of-kinds.r mask-of-reads.Post (λ κs r x. r)
+mask-of-once κs a r r′ x x′ p q = p ∙ sym q
+
+pub line-once : Sole 0 line-kinds.ps line-kinds.r line-reads.Post (λ κs r x. r)
+line-once κs a r r′ x x′ p q = p ∙ sym q
+
+pub lanes-once : Sole 0 lanes-kinds.ps lanes-kinds.r lanes-reads.Post (λ κs r x. r)
+lanes-once κs a r r′ x x′ p q = p ∙ sym q
+
+pub entries-once : Sole 3 entries-kinds.ps entries-kinds.r entries-reads.Post (λ κs r x. r)
+entries-once κs a r r′ x x′ p q = p ∙ sym q
+
+pub motion-row-once : Sole 0 motion-row-kinds.ps motion-row-kinds.r motion-row-reads.Post (λ κs r x. r)
+motion-row-once κs a r r′ x x′ p q = p .0 ∙ sym (q .0)
