@@ -53,8 +53,8 @@ use Rattle.split.specs.Ranks.{rank as visitingRank}
 use Rattle.split.specs.Walk.{onward, inTurn, leafWalk, byByte, walk}
 use Rattle.split.specs.declared.Rank.the-variants.{Done as Ranked, Refused as NotRanked}
 use Rattle.split.proofs.Apart.{leaves-apart, rank-apart, list-apart}
+use Rattle.strength.specs.ChromaQp.{indexOf, mappedZ}
 use Rattle.df_check.specs.Checks as checks
-use Rattle.df_check.specs.ChromaQp.{indexOf, mappedZ}
 use Rattle.df_check.specs.declared.VEdge.the-variants.{Source}
 use Rattle.df.specs.Deblock as deblock
 use Rattle.df.proofs.Apart.{reading-apart as deblocked-apart}

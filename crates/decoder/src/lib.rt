@@ -9,7 +9,7 @@
 //     6 residual        recon, recon_plane
 //     7 driver          reconstruct
 //     8 walk            leaves, check, visiting_rank, list_edges
-//       deblocking      deblock; checked, entries, mask_of, line, lanes, motion_row
+//       deblocking      deblock; checked, mapped_ok, entries, mask_of, line, lanes, motion_row
 //     the sheet         read, listing
 pub use avail::Avail;
 pub use avail::Neighbours;
@@ -42,7 +42,6 @@ pub use df::deblock;
 pub use df_check::Settings;
 pub use df_check::VEdge;
 pub use df_check::checked;
-pub use df_check::entries;
 pub use driver::reconstruct;
 pub use edges::list_edges;
 pub use ipred::ipred_b;
@@ -69,3 +68,5 @@ pub use split::Walked;
 pub use split::check;
 pub use split::leaves;
 pub use split::visiting_rank;
+pub use strength::entries;
+pub use strength::mapped_ok;

@@ -20,10 +20,10 @@ use Rattle.split.specs.Edges.{Pass, vertical, horizontal, Edge}
 use Rattle.split.specs.Rows.{EdgeOf}
 use Rattle.split.proofs.Demand3.{demand-3}
 use Rattle.split.proofs.Roots.{some-wide}
-use Rattle.df_check.specs.ChromaQp.{vTable}
-use Rattle.df_check.specs.Entries.{entriesOf}
+use Rattle.strength.specs.Entries.{entriesOf}
+use Rattle.strength.proofs.Strengths.{entries-long, luma-entry, u-entry, v-entry}
+use Rattle.df_check.specs.Tables.{vTable}
 use Rattle.df_check.proofs.Passed.{Passed, passed, any-qp}
-use Rattle.df_check.proofs.Strengths.{entries-long, luma-entry, u-entry, v-entry}
 use Rattle.df_check.proofs.Units.{UnitTold}
 use Rattle.df_rules.specs.Filter.{Planes, inY, inU, inV, filterAll}
 use Rattle.df_rules.specs.Frame.{Frame, Both}

@@ -13,8 +13,9 @@ use Rattle.def.specs.declared.Component.{Component}
 use Rattle.def.specs.declared.Component.the-variants.{Luma, Chroma}
 use Rattle.def.specs.declared.Refusal.{Refusal}
 use Rattle.split.specs.Edges.{Pass, vertical, horizontal, Edge, edgeList}
+use Rattle.strength.specs.ChromaQp.{mapped}
 use Rattle.df_check.specs.Checks as checks
-use Rattle.df_check.specs.ChromaQp.{mapped, vTable}
+use Rattle.df_check.specs.Tables.{vTable}
 use Rattle.df_check.specs.declared.Settings.{Settings}
 use Rattle.df_rules.specs.Filter.{finished}
 use Rattle.df_rules.specs.Strength.{Maps}

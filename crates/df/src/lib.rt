@@ -5,8 +5,8 @@ ghost use Prim.Native.Nat.{_/_};
 ghost use lib.ListN.{length};
 ghost use Rattle.laws.specs.Call.{Gives};
 ghost use Rattle.split.specs.Edges.{vertical, horizontal, edgeList};
-ghost use Rattle.df_check.specs.ChromaQp.{vTable};
-ghost use Rattle.df_check.specs.Entries.{entriesOf};
+ghost use Rattle.strength.specs.Entries.{entriesOf};
+ghost use Rattle.df_check.specs.Tables.{vTable};
 ghost use Rattle.df_rules.specs.Frame.{Frame, Both};
 ghost use Rattle.df_rules.specs.Leaves.{Accepted};
 ghost use Rattle.df.specs.Deblock as Deblock;
@@ -18,7 +18,7 @@ use def::Refusal;
 use df_check::Settings;
 use df_check::VEdge;
 use df_check::checked;
-use df_check::entries;
+use strength::entries;
 
 mod window; // window.rt: a unit's edge in all three planes, by eight lanes
 mod edge; // edge.rt: a unit's edge, its strengths, and the edges of a block's side

@@ -1,5 +1,4 @@
-pub mod ChromaQp
 pub mod Passed
-pub mod Strengths
+pub mod Tables
 pub mod Units
 pub mod Walked

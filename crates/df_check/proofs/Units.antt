@@ -24,8 +24,9 @@ use Rattle.laws.proofs.Scans.{scan-at}
 use Rattle.laws.proofs.Tabulate.{getD-tabulate}
 use Rattle.def.specs.Word.{qpOf}
 use Rattle.split.specs.Edges.{Pass, vertical, horizontal}
-use Rattle.df_check.specs.ChromaQp.{mappedZ, hasEntry, vTable}
+use Rattle.strength.specs.ChromaQp.{mappedZ, hasEntry}
 use Rattle.df_check.specs.Checks.{qpTests, qpOk, qpsOk}
+use Rattle.df_check.specs.Tables.{vTable}
 use Rattle.df_check.specs.declared.Settings.{Settings}
 
 -- a word's QP is one of 128

@@ -19,7 +19,8 @@ use Rattle.samples.specs.Samples.{samplesOk}
 use Rattle.split.specs.Edges.{vertical, horizontal}
 use Rattle.split.specs.ListCall.{limitOk}
 use Rattle.split.specs.Picture.{pictureWalk}
-use Rattle.df_check.specs.ChromaQp.{mappedZ, hasEntry, vTable}
+use Rattle.strength.specs.ChromaQp.{mappedZ, hasEntry}
+use Rattle.df_check.specs.Tables.{vTable}
 use Rattle.df_check.specs.declared.Settings.{Settings}
 use Rattle.df_check.specs.declared.check.Lengths.{Lengths}
 

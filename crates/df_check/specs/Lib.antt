@@ -1,3 +1,2 @@
 pub mod Checks
-pub mod ChromaQp
-pub mod Entries
+pub mod Tables

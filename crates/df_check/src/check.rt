@@ -1,6 +1,6 @@
 // What deblocking refuses, and in which order: 1, 2, 3, then 4 or 5 as the walk meets them, 6, 7. The Rust takes all of it to be right.
 ghost use mathlib.Core.Path.{_≡_};
-ghost use Prim.Native.Nat.{ℕ, _≤_};
+ghost use Prim.Native.Nat.{ℕ};
 ghost use mathlib.Core.Bool.{true, false};
 ghost use lib.Dec.{ltb};
 ghost use lib.ListN.{getD};
@@ -10,14 +10,14 @@ ghost use Rattle.laws.specs.Scan.{allBelow, allIn};
 ghost use Rattle.def.specs.Word.{qpOf};
 ghost use Rattle.def.proofs.Sizes.{Sized};
 ghost use Rattle.split.specs.Edges.{vertical};
-ghost use Rattle.df_check.specs.ChromaQp.{mappedZ, hasEntry, vTable};
+ghost use Rattle.strength.specs.ChromaQp.{mappedZ, hasEntry};
 ghost use Rattle.df_check.specs.Checks.{lengthsOk, offsetOk, settingsOk, qpOk, qpsOk, planesOk, checkOf};
+ghost use Rattle.df_check.specs.Tables.{vTable};
 use crate::Settings;
 use crate::VEdge;
-use crate::mapped::has_entry;
-use crate::mapped::mapped;
 use def::Answer;
 use def::Refusal;
+use strength::mapped_ok;
 
 // ---- 2: lengths
 
@@ -70,16 +70,8 @@ fn settings_ok(s: Settings) -> bool
 
 // ---- 6: QPs
 
-fn mapped_ok(table: &[i8], offset: i8, qp: usize) -> bool
-    requires { ⌜ qp ≤ 127 ⌝ }
-    ensures { λ r. ⌜ r ≡ hasEntry (mappedZ (now (table .entry)) offset qp) ⌝ }
-{
-    has_entry(mapped(table, offset, qp))
-}
-
 // V's lookup on vertical edges.
-fn vertical_ok(v_edge: VEdge, table0: &[i8], table1: &[i8], offset: i8, qp: usize) -> bool
-    requires { ⌜ qp ≤ 127 ⌝ }
+fn vertical_ok(v_edge: VEdge, table0: &[i8], table1: &[i8], offset: i8, qp: u8) -> bool
     ensures { λ r. ⌜ r ≡ hasEntry (mappedZ (vTable «v_edge» vertical (now (table0 .entry)) (now (table1 .entry))) offset qp) ⌝ }
 {
     match v_edge {
@@ -89,8 +81,7 @@ fn vertical_ok(v_edge: VEdge, table0: &[i8], table1: &[i8], offset: i8, qp: usiz
 }
 
 // Whether a unit may have the QP: itself, and what U's lookup and V's in both passes map it to, have entries.
-fn qp_ok(table0: &[i8], table1: &[i8], s: Settings, qp: usize) -> bool
-    requires { ⌜ qp ≤ 127 ⌝ }
+fn qp_ok(table0: &[i8], table1: &[i8], s: Settings, qp: u8) -> bool
     ensures { λ r. ⌜ r ≡ qpOk s (now (table0 .entry)) (now (table1 .entry)) qp ⌝ }
 {
     let v_edge = s.v_edge;
@@ -107,7 +98,7 @@ fn good_qps(table0: &[i8], table1: &[i8], s: Settings) -> [bool; 128]
     let mut good = [false; 128];
     let mut qp = 0;
     while qp < 128 {
-        good[qp] = qp_ok(table0, table1, s, qp);
+        good[qp] = qp_ok(table0, table1, s, qp as u8);
         qp += 1;
     }
     good

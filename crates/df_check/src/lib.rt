@@ -1,11 +1,8 @@
-// What stands before the first write of deblocking: its settings, what it refuses and in which order, and the strength entries of a pass.
-// The Rust beside it: df.rs, which takes its input to be right and looks an entry up at each edge.
+// What stands before the first write of deblocking: its settings, what it refuses and in which order.
+// The Rust beside it: df.rs, which takes its input to be right.
 mod check;
-mod mapped;
-mod strength;
 
 pub use check::checked;
-pub use strength::entries;
 
 // Which table V's QP is mapped by on vertical edges: `source` reads table 0 there, as the Rust does, and `own` V's own, table 1.
 pub enum VEdge {

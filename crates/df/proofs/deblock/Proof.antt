@@ -5,7 +5,7 @@ use borrow.Author.Needs.{needs}
 use denote.Ref.{now}
 use lib.ListN.{length}
 use Rattle.def.specs.declared.Answer.the-variants.{Done}
-use Rattle.df_check.proofs.Strengths.{entries-long}
+use Rattle.strength.proofs.Strengths.{entries-long}
 use Rattle.df.specs.Deblock.{Input, check}
 use Rattle.df.proofs.Calls.{accepted, framed, deblock-done, deblock-refused}
 use Rattle.df.proofs.deblock.Statement.{statement}

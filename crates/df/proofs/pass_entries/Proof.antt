@@ -4,8 +4,8 @@ use borrow.Author.Needs.{needs}
 use denote.Ref.{now}
 use mir.Syntax.{w8}
 use Rattle.laws.proofs.Widths.{back}
-use Rattle.df_check.specs.Entries.{entriesOf}
-use Rattle.df_check.proofs.ChromaQp.{v-across}
+use Rattle.strength.specs.Entries.{entriesOf}
+use Rattle.df_check.proofs.Tables.{v-across}
 use Rattle.df.proofs.pass_entries.Statement.{statement}
 use Rattle.df.proofs.pass_entries.Tie as tie
 

@@ -28,4 +28,4 @@ returns c = upto-all false _ _ _ (c .before .loop .qp) (c .loop-test .left) (c .
 pub good-qps-spec : {M : Type 1} → statement M
 good-qps-spec =
     tie.close
-    (tie.spec Inv-loop μ-loop loop-holds (λ c κs. search needs) (λ c. search needs) (λ c. search needs) (λ c. search needs) loop-again returns)
+    (tie.spec Inv-loop μ-loop loop-holds (λ c. search needs) (λ c κs. search needs) (λ c. search needs) (λ c. search needs) (λ c. search needs) loop-again returns)

@@ -6,9 +6,10 @@ use lib.IntN.{ℤ}
 use mir.Syntax.{w8}
 use Rattle.laws.proofs.Widths.{back}
 use Rattle.split.specs.Edges.{vertical}
-use Rattle.df_check.specs.ChromaQp.{mappedZ, hasEntry, vTable}
+use Rattle.strength.specs.ChromaQp.{mappedZ, hasEntry}
 use Rattle.df_check.specs.Checks.{qpOk}
-use Rattle.df_check.proofs.ChromaQp.{v-across}
+use Rattle.df_check.specs.Tables.{vTable}
+use Rattle.df_check.proofs.Tables.{v-across}
 use Rattle.df_check.proofs.check.qp_ok.Statement.{statement}
 use Rattle.df_check.proofs.check.qp_ok.Tie as tie
 

@@ -5,7 +5,7 @@ use denote.Ref.{now}
 use lib.IntN.{ℤ}
 use mir.Syntax.{w8}
 use Rattle.laws.proofs.Widths.{back}
-use Rattle.df_check.specs.ChromaQp.{mappedZ, hasEntry}
+use Rattle.strength.specs.ChromaQp.{mappedZ, hasEntry}
 use Rattle.df_check.proofs.check.vertical_ok.Statement.{statement}
 use Rattle.df_check.proofs.check.vertical_ok.Tie as tie
 

@@ -1,4 +1,4 @@
--- `df_check::strength::entry_at` meets its contract: by the plane that has the place. Assumes nothing.
+-- `strength::entry_at` meets its contract: by the plane that has the place. Assumes nothing.
 use Prim.Native.Nat.{_/_, _%_}
 use mathlib.Core.Path.{sym, ap, _∙_}
 use borrow.Author.Needs.{needs}
@@ -6,10 +6,10 @@ use denote.Ref.{now}
 use lib.IntN.{ℤ}
 use mir.Syntax.{w8}
 use Rattle.laws.proofs.Widths.{back}
-use Rattle.df_check.specs.Entries.{chromaEntry}
-use Rattle.df_check.proofs.Strengths.{at-luma, at-u, at-v}
-use Rattle.df_check.proofs.strength.entry_at.Statement.{statement}
-use Rattle.df_check.proofs.strength.entry_at.Tie as tie
+use Rattle.strength.specs.Entries.{chromaEntry}
+use Rattle.strength.proofs.Strengths.{at-luma, at-u, at-v}
+use Rattle.strength.proofs.entry_at.Statement.{statement}
+use Rattle.strength.proofs.entry_at.Tie as tie
 
 returns : tie.Need-returns
 returns c = c .lent-at .ensures ∙ sym (at-luma _ _ _ _ _ _ (c .before .if1 .taken))
@@ -31,4 +31,4 @@ returns-3 c =
 pub entry-at-spec : {M : Type 1} → statement M
 entry-at-spec =
     tie.close
-    (tie.spec (λ c κs. search needs) returns (λ c κs. search needs) (λ c κs. search needs) returns-2 returns-3)
+    (tie.spec (λ c κs. search needs) returns (λ c. search needs) (λ c κs. search needs) (λ c κs. search needs) returns-2 returns-3)

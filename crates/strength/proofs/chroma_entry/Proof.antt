@@ -1,4 +1,4 @@
--- `df_check::strength::chroma_entry` meets its contract: the lent entry at the mapped QP, where that has one. Assumes nothing.
+-- `strength::chroma_entry` meets its contract: the lent entry at the mapped QP, where that has one. Assumes nothing.
 use Prim.Native.Nat.{_+_, _*_}
 use mathlib.Core.Path.{_≡_, sym, ap, _∙_}
 use native.Mathlib.Omega.{arith}
@@ -9,11 +9,11 @@ use lib.ListN.{getD}
 use mir.Syntax.{w8}
 use mir.Val.{toZ, ofZ}
 use Rattle.laws.proofs.Widths.{back}
-use Rattle.df_check.specs.ChromaQp.{mappedZ, hasEntry}
-use Rattle.df_check.proofs.ChromaQp.{Entry, entry-told}
-use Rattle.df_check.proofs.Strengths.{chroma-there, chroma-none}
-use Rattle.df_check.proofs.strength.chroma_entry.Statement.{statement}
-use Rattle.df_check.proofs.strength.chroma_entry.Tie as tie
+use Rattle.strength.specs.ChromaQp.{mappedZ, hasEntry}
+use Rattle.strength.proofs.ChromaQp.{Entry, entry-told}
+use Rattle.strength.proofs.Strengths.{chroma-there, chroma-none}
+use Rattle.strength.proofs.chroma_entry.Statement.{statement}
+use Rattle.strength.proofs.chroma_entry.Tie as tie
 
 abbrev to : tie.Start → ℤ
 to s = mappedZ (now (s .args .table)) (s .args .offset) (s .args .qp)

@@ -1,4 +1,5 @@
--- `df_check::mapped::index_of` meets its contract: the sum in 16 bits is the whole numbers', and the comparisons clip it. Assumes nothing.
+-- `strength::index_of` meets its contract: the sum in 16 bits is the whole numbers', and the comparisons clip it. Assumes nothing.
+use Prim.Native.Nat.{_≤_}
 use mathlib.Core.Path.{_≡_}
 use native.Mathlib.Omega.{arith}
 use borrow.Author.Needs.{needs}
@@ -6,23 +7,26 @@ use lib.IntN.{ℤ, pos, _+ℤ_}
 use mir.Syntax.{w8, w16}
 use mir.Val.{SFits, toZ, ofZ}
 use Rattle.laws.proofs.Widths.{sfits, back}
-use Rattle.df_check.specs.ChromaQp.{indexOf}
-use Rattle.df_check.proofs.ChromaQp.{offset-fits, sum-fits, machine-terms, machine-sum, index-low, index-high, Between, index-within}
-use Rattle.df_check.proofs.mapped.index_of.Statement.{statement}
-use Rattle.df_check.proofs.mapped.index_of.Tie as tie
+use Rattle.strength.specs.ChromaQp.{indexOf}
+use Rattle.strength.proofs.ChromaQp.{offset-fits, sum-fits, machine-terms, machine-sum, index-low, index-high, Between, index-within}
+use Rattle.strength.proofs.index_of.Statement.{statement}
+use Rattle.strength.proofs.index_of.Tie as tie
 
 abbrev sum : tie.Start → ℤ
 sum s = pos (s .args .qp) +ℤ s .args .offset
 
+small : (s : tie.Start) → s .args .qp ≤ 255
+small s = omega arith
+
 -- the sum, as the machine reads it
 sum-at : (s : tie.Start) → toZ w16 (ofZ w16 (toZ w16 (s .args .qp) +ℤ toZ w16 (ofZ w16 (toZ w8 (ofZ w8 (s .args .offset)))))) ≡ sum s
-sum-at s = machine-sum (s .args .qp) (s .args .offset) (s .pre) (s .fits .offset)
+sum-at s = machine-sum (s .args .qp) (s .args .offset) (small s) (s .fits .offset)
 
 cast-sum-2 : tie.Need-cast-sum-2
-cast-sum-2 c = offset-fits (c .args .qp) (c .args .offset) (c .pre) (c .fits .offset)
+cast-sum-2 c = offset-fits (c .args .qp) (c .args .offset) (small c) (c .fits .offset)
 
 add-sum : tie.Need-add-sum
-add-sum c = rw (machine-terms (c .args .qp) (c .args .offset) (c .pre) (c .fits .offset)) (sum-fits (c .args .qp) (c .args .offset) (c .pre) (c .fits .offset))
+add-sum c = rw (machine-terms (c .args .qp) (c .args .offset) (small c) (c .fits .offset)) (sum-fits (c .args .qp) (c .args .offset) (small c) (c .fits .offset))
 
 between : (c : tie.Else2) → Between (sum (c .before .before))
 between c = index-within (sum (c .before .before)) (rw (sum-at (c .before .before)) at (c .before .if1 .left)) (rw (sum-at (c .before .before)) at (c .if2 .left))

@@ -7,7 +7,7 @@ use lib.Dec.{ltb}
 use lib.IntN.{ℤ}
 use lib.ListN.{getD}
 use Rattle.laws.specs.Index.{pick, tabulate}
-use Rattle.df_check.specs.ChromaQp.{mappedZ, mapped, hasEntry}
+use Rattle.strength.specs.ChromaQp.{mappedZ, mapped, hasEntry}
 
 -- a chroma plane's, in a row at a QP: 0 where what the QP is mapped to has none
 unfoldable pub chromaEntry : (strengths : List ℕ) → (table : List ℤ) → (offset : ℤ) → (row qp : ℕ) → ℕ

@@ -1,10 +1,10 @@
--- `df_check::strength::lent_at` meets its contract: past the end there is 0. Assumes nothing.
+-- `strength::lent_at` meets its contract: past the end there is 0. Assumes nothing.
 use mathlib.Core.Path.{sym}
 use borrow.Author.Needs.{needs}
 use denote.Ref.{now}
 use lib.ListN.{List·getD-eq-default}
-use Rattle.df_check.proofs.strength.lent_at.Statement.{statement}
-use Rattle.df_check.proofs.strength.lent_at.Tie as tie
+use Rattle.strength.proofs.lent_at.Statement.{statement}
+use Rattle.strength.proofs.lent_at.Tie as tie
 
 returns-2 : tie.Need-returns-2
 returns-2 c = sym (List·getD-eq-default (now (c .before .args .strengths)) 0 (c .if1 .left))

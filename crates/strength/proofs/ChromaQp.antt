@@ -2,7 +2,6 @@
 --     offset-fits, sum-fits, machine-terms, machine-sum    the sum of a QP and an offset, in 16 bits
 --     index-low, index-high, index-within    its clip: a sum below -12, over 57, and between
 --     entry-told    what `hasEntry` tells
---     v-across    V's table on horizontal edges
 -- Assumes nothing.
 use Prim.Native.Nat.{ℕ, suc, _+_, _-_, _≤_, _<_}
 use mathlib.Core.Path.{_≡_, refl, ap, _∙_}
@@ -19,14 +18,11 @@ use Rattle.laws.specs.Clip.{maxZ, minZ, clipZ}
 use Rattle.laws.proofs.Calls.{all-at}
 use Rattle.laws.proofs.Signs.{by-lt}
 use Rattle.laws.proofs.Widths.{mag-add, sfits, back}
-use Rattle.split.specs.Edges.{horizontal}
-use Rattle.df_check.specs.ChromaQp.{hasEntry, vTable}
-use Rattle.df_check.specs.declared.VEdge.{VEdge}
-use Rattle.df_check.specs.declared.VEdge.the-variants.{Source, Own}
+use Rattle.strength.specs.ChromaQp.{hasEntry}
 
 -- ---- the sum of a QP and an offset
 
-module _ (qp : ℕ) (offset : ℤ) (few : qp ≤ 127) (byte : SFits w8 offset) where
+module _ (qp : ℕ) (offset : ℤ) (few : qp ≤ 255) (byte : SFits w8 offset) where
   small : mag offset ≤ 127
   small = let h : mag offset < 128 = byte .sfits in omega arith
 
@@ -35,11 +31,11 @@ module _ (qp : ℕ) (offset : ℤ) (few : qp ≤ 127) (byte : SFits w8 offset) w
   offset-fits = rw (back w8 offset byte) (sfits w16 127 small tt)
 
   pub sum-fits : SFits w16 (pos qp +ℤ offset)
-  sum-fits = sfits w16 255 (let s = small in omega (arith, mag-add (pos qp) offset)) tt
+  sum-fits = sfits w16 383 (let s = small in omega (arith, mag-add (pos qp) offset)) tt
 
   -- the terms, and the sum, as the machine reads them
   pub machine-terms : toZ w16 qp +ℤ toZ w16 (ofZ w16 (toZ w8 (ofZ w8 offset))) ≡ pos qp +ℤ offset
-  machine-terms = rw (back w8 offset byte, back w16 offset (sfits w16 127 small tt), back w16 (pos qp) (sfits w16 127 few tt))
+  machine-terms = rw (back w8 offset byte, back w16 offset (sfits w16 127 small tt), back w16 (pos qp) (sfits w16 255 few tt))
 
   pub machine-sum : toZ w16 (ofZ w16 (toZ w16 qp +ℤ toZ w16 (ofZ w16 (toZ w8 (ofZ w8 offset))))) ≡ pos qp +ℤ offset
   machine-sum = ap (λ (z : ℤ). toZ w16 (ofZ w16 z)) machine-terms ∙ back w16 (pos qp +ℤ offset) sum-fits
@@ -91,8 +87,3 @@ pub record Entry (z : ℤ) : Type 0 where
 pub entry-told : (z : ℤ) → hasEntry z ≡ true → Entry z
 entry-told (pos n) e = record { n = n; is = refl; few = leb-true n 51 (all-at (leb 0 n ∷ leb n 51 ∷ []) 1 e) }
 entry-told (negsuc n) e = absurd (let z : _≡_ {A = ℕ} 0 1 = cc in omega arith)
-
--- V looks into its own table on horizontal edges, whatever the setting
-pub v-across : (e : VEdge) (table0 table1 : List ℤ) → vTable e horizontal table0 table1 ≡ table1
-v-across Source table0 table1 = refl
-v-across Own table0 table1 = refl

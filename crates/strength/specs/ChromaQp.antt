@@ -1,4 +1,4 @@
--- The QP of a chroma plane: the lent table at clip(-12, 57, QP + offset). U looks into table 0, V into table 1; but on vertical edges, with `source`, V too into table 0.
+-- The QP of a chroma plane: the lent table at clip(-12, 57, QP + offset).
 -- Assumes nothing: these are definitions.
 use Prim.Native.Nat.{ℕ}
 use mathlib.Core.Bool.{Bool, _&&_}
@@ -7,9 +7,6 @@ use lib.IntN.{ℤ, pos, negsuc, natAbs, _+ℤ_}
 use lib.ListN.{getD}
 use lib.Signed.{leZ}
 use Rattle.laws.specs.Clip.{clipZ}
-use Rattle.split.specs.Edges.{Pass, vertical, horizontal}
-use Rattle.df_check.specs.declared.VEdge.{VEdge}
-use Rattle.df_check.specs.declared.VEdge.the-variants.{Source, Own}
 
 -- clip(-12, 57, QP + offset), and its index in a table, 12 more
 unfoldable pub indexOf : (offset : ℤ) → ℕ → ℕ
@@ -24,9 +21,3 @@ mapped table offset qp = natAbs (mappedZ table offset qp)
 -- the QPs that have an entry: 0..51
 abbrev pub hasEntry : ℤ → Bool
 hasEntry z = leZ (pos 0) z && leZ z (pos 51)
-
--- the table that V looks into
-abbrev pub vTable : VEdge → Pass → (table0 table1 : List ℤ) → List ℤ
-vTable Source vertical table0 table1 = table0
-vTable Source horizontal table0 table1 = table1
-vTable Own d table0 table1 = table1

@@ -12,8 +12,8 @@ use borrow.Author.Tests.{lt-ltb, le-ltb}
 use lib.IntN.{ℤ}
 use lib.ListN.{length, getD}
 use Rattle.laws.proofs.Tabulate.{length-tabulate, getD-tabulate}
-use Rattle.df_check.specs.ChromaQp.{mappedZ, mapped, hasEntry}
-use Rattle.df_check.specs.Entries.{chromaEntry, entryAt, entriesOf}
+use Rattle.strength.specs.ChromaQp.{mappedZ, mapped, hasEntry}
+use Rattle.strength.specs.Entries.{chromaEntry, entryAt, entriesOf}
 
 -- ---- a chroma plane's entry
 

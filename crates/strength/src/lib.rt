@@ -1,10 +1,50 @@
-// The strength entries of a pass, one table for the three planes. The Rust beside it: df.rs, evc_tbl_df_st and the chroma lookups into it.
+// The strength entries of a pass, one table for the three planes, and the QP of a chroma plane, by a lent table.
+// The Rust beside it: df.rs, evc_tbl_df_st and the chroma lookups into it of evc_deblock_cu_hor and evc_deblock_cu_ver.
 ghost use mathlib.Core.Path.{_≡_};
 ghost use Prim.Native.Nat.{_≤_, _<_};
 ghost use lib.ListN.{getD};
-ghost use Rattle.df_check.specs.Entries.{chromaEntry, entryAt, entriesOf};
-use crate::mapped::has_entry;
-use crate::mapped::mapped;
+ghost use Rattle.strength.specs.ChromaQp.{indexOf, mappedZ, hasEntry};
+ghost use Rattle.strength.specs.Entries.{chromaEntry, entryAt, entriesOf};
+
+// ---- a chroma QP
+
+// clip(-12, 57, QP + offset), and 12 more: where a table has it.
+fn index_of(offset: i8, qp: u8) -> usize
+    ensures { λ r. ⌜ r ≡ indexOf offset qp ⌝ }
+{
+    let sum = qp as i16 + offset as i16;
+    if sum < -12 {
+        0
+    } else if 57 < sum {
+        69
+    } else {
+        (sum + 12) as usize
+    }
+}
+
+// What the table maps a QP to, and 0 past its end.
+fn mapped(table: &[i8], offset: i8, qp: u8) -> i8
+    ensures { λ r. ⌜ r ≡ mappedZ (now (table .entry)) offset qp ⌝ }
+{
+    let i = index_of(offset, qp);
+    if i < table.len() { table[i] } else { 0 }
+}
+
+// Whether a mapped QP has an entry in a row: 0..51.
+fn has_entry(qp: i8) -> bool
+    ensures { λ r. ⌜ r ≡ hasEntry qp ⌝ }
+{
+    (0 <= qp) & (qp <= 51)
+}
+
+// Whether the QP that the table maps a QP to has one: the test of number 6.
+pub fn mapped_ok(table: &[i8], offset: i8, qp: u8) -> bool
+    ensures { λ r. ⌜ r ≡ hasEntry (mappedZ (now (table .entry)) offset qp) ⌝ }
+{
+    has_entry(mapped(table, offset, qp))
+}
+
+// ---- the entries
 
 // The lent entry at i, and 0 past the end.
 fn lent_at(strengths: &[u8], i: usize) -> u8
@@ -14,8 +54,8 @@ fn lent_at(strengths: &[u8], i: usize) -> u8
 }
 
 // A chroma plane's entry in a row at a QP: the lent one at what the QP is mapped to.
-fn chroma_entry(strengths: &[u8], table: &[i8], offset: i8, row: usize, qp: usize) -> u8
-    requires { ⌜ (row ≤ 3) × (qp ≤ 51) ⌝ }
+fn chroma_entry(strengths: &[u8], table: &[i8], offset: i8, row: usize, qp: u8) -> u8
+    requires { ⌜ row ≤ 3 ⌝ }
     ensures { λ r. ⌜ r ≡ chromaEntry (now (strengths .entry)) (now (table .entry)) offset row qp ⌝ }
 {
     let to = mapped(table, offset, qp);
@@ -42,7 +82,7 @@ fn entry_at(
         return lent_at(strengths, i);
     }
     let row = i % 208 / 52;
-    let qp = i % 52;
+    let qp = (i % 52) as u8;
     if i < 416 {
         chroma_entry(strengths, table_u, u_offset, row, qp)
     } else {

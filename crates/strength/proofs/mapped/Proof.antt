@@ -1,4 +1,4 @@
--- `df_check::mapped::mapped` meets its contract: the entry at the clipped place, and 0 past the end. Assumes nothing.
+-- `strength::mapped` meets its contract: the entry at the clipped place, and 0 past the end. Assumes nothing.
 use mathlib.Core.Path.{_≡_, sym, ap, _∙_}
 use Prim.Native.Nat.{ℕ}
 use borrow.Author.Needs.{needs}
@@ -7,9 +7,9 @@ use lib.IntN.{ℤ, pos}
 use lib.ListN.{getD, List·getD-eq-default}
 use mir.Syntax.{w8}
 use Rattle.laws.proofs.Widths.{back}
-use Rattle.df_check.specs.ChromaQp.{indexOf, mappedZ}
-use Rattle.df_check.proofs.mapped.mapped.Statement.{statement}
-use Rattle.df_check.proofs.mapped.mapped.Tie as tie
+use Rattle.strength.specs.ChromaQp.{indexOf, mappedZ}
+use Rattle.strength.proofs.mapped.Statement.{statement}
+use Rattle.strength.proofs.mapped.Tie as tie
 
 -- the entry at the place that was found
 at : (c : tie.After-index-of) → let a = c .before .args in getD (now (a .table)) (c .index-of .result) (pos 0) ≡ mappedZ (now (a .table)) (a .offset) (a .qp)

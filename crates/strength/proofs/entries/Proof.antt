@@ -1,4 +1,4 @@
--- `df_check::strength::entries` meets its contract: a turn stores the entry at one place more. Assumes nothing.
+-- `strength::entries` meets its contract: a turn stores the entry at one place more. Assumes nothing.
 use Prim.Native.Nat.{_-_}
 use mathlib.Core.Path.{ap, _∙_}
 use native.Mathlib.Omega.{arith}
@@ -10,9 +10,9 @@ use mir.Val.{toZ, ofZ}
 use Rattle.laws.specs.Index.{tabulate}
 use Rattle.laws.proofs.Fill.{Upto, upto-none, upto-more, upto-all}
 use Rattle.laws.proofs.Widths.{back}
-use Rattle.df_check.specs.Entries.{entryAt, entriesOf}
-use Rattle.df_check.proofs.strength.entries.Statement.{statement}
-use Rattle.df_check.proofs.strength.entries.Tie as tie
+use Rattle.strength.specs.Entries.{entryAt, entriesOf}
+use Rattle.strength.proofs.entries.Statement.{statement}
+use Rattle.strength.proofs.entries.Tie as tie
 
 abbrev Inv-loop : tie.InvT-loop
 Inv-loop strengths table-u u-offset table-v v-offset list₀ i₀ list i = Upto 0 (entryAt strengths table-u (toZ w8 u-offset) table-v (toZ w8 v-offset)) list₀ list i

@@ -1,13 +1,13 @@
--- `df_check::check::mapped_ok` meets its contract: the test of the entry that was found. Assumes nothing.
+-- `strength::mapped_ok` meets its contract: the test of the entry that was found. Assumes nothing.
 use mathlib.Core.Path.{ap, _∙_}
 use borrow.Author.Needs.{needs}
 use denote.Ref.{now}
 use lib.IntN.{ℤ}
 use mir.Syntax.{w8}
 use Rattle.laws.proofs.Widths.{back}
-use Rattle.df_check.specs.ChromaQp.{mappedZ, hasEntry}
-use Rattle.df_check.proofs.check.mapped_ok.Statement.{statement}
-use Rattle.df_check.proofs.check.mapped_ok.Tie as tie
+use Rattle.strength.specs.ChromaQp.{mappedZ, hasEntry}
+use Rattle.strength.proofs.mapped_ok.Statement.{statement}
+use Rattle.strength.proofs.mapped_ok.Tie as tie
 
 returns : tie.Need-returns
 returns c =

@@ -1,0 +1,2 @@
+pub mod ChromaQp
+pub mod Entries
