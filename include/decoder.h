@@ -110,7 +110,7 @@ uint8_t lomsakeun_leaves(
     size_t w, size_t h, const uint8_t *splits, size_t splits_len, size_t x, size_t y,
     uint16_t *out, size_t out_len, size_t *count);
 
-/* The visiting rank of the unit of column x and row y of a root (split). */
+/* The visiting rank of the unit of column x and row y of a root (rank). */
 uint8_t lomsakeun_visiting_rank(size_t x, size_t y, uint8_t *rank);
 
 /* The edges that each pass of deblocking visits, in order (split): x and y of each, and how many edges. */

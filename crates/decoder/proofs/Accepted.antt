@@ -22,10 +22,10 @@ use Rattle.mpm.specs.Ranks as ranks
 use Rattle.ipred.specs.Predict as predict
 use Rattle.recon.specs.Plane as plane
 use Rattle.recon.specs.Recon as recon
+use Rattle.rank.specs.RankCall as rank
 use Rattle.split.specs.CheckCall as check
 use Rattle.split.specs.LeavesCall as leaves
 use Rattle.split.specs.ListCall as list
-use Rattle.split.specs.RankCall as rank
 use Rattle.split.specs.Walk.{onward, inTurn, leafWalk, byByte, walk}
 
 abbrev points : Points

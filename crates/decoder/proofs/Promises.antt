@@ -2,7 +2,7 @@
 --     NAME-once        over the contract as the checker reads it from the source: the arguments determine the answer and every slice that the call may write
 --     NAME-refusals    the refusals that the call gives, in the order of its ladder, each with an input that meets it; of a call that gives none, nothing
 -- The answer is determined, and not its reading alone, because each reading tells all answers apart: `answer-apart` (def), `reading-apart` (avail, df,
--- sheet_lines, sheet), `leaves-apart`, `rank-apart`, `list-apart` (split), and `number-apart` (def) of the refusals.
+-- sheet_lines, sheet), `rank-apart` (rank), `leaves-apart`, `list-apart` (split), and `number-apart` (def) of the refusals.
 -- Assumes nothing.
 use Prim.Native.Nat.{ℕ, _*_, _/_}
 use mathlib.Core.Path.{refl}
@@ -44,15 +44,16 @@ use Rattle.recon.specs.Plane as plane
 use Rattle.recon.specs.Recon as recon
 use Rattle.driver_rules.specs.Call as driver
 use Rattle.driver_rules.specs.Records.{bytesOk, first, passed}
+use Rattle.rank.specs.RankCall as rank
+use Rattle.rank.specs.Ranks.{rank as visitingRank}
+use Rattle.rank.specs.declared.Rank.the-variants.{Done as Ranked, Refused as NotRanked}
+use Rattle.rank.proofs.Ranks.{rank-apart}
 use Rattle.split.specs.CheckCall as check
 use Rattle.split.specs.LeavesCall as leaves
 use Rattle.split.specs.ListCall as list
 use Rattle.split.specs.Picture.{leavesOf}
-use Rattle.split.specs.RankCall as rank
-use Rattle.split.specs.Ranks.{rank as visitingRank}
 use Rattle.split.specs.Walk.{onward, inTurn, leafWalk, byByte, walk}
-use Rattle.split.specs.declared.Rank.the-variants.{Done as Ranked, Refused as NotRanked}
-use Rattle.split.proofs.Apart.{leaves-apart, rank-apart, list-apart}
+use Rattle.split.proofs.Apart.{leaves-apart, list-apart}
 use Rattle.strength.specs.ChromaQp.{indexOf, mappedZ}
 use Rattle.df_check.specs.Checks as checks
 use Rattle.df_check.specs.declared.VEdge.the-variants.{Source}

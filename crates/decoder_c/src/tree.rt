@@ -1,16 +1,16 @@
 // The split tree and its edges, and the listing of a sheet.
 ghost use mathlib.Core.Path.{_≡_};
 ghost use Rattle.laws.specs.Call.{Gives};
+ghost use Rattle.rank.specs.RankCall as ranking;
 ghost use Rattle.split.specs.CheckCall as checking;
 ghost use Rattle.split.specs.LeavesCall as meeting;
 ghost use Rattle.split.specs.ListCall as listing;
-ghost use Rattle.split.specs.RankCall as ranking;
 ghost use Rattle.sheet.specs.Listing as printing;
 use def::Pel;
 use def::Scu;
+use rank::Rank;
 use sheet::Printed;
 use split::Listed;
-use split::Rank;
 use split::Walked;
 
 // ---- answers in numbers: a value is 0 where refused
@@ -119,7 +119,7 @@ pub extern "C" fn lomsakeun_leaves(
 pub extern "C" fn lomsakeun_visiting_rank(x: usize, y: usize, rank: &mut u8) -> u8
     ensures { λ n. ⌜ Gives ranking.outcome (record { x = x; y = y }) (record { reading = record { number = n; rank = now (rank .exit) } }) ⌝ }
 {
-    let seen = rank_numbers(split::visiting_rank(Scu(x), Scu(y)));
+    let seen = rank_numbers(rank::visiting_rank(Scu(x), Scu(y)));
     *rank = seen.rank;
     seen.number
 }

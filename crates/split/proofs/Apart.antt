@@ -7,11 +7,8 @@ use Rattle.def.specs.declared.Refusal.{Refusal}
 use Rattle.def.proofs.Answers.{number-apart, number-some}
 use Rattle.split.specs.LeavesCall as leaves-call
 use Rattle.split.specs.ListCall as list-call
-use Rattle.split.specs.RankCall as rank-call
 use Rattle.split.specs.declared.Listed.{Listed}
 use Rattle.split.specs.declared.Listed.the-variants.{Done as listed, Refused as not-listed}
-use Rattle.split.specs.declared.Rank.{Rank}
-use Rattle.split.specs.declared.Rank.the-variants.{Done as ranked, Refused as not-ranked}
 use Rattle.split.specs.declared.Walked.{Walked}
 use Rattle.split.specs.declared.Walked.the-variants.{Done as counted, Refused as not-counted}
 
@@ -24,12 +21,6 @@ leaves-apart (counted m) (counted n) e = ap counted (ap (λ (r : leaves-call.Rea
 leaves-apart (counted m) (not-counted r) e = absurd (never r (sym (ap (λ (q : leaves-call.Reading). q .number) e)))
 leaves-apart (not-counted r) (counted n) e = absurd (never r (ap (λ (q : leaves-call.Reading). q .number) e))
 leaves-apart (not-counted r) (not-counted q) e = ap not-counted (number-apart r q (ap (λ (z : leaves-call.Reading). z .number) e))
-
-pub rank-apart : (a b : Rank) → rank-call.readingOf a ≡ rank-call.readingOf b → a ≡ b
-rank-apart (ranked m) (ranked n) e = ap ranked (ap (λ (r : rank-call.Reading). r .rank) e)
-rank-apart (ranked m) (not-ranked r) e = absurd (never r (sym (ap (λ (q : rank-call.Reading). q .number) e)))
-rank-apart (not-ranked r) (ranked n) e = absurd (never r (ap (λ (q : rank-call.Reading). q .number) e))
-rank-apart (not-ranked r) (not-ranked q) e = ap not-ranked (number-apart r q (ap (λ (z : rank-call.Reading). z .number) e))
 
 pub list-apart : (a b : Listed) → list-call.readingOf a ≡ list-call.readingOf b → a ≡ b
 list-apart (listed m u) (listed n v) e = ap₂ listed (ap (λ (r : list-call.Reading). r .vertical) e) (ap (λ (r : list-call.Reading). r .horizontal) e)

@@ -12,10 +12,10 @@ use Rattle.def.specs.declared.Answer.the-variants.{Done}
 use Rattle.laws.specs.Index.{pick}
 use Rattle.laws.specs.Orders.{Pairwise, each}
 use Rattle.laws.proofs.Orders.{pairwise-append, pairwise-imp, pairwise-both, pairwise-each}
+use Rattle.rank.specs.Ranks.{rank, spread}
 use Rattle.split.specs.Edges.{Pass, vertical, horizontal, Edge, edgeAt, stretch}
-use Rattle.split.specs.Order.{InOrder, firstUnit}
+use Rattle.split.specs.Order.{Sooner, InOrder, firstUnit}
 use Rattle.split.specs.Picture.{roots, rootWalk, allLeaves}
-use Rattle.split.specs.Ranks.{Sooner, rank, spread}
 use Rattle.split.specs.Rows.{homeOf, alongOf}
 use Rattle.split.specs.Walk.{Leaf}
 use Rattle.split.proofs.Places.{Before, tiled-v, tiled-h, leaves-sooner}

@@ -6,9 +6,9 @@ use mathlib.Core.Path.{_≡_, refl, sym, ap, ap₂, _∙_}
 use Prim.Native.Nat.{ℕ, _*_, _/_, _%_, _≤_, _<_}
 use native.Mathlib.Nat.{zero-add}
 use native.Mathlib.Omega.{arith}
-use borrow.Author.Tests.{eqb-true, ltb-true, lt-ltb}
-use lib.Dec.{eqb, ltb}
-use lib.ListN.{length, getD, take}
+use borrow.Author.Tests.{eqb-true, ltb-true}
+use lib.Dec.{eqb}
+use lib.ListN.{length, take}
 use lib.Seq.{sets}
 use Rattle.def.specs.Answers.{answerNumber, afterChecks}
 use Rattle.def.specs.Picture.{sizeOk, rootCount}
@@ -20,14 +20,11 @@ use Rattle.def.specs.declared.Refusal.the-variants.{Size, Length, Block}
 use Rattle.def.proofs.Sizes.{Sized, sized}
 use Rattle.laws.specs.Call.{unless}
 use Rattle.laws.specs.Orders.{each}
-use Rattle.laws.proofs.Calls.{all-at, all-fails}
+use Rattle.laws.proofs.Calls.{all-at}
 use Rattle.split.specs.CheckCall as check-call
 use Rattle.split.specs.LeavesCall as leaves-call
 use Rattle.split.specs.Picture.{rootBytes, rootWalk}
-use Rattle.split.specs.RankCall as rank-call
-use Rattle.split.specs.Ranks.{rank}
 use Rattle.split.specs.Stored.{leafNumbers, counted, Stored}
-use Rattle.split.specs.declared.Rank.the-variants.{Done as Ranked, Refused as NotRanked}
 use Rattle.split.specs.declared.Walked.{Walked}
 use Rattle.split.specs.declared.Walked.the-variants.{Done as Counted, Refused as NotCounted}
 use Rattle.split.proofs.Stores.{take-sets, thrice, counted-done, counted-refused}
@@ -123,14 +120,3 @@ pub leaves-refused : (i : leaves-call.Input) (list : List ℕ) (q : Refusal) (r 
     → leaves-call.Met (i .w) (i .h) (i .splits) (i .x) (i .y) (length (i .out)) list r → r ≡ NotCounted q → leaves-call.after (NotCounted q) (i .out) ≡ leaves-call.outcome i
 unfolding leaves-call.outcome
 leaves-refused i list q r m e = rw (counted-refused q _ (leaves-call.check i) (sym e ∙ m .answer))
-
--- ---- visiting_rank
-
-module _ (i : rank-call.Input) where
-  pub rank-refused : (k : ℕ) → getD (ltb (i .x) 16 ∷ ltb (i .y) 16 ∷ []) k true ≡ false → rank-call.after (NotRanked Block) ≡ rank-call.outcome i
-  unfolding rank-call.outcome rank-call.check
-  rank-refused k e = rw (all-fails (ltb (i .x) 16 ∷ ltb (i .y) 16 ∷ []) k e)
-
-  pub rank-done : (n : ℕ) → i .x < 16 → i .y < 16 → n ≡ rank (i .x) (i .y) → rank-call.after (Ranked n) ≡ rank-call.outcome i
-  unfolding rank-call.outcome rank-call.check
-  rank-done n p q e = rw (e, lt-ltb _ _ p, lt-ltb _ _ q)

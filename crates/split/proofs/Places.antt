@@ -13,8 +13,8 @@ use Rattle.def.specs.declared.Answer.the-variants.{Done}
 use Rattle.laws.specs.Orders.{Pairwise}
 use Rattle.laws.proofs.Orders.{pairwise-append, pairwise-imp}
 use Rattle.split.specs.Edges.{vertical, horizontal}
+use Rattle.split.specs.Order.{Sooner}
 use Rattle.split.specs.Picture.{across, roots, rootBytes, rootX, rootY, rootWalk, rootLeaves, leavesOf, allLeaves}
-use Rattle.split.specs.Ranks.{Sooner}
 use Rattle.split.specs.Rows.{homeOf}
 use Rattle.split.specs.Tiling.{Holds, leafAt, leafOf}
 use Rattle.split.specs.Walk.{Leaf, leaf, walk}

@@ -4,24 +4,21 @@
 use mathlib.Core.Bool.{Bool, true, false}
 use mathlib.Core.Logic.{⊎-elim}
 use mathlib.Core.List.{List, [], _∷_, _++_, List·Memᴰ, List·Memᴰ·not-nil, List·Memᴰ·append-cases, List·Memᴰ·eq-of-singleton}
-use mathlib.Core.Path.{_≡_, refl, sym, _∙_, subst}
-use Prim.Native.Nat.{ℕ, zero, suc, _+_, _*_, _/_, _%_, _^_, _≤_, _<_}
+use mathlib.Core.Path.{_≡_, refl, sym, subst}
+use Prim.Native.Nat.{ℕ, zero, suc, _+_, _*_, _%_, _^_, _≤_, _<_}
 use native.Mathlib.Nat.{two-pow-succ, le-refl, mul-pos}
 use native.Mathlib.Omega.{arith}
 use borrow.Author.Tests.{eqb-true, eq-eqb, le-leb}
 use lib.Dec.{leb, eqb}
-use lib.ListN.{getD}
 use lib.Pow.{pow-pos}
 use Rattle.def.specs.declared.Answer.the-variants.{Done}
 use Rattle.laws.specs.Call.{unless, allOf}
-use Rattle.laws.specs.Index.{tabulate}
 use Rattle.laws.specs.Orders.{Pairwise}
 use Rattle.laws.specs.Scan.{allBelow}
 use Rattle.laws.proofs.Calls.{all-at}
 use Rattle.laws.proofs.Orders.{pairwise-append}
 use Rattle.laws.proofs.Scans.{scan-at}
-use Rattle.laws.proofs.Tabulate.{getD-tabulate}
-use Rattle.split.specs.Ranks.{spread, rank}
+use Rattle.rank.specs.Ranks.{spread, rank}
 use Rattle.split.specs.Walk.{Leaf, leaf, walk}
 use Rattle.split.proofs.Induct.{Cases, walk-ind}
 
@@ -192,15 +189,3 @@ by-log P p₀ p₁ p₂ p₃ p₄ (suc (suc (suc (suc (suc k))))) h = absurd (om
 
 pub in-picture : (k x : ℕ) → k ≤ 4 → x % 16 % 2 ^ k ≡ 0 → x % 2 ^ k ≡ 0
 in-picture k x h e = by-log (λ k. x % 16 % 2 ^ k ≡ 0 → x % 2 ^ k ≡ 0) (λ e. omega arith) (λ e. omega arith) (λ e. omega arith) (λ e. omega arith) (λ e. omega arith) k h e
-
--- ---- the table of ranks, by its rule, at 16 * row + column
-
-unfoldable pub ranks : List ℕ
-ranks = tabulate 256 (λ (k : ℕ). rank (k % 16) (k / 16))
-
-pub rank-at : (x y : ℕ) → x < 16 → y < 16 → getD ranks (16 * y + x) 0 ≡ rank x y
-unfolding ranks
-rank-at x y p q =
-    let a : (16 * y + x) % 16 ≡ x = omega arith in
-    let b : (16 * y + x) / 16 ≡ y = omega arith in
-    getD-tabulate (λ (k : ℕ). rank (k % 16) (k / 16)) 256 (16 * y + x) 0 (omega arith) ∙ rw (a, b)

@@ -6,8 +6,6 @@ pub mod ListCall
 pub mod Order
 pub mod Passes
 pub mod Picture
-pub mod RankCall
-pub mod Ranks
 pub mod Rows
 pub mod Stored
 pub mod Tiling

@@ -1,4 +1,4 @@
-// The split tree: the walk from a root to its leaves, and the visiting ranks. What both passes' lists of edges are is said here too; the crate `edges` writes them.
+// The split tree: the walk from a root to its leaves. What both passes' lists of edges are is said here too; the crate `edges` writes them.
 // The Rust beside it: evc_get_split_mode and evc_split_get_part_structure in util.rs, the recursion of evc_deblock_tree in df.rs.
 ghost use mathlib.Core.List.{List};
 ghost use mathlib.Core.Path.{_≡_};
@@ -11,29 +11,18 @@ ghost use Rattle.def.specs.Picture.{rootCount};
 ghost use Rattle.laws.specs.Call.{Gives};
 ghost use Rattle.split.specs.CheckCall as CheckCall;
 ghost use Rattle.split.specs.LeavesCall as LeavesCall;
-ghost use Rattle.split.specs.RankCall as RankCall;
 ghost use Rattle.split.specs.Picture.{rootWalk, pictureWalk};
 ghost use Rattle.split.specs.Stored.{Block, Stored};
 ghost use Rattle.split.specs.Walk.{walk, leafWalk};
 use def::Answer;
 use def::Pel;
 use def::Refusal;
-use def::Scu;
 use def::pel2scu;
 use def::size_ok;
-use rank_table::RANKS;
-
-mod rank_table;
 
 // How many leaves were listed.
 pub enum Walked {
     Done(usize),
-    Refused(Refusal),
-}
-
-// A unit's visiting rank in its root.
-pub enum Rank {
-    Done(u8),
     Refused(Refusal),
 }
 
@@ -282,21 +271,4 @@ pub fn check(w: usize, h: usize, splits: &[u8]) -> Answer
         return Answer::Refused(Refusal::Length);
     }
     walk_picture(w, h, splits)
-}
-
-// ---- visiting ranks
-
-// The visiting rank of the unit of column x and row y in its root.
-pub fn visiting_rank(x: Scu, y: Scu) -> Rank
-    ensures { λ r. ⌜ Gives RankCall.outcome (record { x = x .0; y = y .0 }) (record { reading = RankCall.readingOf r }) ⌝ }
-{
-    let column = x.0;
-    let row = y.0;
-    if column >= 16 {
-        return Rank::Refused(Refusal::Block);
-    }
-    if row >= 16 {
-        return Rank::Refused(Refusal::Block);
-    }
-    Rank::Done(RANKS[16 * row + column])
 }

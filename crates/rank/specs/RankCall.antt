@@ -9,9 +9,9 @@ use Rattle.def.specs.declared.Answer.{Answer}
 use Rattle.def.specs.declared.Answer.the-variants.{Done, Refused}
 use Rattle.def.specs.declared.Refusal.the-variants.{Block}
 use Rattle.laws.specs.Call.{unless, allOf}
-use Rattle.split.specs.Ranks.{rank}
-use Rattle.split.specs.declared.Rank.{Rank}
-use Rattle.split.specs.declared.Rank.the-variants.{Done as Ranked, Refused as NotRanked}
+use Rattle.rank.specs.Ranks.{rank}
+use Rattle.rank.specs.declared.Rank.{Rank}
+use Rattle.rank.specs.declared.Rank.the-variants.{Done as Ranked, Refused as NotRanked}
 
 pub record Input : Type 0 where
   pub x : ℕ

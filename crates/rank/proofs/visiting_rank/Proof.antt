@@ -1,13 +1,12 @@
--- `split::visiting_rank` meets its contract. That the table's 256 entries are the interleaved bits is one test, which the checker computes in `returns-3`:
+-- `rank::visiting_rank` meets its contract. That the table's 256 entries are the interleaved bits is one test, which the checker computes in `returns-3`:
 -- there the code's table stands for `ranks`, the table by its rule. Assumes nothing.
 use borrow.Author.Needs.{needs}
 use borrow.Author.Tests.{le-ltb}
 use Rattle.laws.specs.Index.{tabulateFrom}
-use Rattle.split.specs.Ranks.{spread}
-use Rattle.split.proofs.Outcomes.{rank-refused, rank-done}
-use Rattle.split.proofs.Ranks.{ranks, rank-at}
-use Rattle.split.proofs.visiting_rank.Statement.{statement}
-use Rattle.split.proofs.visiting_rank.Tie as tie
+use Rattle.rank.specs.Ranks.{spread}
+use Rattle.rank.proofs.Ranks.{ranks, rank-at, rank-refused, rank-done}
+use Rattle.rank.proofs.visiting_rank.Statement.{statement}
+use Rattle.rank.proofs.visiting_rank.Tie as tie
 
 returns : tie.Need-returns
 returns c = rank-refused _ 0 (le-ltb _ _ (c .if1 .taken))
