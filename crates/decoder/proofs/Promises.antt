@@ -5,7 +5,7 @@
 -- sheet_lines, sheet), `rank-apart` (rank), `leaves-apart`, `list-apart` (split), and `number-apart` (def) of the refusals.
 -- Assumes nothing.
 use Prim.Native.Nat.{ℕ, _*_, _/_}
-use mathlib.Core.Path.{refl}
+use mathlib.Core.Path.{refl, sym, _∙_}
 use mathlib.Core.Bool.{true, false, _||_}
 use mathlib.Core.List.{List, [], _∷_, _++_, map}
 use denote.Ref.{now, ptr}
@@ -101,6 +101,8 @@ use Rattle.decoder.proofs.list_edges.Kinds as list-edges-kinds
 use Rattle.decoder.proofs.list_edges.Reads as list-edges-reads
 use Rattle.decoder.proofs.deblock.Kinds as deblock-kinds
 use Rattle.decoder.proofs.deblock.Reads as deblock-reads
+use Rattle.decoder.proofs.checked_leaves.Kinds as checked-leaves-kinds
+use Rattle.decoder.proofs.checked_leaves.Reads as checked-leaves-reads
 use Rattle.decoder.proofs.checked.Kinds as checked-kinds
 use Rattle.decoder.proofs.checked.Reads as checked-reads
 use Rattle.decoder.proofs.read.Kinds as read-kinds
@@ -400,6 +402,9 @@ pub reconstruct-once : Sole 11 reconstruct-kinds.ps reconstruct-kinds.r reconstr
     (λ κs r x. let t = x .1 .1 .1 .1 .1 .1 .1 .1 .1 in ended r (now (t .0) ∷ now (t .1 .0) ∷ now (t .1 .1 .0) ∷ now (t .1 .1 .1 .0) ∷ now (t .1 .1 .1 .1 .0) ∷ []))
 reconstruct-once κs a r r′ x x′ p q = settled driver.outcome (λ o. o .number) (λ o. o .y ∷ o .u ∷ o .v ∷ o .words ∷ o .modes ∷ []) p q (answer-apart r r′)
 
+pub checked-leaves-once : Sole 5 checked-leaves-kinds.ps checked-leaves-kinds.r checked-leaves-reads.Post (λ κs r x. r)
+checked-leaves-once κs a r r′ x x′ p q = p ∙ sym q
+
 -- a picture of one unit, w wide: its split bytes, the word to be written, its leaf's record, and the number that every sample of the lent luma prediction is
 abbrev driven : ℕ → List ℕ → List ℕ → List ℕ → ℕ → driver.Input
 driven w splits words leaves sample =
@@ -413,38 +418,49 @@ driven w splits words leaves sample =
       modes = 0 ∷ [];
     }
 
+-- an input for each rung
+abbrev drivings : List driver.Input
+drivings =
+    driven 0 [] [] [] 1024
+    ∷ driven 4 [] [] [] 1024
+    ∷ driven 4 (root 2) [] [] 1024
+    ∷ driven 4 (root 2) (0 ∷ []) [] 1024
+    ∷ driven 4 (root 0) (0 ∷ []) [] 1024
+    ∷ driven 4 (root 1) (0 ∷ []) [] 1024
+    ∷ driven 4 (root 1) (0 ∷ []) (6 ∷ 52 ∷ 0 ∷ 0 ∷ []) 1024
+    ∷ driven 4 (root 1) (0 ∷ []) (5 ∷ 52 ∷ 0 ∷ 0 ∷ []) 1024
+    ∷ driven 4 (root 1) (0 ∷ []) (5 ∷ 51 ∷ 0 ∷ 0 ∷ []) 1024
+    ∷ []
+
 abbrev by-driver : List Refusal
 by-driver = Size ∷ Length ∷ Length ∷ Split ∷ Leaf ∷ Record ∷ Mode ∷ Qp ∷ Sample ∷ []
+
+driver-stops : (i : driver.Input) → Stops by-driver (driver.check i)
+unfolding driver.checkOf driver.dataCheck
+driver-stops i =
+    let g = i .given in
+    let l = driver.leavesOf (g .w) (g .h) (i .splits) in
+    rung (sizeOk (g .w) (g .h)) Size _
+    (rung (driver.readOk (g .w) (g .h) (length (i .splits)) (length (g .pred-y)) (length (g .pred-u)) (length (g .pred-v))) Length _
+    (rung (driver.writtenOk (g .w) (g .h) (length (i .y)) (length (i .u)) (length (i .v)) (length (i .words)) (length (i .modes))) Length _
+    (walk-rung (Record ∷ Mode ∷ Qp ∷ Sample ∷ []) _ _ (picture-stops (i .splits) (g .w / 4) (g .h / 4))
+    (rung (driver.recordsOk (g .leaves) (length (g .residual)) (passed (g .leaves) l first .at) (length l)) Record _
+    (rung (bytesOk (g .leaves) (length l) 0 5) Mode _
+    (rung (bytesOk (g .leaves) (length l) 1 51) Qp _
+    (rung (driver.lentOk (g .pred-y) (g .pred-u) (g .pred-v)) Sample _ last)))))))
 
 pub reconstruct-refusals : Refuses driver.outcome (λ o. o .number) by-driver
 unfolding driver.outcome driver.checkOf driver.readOk driver.writtenOk driver.dataCheck driver.recordsOk driver.lentOk bytesOk sizeOk leavesOf walk byByte inTurn onward leafWalk run samplesOk allBelow flagAt fieldOf
 reconstruct-refusals =
     record {
-      only = λ i.
-          let g = i .given in
-          let l = driver.leavesOf (g .w) (g .h) (i .splits) in
-          by-checks (λ o. o .number) (driver.refused i) (driver.done i) by-driver (driver.check i) (λ r. refl) refl
-          (rung (sizeOk (g .w) (g .h)) Size _
-          (rung (driver.readOk (g .w) (g .h) (length (i .splits)) (length (g .pred-y)) (length (g .pred-u)) (length (g .pred-v))) Length _
-          (rung (driver.writtenOk (g .w) (g .h) (length (i .y)) (length (i .u)) (length (i .v)) (length (i .words)) (length (i .modes))) Length _
-          (walk-rung (Record ∷ Mode ∷ Qp ∷ Sample ∷ []) _ _ (picture-stops (i .splits) (g .w / 4) (g .h / 4))
-          (rung (driver.recordsOk (g .leaves) (length (g .residual)) (passed (g .leaves) l first .at) (length l)) Record _
-          (rung (bytesOk (g .leaves) (length l) 0 5) Mode _
-          (rung (bytesOk (g .leaves) (length l) 1 51) Qp _
-          (rung (driver.lentOk (g .pred-y) (g .pred-u) (g .pred-v)) Sample _ last))))))));
-      shown =
-          driven 0 [] [] [] 1024
-          ∷ driven 4 [] [] [] 1024
-          ∷ driven 4 (root 2) [] [] 1024
-          ∷ driven 4 (root 2) (0 ∷ []) [] 1024
-          ∷ driven 4 (root 0) (0 ∷ []) [] 1024
-          ∷ driven 4 (root 1) (0 ∷ []) [] 1024
-          ∷ driven 4 (root 1) (0 ∷ []) (6 ∷ 52 ∷ 0 ∷ 0 ∷ []) 1024
-          ∷ driven 4 (root 1) (0 ∷ []) (5 ∷ 52 ∷ 0 ∷ 0 ∷ []) 1024
-          ∷ driven 4 (root 1) (0 ∷ []) (5 ∷ 51 ∷ 0 ∷ 0 ∷ []) 1024
-          ∷ [];
+      only = λ i. by-checks (λ o. o .number) (driver.refused i) (driver.done i) by-driver (driver.check i) (λ r. refl) refl (driver-stops i);
+      shown = drivings;
       given = refl;
     }
+
+pub checked-leaves-refusals : Refuses driver.check answerNumber by-driver
+unfolding driver.checkOf driver.readOk driver.writtenOk driver.dataCheck driver.recordsOk driver.lentOk bytesOk sizeOk leavesOf walk byByte inTurn onward leafWalk run samplesOk allBelow flagAt fieldOf
+checked-leaves-refusals = record { only = λ i. driver-stops i .by; shown = drivings; given = refl }
 
 -- ---- deblocking
 

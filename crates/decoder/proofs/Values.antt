@@ -1,4 +1,4 @@
--- The public calls that answer a value and refuse nothing: what is shared, the line filter and its rows.
+-- The public calls that answer a value and refuse nothing: what is shared, what a leaf record says, the line filter and its rows.
 --     NAME-once    over the contract as the checker reads it from the source: the arguments determine the answer
 -- Assumes nothing.
 use Prim.Native.Nat.{ℕ}
@@ -38,6 +38,16 @@ use Rattle.decoder.proofs.answer_number.Kinds as answer-number-kinds
 use Rattle.decoder.proofs.answer_number.Reads as answer-number-reads
 use Rattle.decoder.proofs.samples_ok.Kinds as samples-ok-kinds
 use Rattle.decoder.proofs.samples_ok.Reads as samples-ok-reads
+use Rattle.decoder.proofs.coded_y.Kinds as coded-y-kinds
+use Rattle.decoder.proofs.coded_y.Reads as coded-y-reads
+use Rattle.decoder.proofs.coded_u.Kinds as coded-u-kinds
+use Rattle.decoder.proofs.coded_u.Reads as coded-u-reads
+use Rattle.decoder.proofs.coded_v.Kinds as coded-v-kinds
+use Rattle.decoder.proofs.coded_v.Reads as coded-v-reads
+use Rattle.decoder.proofs.mode_of.Kinds as mode-of-kinds
+use Rattle.decoder.proofs.mode_of.Reads as mode-of-reads
+use Rattle.decoder.proofs.word_of.Kinds as word-of-kinds
+use Rattle.decoder.proofs.word_of.Reads as word-of-reads
 use Rattle.decoder.proofs.mask_of.Kinds as mask-of-kinds
 use Rattle.decoder.proofs.mask_of.Reads as mask-of-reads
 use Rattle.decoder.proofs.line.Kinds as line-kinds
@@ -101,6 +111,21 @@ answer-number-once κs a r r′ x x′ p q = p ∙ sym q
 
 pub samples-ok-once : Sole 1 samples-ok-kinds.ps samples-ok-kinds.r samples-ok-reads.Post (λ κs r x. r)
 samples-ok-once κs a r r′ x x′ p q = p ∙ sym q
+
+pub coded-y-once : Sole 0 coded-y-kinds.ps coded-y-kinds.r coded-y-reads.Post (λ κs r x. r)
+coded-y-once κs a r r′ x x′ p q = p ∙ sym q
+
+pub coded-u-once : Sole 0 coded-u-kinds.ps coded-u-kinds.r coded-u-reads.Post (λ κs r x. r)
+coded-u-once κs a r r′ x x′ p q = p ∙ sym q
+
+pub coded-v-once : Sole 0 coded-v-kinds.ps coded-v-kinds.r coded-v-reads.Post (λ κs r x. r)
+coded-v-once κs a r r′ x x′ p q = p ∙ sym q
+
+pub mode-of-once : Sole 0 mode-of-kinds.ps mode-of-kinds.r mode-of-reads.Post (λ κs r x. r)
+mode-of-once κs a r r′ x x′ p q = p ∙ sym q
+
+pub word-of-once : Sole 0 word-of-kinds.ps word-of-kinds.r word-of-reads.Post (λ κs r x. r)
+word-of-once κs a r r′ x x′ p q = p ∙ sym q
 
 pub mask-of-once : Sole 0 mask-of-kinds.ps mask-of-kinds.r mask-of-reads.Post (λ κs r x. r)
 mask-of-once κs a r r′ x x′ p q = p ∙ sym q

@@ -7,7 +7,7 @@
 //     4 gathering       get_nbr
 //     5 five modes      ipred_b
 //     6 residual        recon, recon_plane
-//     7 driver          reconstruct
+//     7 driver          reconstruct; checked_leaves, coded_y, coded_u, coded_v, mode_of, word_of
 //     8 walk            leaves, check, visiting_rank, list_edges
 //       deblocking      deblock; checked, mapped_ok, entries, mask_of, line, lanes, motion_row
 //     the sheet         read, listing
@@ -43,6 +43,12 @@ pub use df_check::Settings;
 pub use df_check::VEdge;
 pub use df_check::checked;
 pub use driver::reconstruct;
+pub use driver_check::checked_leaves;
+pub use driver_check::coded_u;
+pub use driver_check::coded_v;
+pub use driver_check::coded_y;
+pub use driver_check::mode_of;
+pub use driver_check::word_of;
 pub use edges::list_edges;
 pub use ipred::ipred_b;
 pub use lanes::lanes;

@@ -23,11 +23,11 @@ use Rattle.nbr.proofs.Sides.{four}
 use Rattle.split.specs.Stored.{leafFrom, leavesFrom}
 use Rattle.driver_rules.specs.Asked.{GivenAsked, StateAsked, Stepped}
 use Rattle.driver_rules.specs.Call.{Input, leavesOf, done}
-use Rattle.driver_rules.specs.Records.{kindAt, qpAt, maskAt, isMode, codedY, passed}
+use Rattle.driver_rules.specs.Records.{kindAt, qpAt, maskAt, isMode, codedY, placeOf, passed}
 use Rattle.driver_rules.specs.Steps.{Given, State, stepAt, steps}
 use Rattle.driver_rules.proofs.States.{asked-y, asked-u, asked-v}
 use Rattle.driver_rules.proofs.Walked.{leaves-none, leaves-more, stepped-place}
-use Rattle.driver.specs.Lends.{givenOf, placeOf, stateOf, Drawn, PlanesAsked, Told, Ended}
+use Rattle.driver.specs.Lends.{givenOf, stateOf, Drawn, PlanesAsked, Told, Ended}
 
 module _ {w h : ℕ} {constrained : Bool} {leaves : List ℕ} {residual : List ℤ} {py pu pv : List ℕ} where
   pub planes-asked : {y u v words modes : List ℕ} {at k : ℕ} (x z side : ℕ) → GivenAsked (givenOf w h constrained leaves residual py pu pv) → StateAsked (givenOf w h constrained leaves residual py pu pv) (stateOf y u v words modes at k) → blockOk w h x z side ≡ true

@@ -8,15 +8,12 @@ use lib.IntN.{ℤ}
 use lib.ListN.{length}
 use Rattle.def.specs.declared.Component.the-variants.{Luma, Chroma}
 use Rattle.driver_rules.specs.Asked.{BlockAsked, GivenAsked}
-use Rattle.driver_rules.specs.Records.{Place, codedY, codedU, codedV, startU, startV, endV}
+use Rattle.driver_rules.specs.Records.{placeOf, codedY, codedU, codedV, startU, startV, endV}
 use Rattle.driver_rules.specs.Steps.{Given, State, aroundOf, componentOf}
 
 abbrev pub givenOf : (w h : ℕ) (constrained : Bool) (leaves : List ℕ) (residual : List ℤ) (py pu pv : List ℕ) → Given
 givenOf w h constrained leaves residual py pu pv =
     record { w = w; h = h; constrained = constrained; leaves = leaves; residual = residual; pred-y = py; pred-u = pu; pred-v = pv }
-
-abbrev pub placeOf : (at k : ℕ) → Place
-placeOf at k = record { at = at; k = k }
 
 abbrev pub stateOf : (y u v words modes : List ℕ) (at k : ℕ) → State
 stateOf y u v words modes at k = record { y = y; u = u; v = v; words = words; modes = modes; place = placeOf at k }

@@ -1,152 +1,32 @@
-// The walk over a picture's leaves: how far it comes in the two lists, and, leaf by leaf, the three components and what the units are told.
+// The walk over a picture's leaves: leaf by leaf the three components, and what the units are told.
 ghost use mathlib.Core.Path.{_≡_};
 ghost use mathlib.Core.Bool.{true};
 ghost use mathlib.Core.List.{[], _∷_};
 ghost use Prim.Native.Nat.{ℕ, _+_, _*_, _/_, _≤_, _<_};
 ghost use lib.ListN.{length};
-ghost use Rattle.laws.specs.Index.{pick, tabulate};
+ghost use Rattle.laws.specs.Index.{tabulate};
 ghost use Rattle.laws.specs.Plane.{withRow, withBlock};
 ghost use Rattle.def.specs.Blocks.{blockOk};
 ghost use Rattle.def.specs.Picture.{rootCount};
-ghost use Rattle.def.specs.Word.{leafWord};
 ghost use Rattle.split.specs.Stored.{leavesFrom};
 ghost use Rattle.split.specs.Walk.{leaf};
-ghost use Rattle.driver_rules.specs.Asked.{GivenAsked, StateAsked, Reaches, Blocks, Sides, Accepted, Listed, Stepped};
+ghost use Rattle.driver_rules.specs.Asked.{GivenAsked, StateAsked, Reaches, Blocks, Accepted, Listed, Stepped};
 ghost use Rattle.driver_rules.specs.Call.{leavesOf};
-ghost use Rattle.driver_rules.specs.Records.{isMode, codedY, codedU, codedV, maskAt, residualCount, endV, first, past, passed};
+ghost use Rattle.driver_rules.specs.Records.{endV, placeOf, first, past, passed};
 ghost use Rattle.driver_rules.specs.Steps.{steps};
-ghost use Rattle.driver.specs.Lends.{givenOf, placeOf, stateOf, Drawn, PlanesAsked, Told, Ended};
+ghost use Rattle.driver.specs.Lends.{givenOf, stateOf, Drawn, PlanesAsked, Told, Ended};
 use crate::component::Block;
 use crate::component::component;
 use def::Component;
 use def::Pel;
 use def::Scu;
 use def::pel2scu;
+use driver_check::coded_u;
+use driver_check::coded_v;
+use driver_check::coded_y;
+use driver_check::mode_of;
+use driver_check::word_of;
 use split::Walked;
-
-// How far the walk has come: the leaf's number, and its place in the residual list.
-pub(crate) struct Place {
-    pub(crate) at: usize,
-    pub(crate) k: usize,
-}
-
-// ---- a leaf record
-
-// The mask's bits: 1 Y, 2 U, 4 V.
-fn coded_y(mask: u8) -> bool
-    ensures { λ r. ⌜ r ≡ codedY mask ⌝ }
-{
-    mask % 2 == 1
-}
-
-fn coded_u(mask: u8) -> bool
-    ensures { λ r. ⌜ r ≡ codedU mask ⌝ }
-{
-    mask / 2 % 2 == 1
-}
-
-fn coded_v(mask: u8) -> bool
-    ensures { λ r. ⌜ r ≡ codedV mask ⌝ }
-{
-    mask / 4 % 2 == 1
-}
-
-// The mode byte of a kind: 255 for the lent prediction.
-fn mode_of(kind: u8) -> u8
-    ensures { λ r. ⌜ r ≡ pick (isMode kind) kind 255 ⌝ }
-{
-    if kind <= 4 {
-        return kind;
-    }
-    255
-}
-
-// The word of a leaf's units: intra for a mode, the QP, luma-coded and done.
-fn word_of(kind: u8, qp: u8, mask: u8) -> u32
-    ensures { λ r. ⌜ r ≡ leafWord (isMode kind) qp (codedY mask) ⌝ }
-{
-    def::leaf_word(kind <= 4, qp, coded_y(mask))
-}
-
-// The mask of leaf k, 0 where the list ends before it.
-fn mask_at(leaves: &[u8], k: usize) -> u8
-    requires { ⌜ k ≤ 1048576 ⌝ }
-    ensures { λ r. ⌜ r ≡ maskAt (now (leaves .entry)) k ⌝ }
-{
-    let i = 4 * k + 2;
-    if i < leaves.len() {
-        return leaves[i];
-    }
-    0
-}
-
-// ---- how far the walk comes
-
-// Residuals of a leaf in a component.
-fn residual_count(part: Component, coded: bool, side: usize) -> usize
-    requires { ⌜ side ≤ 64 ⌝ }
-    ensures { λ r. ⌜ (r ≡ residualCount part coded side) × (r ≤ 4096) ⌝ }
-{
-    let n = def::in_component(part, side);
-    if coded {
-        return n * n;
-    }
-    0
-}
-
-// Where those of a leaf end that start at `at`.
-fn leaf_end(at: usize, mask: u8, side: usize) -> usize
-    requires { ⌜ (side ≤ 64) × (at ≤ 1099511627776) ⌝ }
-    ensures { λ r. ⌜ (r ≡ endV at mask side) × (r ≤ at + 12288) ⌝ }
-{
-    let y = residual_count(Component::Luma, coded_y(mask), side);
-    let u = residual_count(Component::Chroma, coded_u(mask), side);
-    let v = residual_count(Component::Chroma, coded_v(mask), side);
-    at + y + u + v
-}
-
-// Past the first n leaves of a list.
-fn past_leaves(leaves: &[u8], list: &[u16], n: usize, from: Place) -> Place
-    requires { ⌜ Sides (now list) n × (from .k ≤ 1048320) × (from .at ≤ 12288 * from .k) ⌝ }
-    ensures { λ r. ⌜ (placeOf (r .at) (r .k) ≡ passed (now (leaves .entry)) (leavesFrom (now (list .entry)) n) (placeOf (from .at) (from .k))) × (r .k ≡ from .k + n) × (r .at ≤ 12288 * r .k) ⌝ }
-{
-    let k = from.k;
-    let mut at = from.at;
-    for j in 0..n {
-        let side = list[3 * j + 2] as usize;
-        at = leaf_end(at, mask_at(leaves, k + j), side);
-    }
-    Place { at, k: k + n }
-}
-
-// The leaves of root i into a list, and how many they are. The walk of the picture was checked, and is not refused here.
-fn root_leaves(w: usize, h: usize, splits: &[u8], i: usize, list: &mut [u16]) -> usize
-    requires { ⌜ Accepted w h (now splits) × (i < rootCount w h) × (length (now list) ≡ 768) ⌝ }
-    ensures { λ r. ⌜ Listed w h (now (splits .entry)) i (now (list .exit)) r ⌝ }
-{
-    let across = (w + 63) / 64;
-    let x = Pel(64 * (i % across));
-    let y = Pel(64 * (i / across));
-    match split::leaves(w, h, splits, x, y, list) {
-        Walked::Done(n) => n,
-        Walked::Refused(_) => 0,
-    }
-}
-
-// Past all leaves of a picture.
-pub(crate) fn past_picture(w: usize, h: usize, splits: &[u8], leaves: &[u8]) -> Place
-    requires { ⌜ Accepted w h (now splits) ⌝ }
-    ensures { λ r. ⌜ (placeOf (r .at) (r .k) ≡ passed (now (leaves .entry)) (leavesOf w h (now (splits .entry))) first) × (r .k ≤ 1048576) ⌝ }
-{
-    let roots = (w + 63) / 64 * ((h + 63) / 64);
-    let mut list = [0u16; 768];
-    let mut place = Place { at: 0, k: 0 };
-    for i in 0..roots {
-        let n = root_leaves(w, h, splits, i, &mut list);
-        place = past_leaves(leaves, &list, n, place);
-    }
-    place
-}
 
 // ---- the maps
 
@@ -364,6 +244,20 @@ fn draw_leaves(
 }
 
 // ---- the picture
+
+// The leaves of root i into a list, and how many they are. The walk of the picture was checked, and is not refused here.
+fn root_leaves(w: usize, h: usize, splits: &[u8], i: usize, list: &mut [u16]) -> usize
+    requires { ⌜ Accepted w h (now splits) × (i < rootCount w h) × (length (now list) ≡ 768) ⌝ }
+    ensures { λ r. ⌜ Listed w h (now (splits .entry)) i (now (list .exit)) r ⌝ }
+{
+    let across = (w + 63) / 64;
+    let x = Pel(64 * (i % across));
+    let y = Pel(64 * (i / across));
+    match split::leaves(w, h, splits, x, y, list) {
+        Walked::Done(n) => n,
+        Walked::Refused(_) => 0,
+    }
+}
 
 // Map words start at 0.
 pub(crate) fn clear(map_scu: &mut [u32])

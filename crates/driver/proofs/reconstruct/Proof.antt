@@ -25,7 +25,7 @@ input s =
 
 -- where the checks found nothing
 passed-at : (c : tie.After-enum-told) → Passed (input (c .before .before .before .before .before .before .before .before .before .before .before .before .before))
-passed-at c = all-passed (input (c .before .before .before .before .before .before .before .before .before .before .before .before .before)) (sym (c .before .before .checked .ensures) ∙ c .enum-told .given .1)
+passed-at c = all-passed (input (c .before .before .before .before .before .before .before .before .before .before .before .before .before)) (sym (c .before .before .checked-leaves .ensures) ∙ c .enum-told .given .1)
 
 draw-picture-requires : tie.Need-draw-picture-requires
 draw-picture-requires c κs =
@@ -34,13 +34,13 @@ draw-picture-requires c κs =
 
 returns : tie.Need-returns
 unfolding outcome
-returns c = on-refusal _ _ _ _ _ (c .before .before .before .checked .ensures) (c .before .r .given .1)
+returns c = on-refusal _ _ _ _ _ (c .before .before .before .checked-leaves .ensures) (c .before .r .given .1)
 
 returns-2 : tie.Need-returns-2
 unfolding outcome
 returns-2 c =
     let s = c .before .before .before .before .before .before .before .before .before .before .before .before .before .before .before .before .before .before .before .before .before .before .before .before .before .before .before .before .before .before .before .before .before in
-    on-done _ _ _ _ _ (c .before .before .before .before .before .before .before .before .before .before .before .before .before .before .before .before .before .before .before .before .before .before .checked .ensures) (c .before .before .before .before .before .before .before .before .before .before .before .before .before .before .before .before .before .before .before .before .enum-told .given .1) (done-ended (input s) (c .before .before .before .before .before .before .before .before .before .before .before .before .before .before .before .before .before .before .clear .ensures) (c .before .before .before .before .before .before .before .before .before .before .draw-picture .ensures))
+    on-done _ _ _ _ _ (c .before .before .before .before .before .before .before .before .before .before .before .before .before .before .before .before .before .before .before .before .before .before .checked-leaves .ensures) (c .before .before .before .before .before .before .before .before .before .before .before .before .before .before .before .before .before .before .before .before .enum-told .given .1) (done-ended (input s) (c .before .before .before .before .before .before .before .before .before .before .before .before .before .before .before .before .before .before .clear .ensures) (c .before .before .before .before .before .before .before .before .before .before .draw-picture .ensures))
 
 pub reconstruct-spec : {M : Type 1} → statement M
 reconstruct-spec =

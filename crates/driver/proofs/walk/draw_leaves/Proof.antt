@@ -5,8 +5,9 @@ use native.Mathlib.Omega.{arith}
 use lib.ListN.{length}
 use Rattle.split.specs.Stored.{leavesFrom}
 use Rattle.driver_rules.specs.Asked.{Stepped}
+use Rattle.driver_rules.specs.Records.{placeOf}
 use Rattle.driver_rules.proofs.Walked.{sides, leaves-reach}
-use Rattle.driver.specs.Lends.{givenOf, placeOf, stateOf}
+use Rattle.driver.specs.Lends.{givenOf, stateOf}
 use Rattle.driver.proofs.Leaves.{leaves-start, leaves-next, leaves-asked}
 use Rattle.driver.proofs.walk.draw_leaves.Statement.{statement}
 use Rattle.driver.proofs.walk.draw_leaves.Tie as tie

@@ -8,9 +8,9 @@ use Rattle.def.proofs.Sizes.{Sized, sized}
 use Rattle.split.specs.Picture.{roots, leavesOf}
 use Rattle.split.proofs.Roots.{few-roots, roots-units}
 use Rattle.driver_rules.specs.Asked.{Stepped}
-use Rattle.driver_rules.specs.Records.{first}
+use Rattle.driver_rules.specs.Records.{placeOf, first}
 use Rattle.driver_rules.proofs.Walked.{roots-none, roots-more, roots-reach, stepped-place}
-use Rattle.driver.specs.Lends.{givenOf, placeOf, stateOf}
+use Rattle.driver.specs.Lends.{givenOf, stateOf}
 use Rattle.driver.proofs.Leaves.{ended}
 use Rattle.driver.proofs.walk.draw_picture.Statement.{statement}
 use Rattle.driver.proofs.walk.draw_picture.Tie as tie

@@ -1,0 +1,35 @@
+-- `driver_check::check::root_leaves` meets its contract: the walk was accepted, so the call lists the root's leaves. Assumes nothing.
+use Prim.Native.Nat.{_+_, _*_, _/_, _%_, _<_}
+use native.Mathlib.Omega.{arith}
+use borrow.Author.Needs.{needs}
+use Rattle.def.proofs.Sizes.{Sized, sized}
+use Rattle.split.proofs.Callers.{root-met, root-told}
+use Rattle.split.proofs.Roots.{root-column, root-row}
+use Rattle.driver_rules.proofs.Lists.{listed}
+use Rattle.driver_check.proofs.check.root_leaves.Statement.{statement}
+use Rattle.driver_check.proofs.check.root_leaves.Tie as tie
+
+size : (s : tie.Start) → Sized (s .args .w) (s .args .h)
+size s = sized _ _ (s .pre .0 .size)
+
+column : (s : tie.Start) → 64 * (s .args .i % ((s .args .w + 63) / 64)) < s .args .w
+column s = root-column (size s) (s .args .i) (s .pre .1)
+
+row : (s : tie.Start) → 64 * (s .args .i / ((s .args .w + 63) / 64)) < s .args .h
+row s = root-row (size s) (s .args .i) (s .pre .1)
+
+returns : tie.Need-returns
+returns c =
+    let s = c .before .before .before .before .before .before .before .before .before in
+    listed (root-told _ _ _ (s .pre .0 .size) (s .pre .0 .long) (s .pre .0 .walked) (s .args .i) (s .pre .1) _ _ _ (s .pre .2) (c .before .before .before .before .before .leaves .ensures) _ (c .before .n .given .1))
+
+returns-2 : tie.Need-returns-2
+returns-2 c =
+    let s = c .before .before .before .before .before .before .before .before in
+    absurd (root-met _ _ _ (s .pre .0 .size) (s .pre .0 .long) (s .pre .0 .walked) (s .args .i) (s .pre .1) _ _ _ (s .pre .2) (c .before .before .before .before .leaves .ensures) _ (c .enum-told .given .1))
+
+pub root-leaves-spec : {M : Type 1} → statement M
+root-leaves-spec =
+    tie.close
+    (tie.spec (λ c. omega (arith, size (c .before .before) .wide)) (λ c. omega (arith, size (c .before .before) .some-wide)) (λ c. omega (arith, column (c .before .before), size (c .before .before) .wide)) (λ c. omega (arith, size (c .before .before) .some-wide)) (λ c. omega (arith, row (c .before .before), size (c .before .before) .high)) (λ c κs. search needs)
+    (λ c. search needs) (λ c. search needs) (λ c. search needs) returns (λ c. search needs) returns-2)

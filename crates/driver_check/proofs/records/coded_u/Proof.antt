@@ -1,0 +1,13 @@
+-- `driver_check::records::coded_u` meets its contract: the flag at its place. Assumes nothing.
+use mathlib.Core.Path.{refl}
+use Rattle.laws.specs.Bits.{fieldOf}
+use Rattle.def.specs.Word.{flagAt}
+use Rattle.driver_check.proofs.records.coded_u.Statement.{statement}
+use Rattle.driver_check.proofs.records.coded_u.Tie as tie
+
+returns : tie.Need-returns
+unfolding flagAt fieldOf
+returns c = refl
+
+pub coded-u-spec : {M : Type 1} → statement M
+coded-u-spec = tie.close (tie.spec returns)
