@@ -1,25 +1,22 @@
 // The walk over a picture's leaves: leaf by leaf the three components, and what the units are told.
 ghost use mathlib.Core.Path.{_≡_};
-ghost use mathlib.Core.Bool.{true};
-ghost use mathlib.Core.List.{[], _∷_};
+ghost use mathlib.Core.List.{[]};
 ghost use Prim.Native.Nat.{ℕ, _+_, _*_, _/_, _≤_, _<_};
-ghost use lib.ListN.{length};
-ghost use Rattle.laws.specs.Index.{tabulate};
-ghost use Rattle.laws.specs.Plane.{withRow, withBlock};
-ghost use Rattle.def.specs.Blocks.{blockOk};
+ghost use lib.ListN.{length, getD};
+ghost use Rattle.laws.specs.Index.{pick, tabulate};
+ghost use Rattle.laws.specs.Plane.{withRow};
 ghost use Rattle.def.specs.Picture.{rootCount};
+ghost use Rattle.def.specs.Word.{leafWord};
 ghost use Rattle.split.specs.Stored.{leavesFrom};
-ghost use Rattle.split.specs.Walk.{leaf};
 ghost use Rattle.driver_rules.specs.Asked.{GivenAsked, StateAsked, Reaches, Blocks, Accepted, Listed, Stepped};
 ghost use Rattle.driver_rules.specs.Call.{leavesOf};
-ghost use Rattle.driver_rules.specs.Records.{endV, placeOf, first, past, passed};
-ghost use Rattle.driver_rules.specs.Steps.{steps};
+ghost use Rattle.driver_rules.specs.Records.{kindAt, qpAt, maskAt, isMode, codedY, endV, placeOf, first, passed};
+ghost use Rattle.driver_rules.specs.Steps.{withUnits, steps};
 ghost use Rattle.driver.specs.Lends.{givenOf, stateOf, Drawn, PlanesAsked, Told, Ended};
 use crate::component::Block;
 use crate::component::component;
 use def::Component;
 use def::Pel;
-use def::Scu;
 use def::pel2scu;
 use driver_check::coded_u;
 use driver_check::coded_v;
@@ -27,6 +24,46 @@ use driver_check::coded_y;
 use driver_check::mode_of;
 use driver_check::word_of;
 use split::Walked;
+
+// A leaf of a list: its place and its side, in luma samples.
+struct Leaf {
+    x: Pel,
+    z: Pel,
+    side: usize,
+}
+
+// A leaf's record, but its spare byte.
+struct Record {
+    kind: u8,
+    qp: u8,
+    mask: u8,
+}
+
+// Leaf j of a list.
+fn leaf_at(list: &[u16], j: usize) -> Leaf
+    requires { ⌜ 3 * j + 2 < length (now list) ⌝ }
+    ensures { λ r. ⌜ (r .x .0 ≡ getD (now (list .entry)) (3 * j) 0) × (r .z .0 ≡ getD (now (list .entry)) (3 * j + 1) 0) × (r .side ≡ getD (now (list .entry)) (3 * j + 2) 0) ⌝ }
+{
+    let x = list[3 * j] as usize;
+    let z = list[3 * j + 1] as usize;
+    let side = list[3 * j + 2] as usize;
+    Leaf {
+        x: Pel(x),
+        z: Pel(z),
+        side,
+    }
+}
+
+// The record of leaf k.
+fn record_at(leaves: &[u8], k: usize) -> Record
+    requires { ⌜ 4 * (k + 1) ≤ length (now leaves) ⌝ }
+    ensures { λ r. ⌜ (r .kind ≡ kindAt (now (leaves .entry)) k) × (r .qp ≡ qpAt (now (leaves .entry)) k) × (r .mask ≡ maskAt (now (leaves .entry)) k) ⌝ }
+{
+    let kind = leaves[4 * k];
+    let qp = leaves[4 * k + 1];
+    let mask = leaves[4 * k + 2];
+    Record { kind, qp, mask }
+}
 
 // ---- the maps
 
@@ -43,26 +80,23 @@ fn tell_row(map_scu: &mut [u32], modes: &mut [u8], at: usize, n: usize, word: u3
     }
 }
 
-// The units of a block of n by n units, at column x, row y of maps of rows of `columns`.
-fn tell(
-    map_scu: &mut [u32],
-    modes: &mut [u8],
-    columns: usize,
-    x: Scu,
-    y: Scu,
-    n: usize,
-    word: u32,
-    mode: u8,
-)
-    requires { ⌜ Told columns (x .0) (y .0) n (now «map_scu») (now modes) ⌝ }
-    ensures { λ _. ⌜ (now («map_scu» .exit) ≡ withBlock 0 columns (x .0) (y .0) n n (λ (r c : ℕ). word) (now («map_scu» .entry))) × (now (modes .exit) ≡ withBlock 0 columns (x .0) (y .0) n n (λ (r c : ℕ). mode) (now (modes .entry))) ⌝ }
+// The units of a leaf, in maps of a picture w wide: the word of its record, and the mode.
+fn tell(map_scu: &mut [u32], modes: &mut [u8], w: usize, leaf: Leaf, said: Record)
+    requires { ⌜ Told (w / 4) (leaf .x .0 / 4) (leaf .z .0 / 4) (leaf .side / 4) (now «map_scu») (now modes) ⌝ }
+    ensures { λ _. ⌜ (now («map_scu» .exit) ≡ withUnits w (leaf .x .0) (leaf .z .0) (leaf .side) (leafWord (isMode (said .kind)) (said .qp) (codedY (said .mask))) (now («map_scu» .entry))) × (now (modes .exit) ≡ withUnits w (leaf .x .0) (leaf .z .0) (leaf .side) (pick (isMode (said .kind)) (said .kind) 255) (now (modes .entry))) ⌝ }
 {
+    let columns = w / 4;
+    let x = pel2scu(leaf.x).0;
+    let y = pel2scu(leaf.z).0;
+    let n = leaf.side / 4;
+    let word = word_of(said.kind, said.qp, said.mask);
+    let mode = mode_of(said.kind);
     let mut r = 0;
     while r < n {
         tell_row(
             &mut *map_scu,
             &mut *modes,
-            (y.0 + r) * columns + x.0,
+            (y + r) * columns + x,
             n,
             word,
             mode,
@@ -73,16 +107,13 @@ fn tell(
 
 // ---- a leaf
 
-// Its three components, by one kind. The answer is where its residuals end.
+// Its three components, by one kind, from place `at` of the residual list on. The answer is where its residuals end.
 fn leaf_planes(
     w: usize,
     h: usize,
     constrained: bool,
-    x: Pel,
-    z: Pel,
-    side: usize,
-    kind: u8,
-    mask: u8,
+    leaf: Leaf,
+    said: Record,
     pred_y: &[u16],
     pred_u: &[u16],
     pred_v: &[u16],
@@ -93,10 +124,15 @@ fn leaf_planes(
     u: &mut [u16],
     v: &mut [u16],
 ) -> usize
-    requires { ⌜ PlanesAsked (givenOf w h constrained [] (now residual) (now «pred_y») (now «pred_u») (now «pred_v»)) (x .0) (z .0) side (now «map_scu») (now y) (now u) (now v) × (endV at mask side ≤ length (now residual)) ⌝ }
-    ensures { λ r. ⌜ Drawn (givenOf w h constrained [] (now (residual .entry)) (now («pred_y» .entry)) (now («pred_u» .entry)) (now («pred_v» .entry))) (x .0) (z .0) side kind mask at (now («map_scu» .entry))
+    requires { ⌜ PlanesAsked (givenOf w h constrained [] (now residual) (now «pred_y») (now «pred_u») (now «pred_v»)) (leaf .x .0) (leaf .z .0) (leaf .side) (now «map_scu») (now y) (now u) (now v) × (endV at (said .mask) (leaf .side) ≤ length (now residual)) ⌝ }
+    ensures { λ r. ⌜ Drawn (givenOf w h constrained [] (now (residual .entry)) (now («pred_y» .entry)) (now («pred_u» .entry)) (now («pred_v» .entry))) (leaf .x .0) (leaf .z .0) (leaf .side) (said .kind) (said .mask) at (now («map_scu» .entry))
         (now (y .entry)) (now (u .entry)) (now (v .entry)) (now (y .exit)) (now (u .exit)) (now (v .exit)) r ⌝ }
 {
+    let x = leaf.x;
+    let z = leaf.z;
+    let side = leaf.side;
+    let kind = said.kind;
+    let mask = said.mask;
     let luma = Block {
         component: Component::Luma,
         w,
@@ -118,71 +154,6 @@ fn leaf_planes(
     let a = component(luma, kind, coded_y(mask), pred_y, residual, at, map_scu, y);
     let b = component(chroma, kind, coded_u(mask), pred_u, residual, a, map_scu, u);
     component(chroma, kind, coded_v(mask), pred_v, residual, b, map_scu, v)
-}
-
-// Leaf k, of luma side `side` at (x, z): its components, and then its units.
-fn draw_leaf(
-    w: usize,
-    h: usize,
-    constrained: bool,
-    x: Pel,
-    z: Pel,
-    side: usize,
-    leaves: &[u8],
-    k: usize,
-    pred_y: &[u16],
-    pred_u: &[u16],
-    pred_v: &[u16],
-    residual: &[i16],
-    at: usize,
-    y: &mut [u16],
-    u: &mut [u16],
-    v: &mut [u16],
-    map_scu: &mut [u32],
-    modes: &mut [u8],
-) -> usize
-    requires { ⌜ GivenAsked (givenOf w h constrained (now leaves) (now residual) (now «pred_y») (now «pred_u») (now «pred_v»)) ⌝ }
-    requires { ⌜ StateAsked (givenOf w h constrained (now leaves) (now residual) (now «pred_y») (now «pred_u») (now «pred_v»)) (stateOf (now y) (now u) (now v) (now «map_scu») (now modes) at k) ⌝ }
-    requires { ⌜ (blockOk w h (x .0) (z .0) side ≡ true) × Reaches (now leaves) (length (now residual)) (past (now leaves) side (placeOf at k)) ⌝ }
-    ensures { λ r. ⌜ Stepped (givenOf w h constrained (now (leaves .entry)) (now (residual .entry)) (now («pred_y» .entry)) (now («pred_u» .entry)) (now («pred_v» .entry))) (leaf (x .0 / 4) (z .0 / 4) (side / 4) ∷ [])
-        (stateOf (now (y .entry)) (now (u .entry)) (now (v .entry)) (now («map_scu» .entry)) (now (modes .entry)) at k)
-        (stateOf (now (y .exit)) (now (u .exit)) (now (v .exit)) (now («map_scu» .exit)) (now (modes .exit)) r (k + 1)) ⌝ }
-{
-    let kind = leaves[4 * k];
-    let qp = leaves[4 * k + 1];
-    let mask = leaves[4 * k + 2];
-    let end = leaf_planes(
-        w,
-        h,
-        constrained,
-        x,
-        z,
-        side,
-        kind,
-        mask,
-        pred_y,
-        pred_u,
-        pred_v,
-        residual,
-        at,
-        &*map_scu,
-        y,
-        u,
-        v,
-    );
-    let word = word_of(kind, qp, mask);
-    let mode = mode_of(kind);
-    tell(
-        map_scu,
-        modes,
-        w / 4,
-        pel2scu(x),
-        pel2scu(z),
-        side / 4,
-        word,
-        mode,
-    );
-    end
 }
 
 // ---- the leaves of a list
@@ -216,29 +187,25 @@ fn draw_leaves(
 {
     let mut end = at;
     for j in 0..n {
-        let x = list[3 * j] as usize;
-        let z = list[3 * j + 1] as usize;
-        let side = list[3 * j + 2] as usize;
-        end = draw_leaf(
+        let leaf = leaf_at(list, j);
+        let said = record_at(leaves, k + j);
+        end = leaf_planes(
             w,
             h,
             constrained,
-            Pel(x),
-            Pel(z),
-            side,
-            leaves,
-            k + j,
+            leaf,
+            said,
             pred_y,
             pred_u,
             pred_v,
             residual,
             end,
+            &*map_scu,
             &mut *y,
             &mut *u,
             &mut *v,
-            &mut *map_scu,
-            &mut *modes,
         );
+        tell(&mut *map_scu, &mut *modes, w, leaf, said);
     }
     end
 }

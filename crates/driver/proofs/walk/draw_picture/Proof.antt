@@ -1,6 +1,6 @@
 -- `driver::walk::draw_picture` meets its contract: after i turns the state is that of the first i roots. Assumes nothing.
 use Prim.Native.Nat.{_+_, _-_, _*_, _/_, _≤_, _<_}
-use mathlib.Core.Path.{_≡_, refl, _∙_}
+use mathlib.Core.Path.{_≡_, refl}
 use native.Mathlib.Omega.{arith}
 use borrow.Author.Needs.{needs}
 use lib.ListN.{length}
@@ -11,13 +11,13 @@ use Rattle.driver_rules.specs.Asked.{Stepped}
 use Rattle.driver_rules.specs.Records.{placeOf, first}
 use Rattle.driver_rules.proofs.Walked.{roots-none, roots-more, roots-reach, stepped-place}
 use Rattle.driver.specs.Lends.{givenOf, stateOf}
-use Rattle.driver.proofs.Leaves.{ended}
+use Rattle.driver.proofs.Leaves.{ended, Kept, kept}
 use Rattle.driver.proofs.walk.draw_picture.Statement.{statement}
 use Rattle.driver.proofs.walk.draw_picture.Tie as tie
 
 abbrev Inv-loop : tie.InvT-loop
 Inv-loop w h constrained splits leaves pred-y pred-u pred-v residual y₀ u₀ v₀ words₀ modes₀ roots list₀ at₀ k₀ i₀ y u v words modes list at k i =
-    (i ≤ roots) × (length y ≡ length y₀) × (length u ≡ length u₀) × (length v ≡ length v₀) × (length words ≡ length words₀) × (length modes ≡ length modes₀) × (length list ≡ 768)
+    (i ≤ roots) × (length list ≡ 768)
     × Stepped (givenOf w h constrained leaves residual pred-y pred-u pred-v) (leavesOf splits (w / 4) (h / 4) i) (stateOf y₀ u₀ v₀ words₀ modes₀ 0 0) (stateOf y u v words modes at k)
     × (k ≤ 256 * i)
 
@@ -33,10 +33,10 @@ few s = few-roots (s .args .w) (s .args .h) (size s .wide) (size s .high)
 loop-holds : tie.Need-loop-holds Inv-loop μ-loop
 loop-holds c =
     let s = c .before .before .before .before .before .before .before .before .before .before in
-    (omega arith, refl, refl, refl, refl, refl, refl, roots-none _ (s .args .splits .now) (s .args .w / 4) (s .args .h / 4) _ (s .pre .1 .0), omega arith)
+    (omega arith, refl, roots-none _ (s .args .splits .now) (s .args .w / 4) (s .args .h / 4) _ (s .pre .1 .0), omega arith)
 
 root-leaves-requires : tie.Need-root-leaves-requires Inv-loop μ-loop
-root-leaves-requires c κs = (c .before .before .before .before .before .before .before .before .before .before .before .before .before .pre .1 .1 .0, c .before .loop-test .taken, c .before .before .loop .inv .6)
+root-leaves-requires c κs = (c .before .before .before .before .before .before .before .before .before .before .before .before .before .pre .1 .1 .0, c .before .loop-test .taken, c .before .before .loop .inv .1)
 
 draw-leaves-requires : tie.Need-draw-leaves-requires Inv-loop μ-loop
 draw-leaves-requires c κs =
@@ -46,11 +46,11 @@ draw-leaves-requires c κs =
     let early : l .i < roots (s .args .w / 4) (s .args .h / 4) = omega (arith, c .before .before .before .before .before .before .before .before .before .loop-test .taken, roots-units (size s)) in (
       s .pre .0,
       (
-        l .inv .7 .asked,
+        l .inv .2 .asked,
         (
           d .blocks,
           roots-reach (s .args .leaves .now) _ (s .args .splits .now) (s .args .w / 4) (s .args .h / 4) (l .i) _ _ _ first (placeOf (l .at) (l .k)) early (d .same)
-              (stepped-place _ (leavesOf (s .args .splits .now) (s .args .w / 4) (s .args .h / 4) (l .i)) _ _ (l .inv .7)) (s .pre .1 .1 .1),
+              (stepped-place _ (leavesOf (s .args .splits .now) (s .args .w / 4) (s .args .h / 4) (l .i)) _ _ (l .inv .2)) (s .pre .1 .1 .1),
         ),
       ),
     )
@@ -59,29 +59,27 @@ loop-again : tie.Need-loop-again Inv-loop μ-loop
 loop-again c =
     let s = c .before .before .before .before .before .before .before .before .before .before .before .before .before .before .before .before .before .before .before .before .before .before .before .before .before .before .before .before .before .before .before .before in
     let l = c .before .before .before .before .before .before .before .before .before .before .before .before .before .before .before .before .before .before .before .before .before .loop in
-    let d = c .before .before .before .before .before .before .before .before .before .before .before .before .before .before .before .before .before .before .root-leaves .ensures in
-    let k = c .before .before .before .before .before .before .before .before .before .before .draw-leaves .kept in (
+    let d = c .before .before .before .before .before .before .before .before .before .before .before .before .before .before .before .before .before .before .root-leaves .ensures in (
       omega (arith, c .before .before .before .before .before .before .before .before .before .before .before .before .before .before .before .before .before .before .before .before .loop-test .taken),
-      k .1 .1 .1 .1 .1 .1 .1 .1 .1 .1 .1 .1 .0 ∙ l .inv .1,
-      k .1 .1 .1 .1 .1 .1 .1 .1 .1 .1 .1 .1 .1 .0 ∙ l .inv .2,
-      k .1 .1 .1 .1 .1 .1 .1 .1 .1 .1 .1 .1 .1 .1 .0 ∙ l .inv .3,
-      k .1 .1 .1 .1 .1 .1 .1 .1 .1 .1 .1 .1 .1 .1 .1 .0 ∙ l .inv .4,
-      k .1 .1 .1 .1 .1 .1 .1 .1 .1 .1 .1 .1 .1 .1 .1 .1 .0 ∙ l .inv .5,
       d .blocks .long,
-      roots-more _ (s .args .splits .now) (s .args .w / 4) (s .args .h / 4) (l .i) _ _ _ _ _ (d .same) (l .inv .7) (c .before .before .before .before .before .before .before .before .before .before .draw-leaves .ensures),
-      omega (arith, l .inv .8, d .blocks .few),
+      roots-more _ (s .args .splits .now) (s .args .w / 4) (s .args .h / 4) (l .i) _ _ _ _ _ (d .same) (l .inv .2) (c .before .before .before .before .before .before .before .before .before .before .draw-leaves .ensures),
+      omega (arith, l .inv .3, d .blocks .few),
     )
+
+-- at the end
+lengths : (c : tie.After-loop Inv-loop μ-loop) → let s = c .before .before .before .before .before .before .before .before .before .before .before .before in let l = c .before .loop in Kept (stateOf (s .args .y .now) (s .args .u .now) (s .args .v .now) (s .args .map-scu .now) (s .args .modes .now) 0 0) (stateOf (l .y) (l .u) (l .v) (l .map-scu) (l .modes) (l .at) (l .k))
+lengths c = kept _ _ _ (c .before .before .before .before .before .before .before .before .before .before .before .before .pre .1 .0) (c .before .loop .inv .2 .asked)
 
 returns : tie.Need-returns Inv-loop μ-loop
 returns c =
     let s = c .before .before .before .before .before .before .before .before .before .before .before .before in
     let l = c .before .loop in
     let e : l .i ≡ roots (s .args .w / 4) (s .args .h / 4) = omega (arith, l .inv .0, c .loop-test .left, roots-units (size s)) in
-    rw (← e) (ended (l .inv .7 .same))
+    rw (← e) (ended (l .inv .2 .same))
 
 pub draw-picture-spec : {M : Type 1} → statement M
 draw-picture-spec =
     tie.close
     (tie.spec Inv-loop μ-loop (λ c. omega (arith, size (c .before .before .before .before .before .before .before .before .before .before) .wide)) (λ c. omega (arith, size (c .before .before .before .before .before .before .before .before .before .before) .high)) (λ c. omega (arith, few (c .before .before .before .before .before .before .before .before .before .before))) loop-holds (λ c. search needs) root-leaves-requires (λ c. search needs) draw-leaves-requires
-    (λ c. omega (arith, c .before .before .before .before .before .before .before .before .before .before .before .before .before .before .before .before .before .before .before .before .before .loop .inv .8, c .before .before .before .before .before .before .before .before .before .before .before .before .before .before .before .before .before .before .before .before .before .loop .inv .0, c .before .before .before .before .before .before .before .before .before .before .before .before .before .before .before .before .before .before .root-leaves .ensures .blocks .few, few (c .before .before .before .before .before .before .before .before .before .before .before .before .before .before .before .before .before .before .before .before .before .before .before .before .before .before .before .before .before .before .before .before))) (λ c. omega (arith, c .before .before .before .before .before .before .before .before .before .before .before .before .before .before .before .before .before .before .before .before .loop-test .taken, few (c .before .before .before .before .before .before .before .before .before .before .before .before .before .before .before .before .before .before .before .before .before .before .before .before .before .before .before .before .before .before .before .before))) (λ c. omega (arith, c .before .before .before .before .before .before .before .before .before .before .before .before .before .before .before .before .before .before .before .before .loop-test .taken)) loop-again
-    (λ c. c .before .loop .inv .1) (λ c. c .before .loop .inv .2) (λ c. c .before .loop .inv .3) (λ c. c .before .loop .inv .4) (λ c. c .before .loop .inv .5) returns)
+    (λ c. omega (arith, c .before .before .before .before .before .before .before .before .before .before .before .before .before .before .before .before .before .before .before .before .before .loop .inv .3, c .before .before .before .before .before .before .before .before .before .before .before .before .before .before .before .before .before .before .before .before .before .loop .inv .0, c .before .before .before .before .before .before .before .before .before .before .before .before .before .before .before .before .before .before .root-leaves .ensures .blocks .few, few (c .before .before .before .before .before .before .before .before .before .before .before .before .before .before .before .before .before .before .before .before .before .before .before .before .before .before .before .before .before .before .before .before))) (λ c. omega (arith, c .before .before .before .before .before .before .before .before .before .before .before .before .before .before .before .before .before .before .before .before .loop-test .taken, few (c .before .before .before .before .before .before .before .before .before .before .before .before .before .before .before .before .before .before .before .before .before .before .before .before .before .before .before .before .before .before .before .before))) (λ c. omega (arith, c .before .before .before .before .before .before .before .before .before .before .before .before .before .before .before .before .before .before .before .before .loop-test .taken)) loop-again
+    (λ c. lengths c .y-kept) (λ c. lengths c .u-kept) (λ c. lengths c .v-kept) (λ c. lengths c .words-kept) (λ c. lengths c .modes-kept) returns)

@@ -7,25 +7,25 @@ use Rattle.driver.proofs.walk.leaf_planes.Statement.{statement}
 use Rattle.driver.proofs.walk.leaf_planes.Tie as tie
 
 -- where the first component ends, and the second
-first-end : (c : tie.After-component) → let a = c .before .before .before .before .before .before .before .before .before .before .args in c .component .result ≡ startU (a .at) (a .mask) (a .side)
+first-end : (c : tie.After-component) → let a = c .before .before .before .before .before .before .before .before .before .before .before .before .args in c .component .result ≡ startU (a .at) (a .said .mask) (a .leaf .side)
 first-end c = c .component .ensures .1 ∙ rw (c .before .before .coded-y .ensures)
 
-second-end : (c : tie.After-component2) → let a = c .before .before .before .before .before .before .before .before .before .before .before .before .before .before .before .args in c .component2 .result ≡ startV (a .at) (a .mask) (a .side)
+second-end : (c : tie.After-component2) → let a = c .before .before .before .before .before .before .before .before .before .before .before .before .before .before .before .before .before .args in c .component2 .result ≡ startV (a .at) (a .said .mask) (a .leaf .side)
 second-end c = c .component2 .ensures .1 ∙ rw (first-end (c .before .before .before .before .before), c .before .before .coded-u .ensures)
 
 component-requires : tie.Need-component-requires
 component-requires c κs =
-    let s = c .before .before .before .before .before .before .before .before .before in
+    let s = c .before .before .before .before .before .before .before .before .before .before .before in
     (s .pre .0 .y-asked, s .pre .0 .given .lent-y, rw (c .before .coded-y .ensures) (omega (arith, s .pre .1)))
 
 component-requires-2 : tie.Need-component-requires-2
 component-requires-2 c κs =
-    let s = c .before .before .before .before .before .before .before .before .before .before .before .before .before .before in
+    let s = c .before .before .before .before .before .before .before .before .before .before .before .before .before .before .before .before in
     (s .pre .0 .u-asked, s .pre .0 .given .lent-u, rw (c .before .coded-u .ensures, first-end (c .before .before .before .before)) (omega (arith, s .pre .1)))
 
 component-requires-3 : tie.Need-component-requires-3
 component-requires-3 c κs =
-    let s = c .before .before .before .before .before .before .before .before .before .before .before .before .before .before .before .before .before .before .before in
+    let s = c .before .before .before .before .before .before .before .before .before .before .before .before .before .before .before .before .before .before .before .before .before in
     (s .pre .0 .v-asked, s .pre .0 .given .lent-v, rw (c .before .coded-v .ensures, second-end (c .before .before .before .before)) (s .pre .1))
 
 returns : tie.Need-returns
