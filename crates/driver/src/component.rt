@@ -167,7 +167,7 @@ fn prediction(
     copy_lent(block, lent, pred);
 }
 
-// Into the plane, with the residual where coded. The call does not refuse.
+// Into the plane, with the residual where coded. The prediction lies at the start of `room`. The call does not refuse.
 fn draw_from(
     block: Block,
     kind: u8,
@@ -176,13 +176,14 @@ fn draw_from(
     coef: &[i16],
     map_scu: &[u32],
     plane: &mut [u16],
-    pred: &mut [u16],
+    room: &mut [u16],
 )
-    requires { ⌜ BlockAsked (aroundBlock block (now plane) (now «map_scu»)) × LentTo block (now lent) ⌝ }
-    requires { ⌜ (length (now pred) ≡ sampleCount (block .component) (block .side)) × (length (now coef) ≡ sampleCount (block .component) (block .side)) ⌝ }
+    requires { ⌜ BlockAsked (aroundBlock block (now plane) (now «map_scu»)) × LentTo block (now lent) × (length (now coef) ≡ sampleCount (block .component) (block .side)) × (length (now coef) ≤ length (now room)) ⌝ }
     ensures { λ _. ⌜ now (plane .exit) ≡ planeOf (aroundBlock block (now (plane .entry)) (now («map_scu» .entry))) kind (now (lent .entry)) coded (now (coef .entry)) ⌝ }
 {
     let component = block.component;
+    let long = coef.len();
+    let pred = &mut room[0..long];
     prediction(block, kind, lent, &*plane, map_scu, &mut *pred);
     recon::recon_plane(
         component,
@@ -198,7 +199,7 @@ fn draw_from(
     );
 }
 
-// The prediction lies in an array of its own. A function for each length, so that no other array is cleared.
+// The room is an array of its own. A function for each length, so that no other array is cleared.
 fn draw_least(
     block: Block,
     kind: u8,
@@ -208,22 +209,11 @@ fn draw_least(
     map_scu: &[u32],
     plane: &mut [u16],
 )
-    requires { ⌜ BlockAsked (aroundBlock block (now plane) (now «map_scu»)) × LentTo block (now lent) × (length (now coef) ≡ sampleCount (block .component) (block .side)) ⌝ }
-    requires { ⌜ length (now coef) ≤ 16 ⌝ }
+    requires { ⌜ BlockAsked (aroundBlock block (now plane) (now «map_scu»)) × LentTo block (now lent) × (length (now coef) ≡ sampleCount (block .component) (block .side)) × (length (now coef) ≤ 16) ⌝ }
     ensures { λ _. ⌜ now (plane .exit) ≡ planeOf (aroundBlock block (now (plane .entry)) (now («map_scu» .entry))) kind (now (lent .entry)) coded (now (coef .entry)) ⌝ }
 {
-    let long = coef.len();
-    let mut pred = blank_least();
-    draw_from(
-        block,
-        kind,
-        coded,
-        lent,
-        coef,
-        map_scu,
-        plane,
-        &mut pred[0..long],
-    );
+    let mut room = blank_least();
+    draw_from(block, kind, coded, lent, coef, map_scu, plane, &mut room);
 }
 
 fn draw_small(
@@ -235,22 +225,11 @@ fn draw_small(
     map_scu: &[u32],
     plane: &mut [u16],
 )
-    requires { ⌜ BlockAsked (aroundBlock block (now plane) (now «map_scu»)) × LentTo block (now lent) × (length (now coef) ≡ sampleCount (block .component) (block .side)) ⌝ }
-    requires { ⌜ length (now coef) ≤ 256 ⌝ }
+    requires { ⌜ BlockAsked (aroundBlock block (now plane) (now «map_scu»)) × LentTo block (now lent) × (length (now coef) ≡ sampleCount (block .component) (block .side)) × (length (now coef) ≤ 256) ⌝ }
     ensures { λ _. ⌜ now (plane .exit) ≡ planeOf (aroundBlock block (now (plane .entry)) (now («map_scu» .entry))) kind (now (lent .entry)) coded (now (coef .entry)) ⌝ }
 {
-    let long = coef.len();
-    let mut pred = blank_small();
-    draw_from(
-        block,
-        kind,
-        coded,
-        lent,
-        coef,
-        map_scu,
-        plane,
-        &mut pred[0..long],
-    );
+    let mut room = blank_small();
+    draw_from(block, kind, coded, lent, coef, map_scu, plane, &mut room);
 }
 
 fn draw_large(
@@ -262,22 +241,11 @@ fn draw_large(
     map_scu: &[u32],
     plane: &mut [u16],
 )
-    requires { ⌜ BlockAsked (aroundBlock block (now plane) (now «map_scu»)) × LentTo block (now lent) × (length (now coef) ≡ sampleCount (block .component) (block .side)) ⌝ }
-    requires { ⌜ length (now coef) ≤ 4096 ⌝ }
+    requires { ⌜ BlockAsked (aroundBlock block (now plane) (now «map_scu»)) × LentTo block (now lent) × (length (now coef) ≡ sampleCount (block .component) (block .side)) × (length (now coef) ≤ 4096) ⌝ }
     ensures { λ _. ⌜ now (plane .exit) ≡ planeOf (aroundBlock block (now (plane .entry)) (now («map_scu» .entry))) kind (now (lent .entry)) coded (now (coef .entry)) ⌝ }
 {
-    let long = coef.len();
-    let mut pred = blank_pred();
-    draw_from(
-        block,
-        kind,
-        coded,
-        lent,
-        coef,
-        map_scu,
-        plane,
-        &mut pred[0..long],
-    );
+    let mut room = blank_pred();
+    draw_from(block, kind, coded, lent, coef, map_scu, plane, &mut room);
 }
 
 // In the smallest array that holds the prediction.

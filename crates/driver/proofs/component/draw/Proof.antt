@@ -8,7 +8,7 @@ use Rattle.driver.proofs.component.draw.Tie as tie
 draw-large-requires : tie.Need-draw-large-requires
 draw-large-requires c κs =
     let s = c .before .before .before .before .before .before in
-    (s .pre, omega (arith, s .pre .2, samples-few (s .args .block .component) _ _ _ _ _ (s .pre .0 .block)))
+    (s .pre .0, s .pre .1, s .pre .2, omega (arith, s .pre .2, samples-few (s .args .block .component) _ _ _ _ _ (s .pre .0 .block)))
 
 pub draw-spec : {M : Type 1} → statement M
 draw-spec =

@@ -6,9 +6,10 @@ use Rattle.driver.proofs.component.draw_from.Tie as tie
 
 returns : tie.Need-returns
 returns c =
-    let s = c .before .before .before .before .before .before .before .before .before .before .before .before .before .before in
-    drawn-from _ (s .pre .0 .0) _ (s .pre .0 .1) (s .args .kind) _ _ _ _ _ (s .pre .1 .1) (c .before .before .before .before .before .before .before .prediction .ensures) (c .before .before .recon-plane .ensures)
+    let s = c .before .before .before .before .before .before .before .before .before .before .before .before .before .before .before .before .before in
+    drawn-from _ (s .pre .0) _ (s .pre .1) (s .args .kind) _ _ _ _ _ (s .pre .2) (c .before .before .before .before .before .before .before .before .before .prediction .ensures) (c .before .before .before .before .recon-plane .ensures)
 
 pub draw-from-spec : {M : Type 1} → statement M
 draw-from-spec =
-    tie.close (tie.spec (λ c κs. search needs) (λ c κs. search needs) (λ c. search needs) (λ c. search needs) returns)
+    tie.close
+    (tie.spec (λ c. search needs) (λ c. search needs) (λ c. search needs) (λ c κs. search needs) (λ c κs. search needs) (λ c. search needs) (λ c. search needs) returns)
