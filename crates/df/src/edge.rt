@@ -1,7 +1,7 @@
 // One unit's edge: its strength row, its strength in each plane, and its windows; and the edges of a block's side.
 // The Rust beside it: df.rs, evc_get_tbl_qp_to_st and the loops of evc_deblock_cu_hor and evc_deblock_cu_ver.
 ghost use mathlib.Core.Path.{_≡_};
-ghost use Prim.Native.Nat.{ℕ, _+_, _-_, _*_, _/_, _%_, _≤_, _<_};
+ghost use Prim.Native.Nat.{_+_, _-_, _*_, _/_, _≤_, _<_};
 ghost use lib.ListN.{length, getD};
 ghost use mathlib.Core.List.{[], _∷_};
 ghost use mathlib.Core.Bool.{true};
@@ -176,8 +176,16 @@ fn edge(
     unit(y, u, v, luma, chroma, st);
 }
 
-// The edges of n units, from `along` on.
-fn edges(
+// The edges of a block's side: those of n units, where `go` holds; the first lies at `across` and `along`.
+pub(crate) struct Side {
+    pub(crate) go: bool,
+    pub(crate) across: Pel,
+    pub(crate) along: Pel,
+    pub(crate) n: usize,
+}
+
+// The edges of a side, one after the other. The answer is the count, with these counted.
+pub(crate) fn edges(
     pass: Pass,
     size: Size,
     y: &mut [u16],
@@ -187,19 +195,20 @@ fn edges(
     motion: &[i16],
     refs: &[i8],
     entries: &[u8],
-    across: Pel,
-    along: Pel,
-    n: usize,
-)
+    side: Side,
+    count: usize,
+) -> usize
     requires { ⌜ Frame (size .columns) (size .rows) (now y) (now u) (now v) (now words) (now motion) (now refs) (now entries) ⌝ }
-    requires { ⌜ AtUnits (passOf pass) (size .columns) (size .rows) (across .0) (along .0) n ⌝ }
-    ensures { λ _. ⌜ (record { y = now (y .exit); u = now (u .exit); v = now (v .exit) }) ≡ filterAll
-        (record { words = now (words .entry); motion = now (motion .entry); refs = now (refs .entry) })
-        (now (entries .entry)) (passOf pass) (size .columns) (stretch (passOf pass) (across .0 / 4) (along .0 / 4) n)
-        (record { y = now (y .entry); u = now (u .entry); v = now (v .entry) }) ⌝ }
+    requires { ⌜ (side .go ≡ true → AtUnits (passOf pass) (size .columns) (size .rows) (side .across .0) (side .along .0) (side .n)) × (side .n ≤ 16) × (count ≤ 1099511627776) ⌝ }
+    ensures { λ r. ⌜ Gone (record { words = now (words .entry); motion = now (motion .entry); refs = now (refs .entry) }) (now (entries .entry))
+        (passOf pass) (size .columns) (pick (side .go) (stretch (passOf pass) (side .across .0 / 4) (side .along .0 / 4) (side .n)) []) 16 count
+        (record { y = now (y .entry); u = now (u .entry); v = now (v .entry) }) (record { y = now (y .exit); u = now (u .exit); v = now (v .exit) }) r ⌝ }
 {
-    let from = along.0;
-    for k in 0..n {
+    let from = side.along.0;
+    let go = side.go;
+    let n = side.n;
+    let mut k = 0;
+    while go & (k < n) {
         edge(
             pass,
             size,
@@ -210,51 +219,10 @@ fn edges(
             motion,
             refs,
             entries,
-            across,
+            side.across,
             Pel(from + 4 * k),
         );
+        k += 1;
     }
-}
-
-// Those edges where `go` holds. The answer is the count, with these counted.
-pub(crate) fn edges_if(
-    go: bool,
-    pass: Pass,
-    size: Size,
-    y: &mut [u16],
-    u: &mut [u16],
-    v: &mut [u16],
-    words: &[u32],
-    motion: &[i16],
-    refs: &[i8],
-    entries: &[u8],
-    across: Pel,
-    along: Pel,
-    n: usize,
-    count: usize,
-) -> usize
-    requires { ⌜ Frame (size .columns) (size .rows) (now y) (now u) (now v) (now words) (now motion) (now refs) (now entries) ⌝ }
-    requires { ⌜ (go ≡ true → AtUnits (passOf pass) (size .columns) (size .rows) (across .0) (along .0) n) × (n ≤ 16) × (count ≤ 1099511627776) ⌝ }
-    ensures { λ r. ⌜ Gone (record { words = now (words .entry); motion = now (motion .entry); refs = now (refs .entry) }) (now (entries .entry))
-        (passOf pass) (size .columns) (pick go (stretch (passOf pass) (across .0 / 4) (along .0 / 4) n) []) 16 count
-        (record { y = now (y .entry); u = now (u .entry); v = now (v .entry) }) (record { y = now (y .exit); u = now (u .exit); v = now (v .exit) }) r ⌝ }
-{
-    if go {
-        edges(
-            pass,
-            size,
-            y,
-            u,
-            v,
-            words,
-            motion,
-            refs,
-            entries,
-            across,
-            along,
-            n,
-        );
-        return count + n;
-    }
-    count
+    count + k
 }

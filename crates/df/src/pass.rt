@@ -1,22 +1,24 @@
 // The passes: done bits, the edges of a leaf or half, of a root, of the picture.
 // The Rust beside it: df.rs, evc_deblock_cu_ver, evc_deblock_cu_hor, evc_deblock_tree, evc_deblock.
 ghost use mathlib.Core.Path.{_≡_};
-ghost use Prim.Native.Nat.{ℕ, _+_, _-_, _*_, _/_, _%_, _≤_, _<_};
-ghost use lib.ListN.{length, getD};
-ghost use mathlib.Core.List.{[], _∷_};
+ghost use mathlib.Core.Bool.{_&&_};
+ghost use Prim.Native.Nat.{_+_, _-_, _*_, _/_, _%_, _≤_, _<_};
+ghost use lib.Dec.{eqb};
+ghost use lib.ListN.{length};
 ghost use Rattle.laws.specs.Index.{pick};
-ghost use Rattle.split.specs.Edges.{vertical, horizontal, visit, halves, visitOf, visits, stretch};
+ghost use Rattle.split.specs.Edges.{visitOf, visits};
 ghost use Rattle.split.specs.Walk.{leaf};
 ghost use Rattle.df_rules.specs.Frame.{Frame, Gone};
-ghost use Rattle.df.specs.Edges.{passOf};
+ghost use Rattle.df.specs.Edges.{passOf, visitAt, BlockAt, Sided, PartOf};
 ghost use Rattle.laws.specs.Orders.{each};
 ghost use Rattle.def.specs.Picture.{rootCount};
 ghost use Rattle.split.specs.Stored.{leavesFrom};
 ghost use Rattle.df_rules.specs.Leaves.{Leaves, Accepted, Rooted};
-ghost use Rattle.df_rules.specs.Visit.{cleared, doneRow, marked, Fits, leftDone, thereDone, visitEdges, Side, Block, halfWide, halfTall, Visited};
+ghost use Rattle.df_rules.specs.Visit.{cleared, doneRow, marked, Fits, leftDone, thereDone, visitEdges, firstEdges, secondEdges, Block, halfWide, halfTall, Visited};
 use crate::edge::Pass;
+use crate::edge::Side;
 use crate::edge::Size;
-use crate::edge::edges_if;
+use crate::edge::edges;
 use def::Pel;
 use def::Scu;
 use def::clr_cod;
@@ -24,6 +26,14 @@ use def::get_cod;
 use def::pel2scu;
 use def::set_cod;
 use split::Walked;
+
+// A leaf, or half of one: its first luma sample and its sides.
+struct Cu {
+    x: Pel,
+    z: Pel,
+    wide: usize,
+    tall: usize,
+}
 
 // ---- done bits
 
@@ -47,14 +57,15 @@ fn mark_row(words: &mut [u32], at: usize, n: usize)
     }
 }
 
-// Sets done in the units of a block of n columns and `rows` rows of units at (x, y).
-fn mark(words: &mut [u32], columns: usize, x: Scu, y: Scu, n: usize, rows: usize)
-    requires { ⌜ Fits columns (length (now words)) (visit (x .0) (y .0) n rows) ⌝ }
-    ensures { λ _. ⌜ now (words .exit) ≡ marked columns (visit (x .0) (y .0) n rows) (now (words .entry)) ⌝ }
+// Sets done in the units of a leaf, or half of one.
+fn mark(words: &mut [u32], columns: usize, cu: Cu)
+    requires { ⌜ Fits columns (length (now words)) (visitAt cu) ⌝ }
+    ensures { λ _. ⌜ now (words .exit) ≡ marked columns (visitAt cu) (now (words .entry)) ⌝ }
 {
-    let u = x.0;
-    let v = y.0;
-    for j in 0..rows {
+    let u = pel2scu(cu.x).0;
+    let v = pel2scu(cu.z).0;
+    let n = cu.wide / 4;
+    for j in 0..cu.tall / 4 {
         mark_row(&mut *words, (v + j) * columns + u, n);
     }
 }
@@ -86,182 +97,53 @@ fn left_done(words: &[u32], columns: usize, x: Scu, y: Scu) -> bool
 
 // ---- the edges of a leaf, or half of one
 
-// The edge of n units left of the one at (x, y), if that unit is there and done.
-fn left_edge(
-    size: Size,
-    y: &mut [u16],
-    u: &mut [u16],
-    v: &mut [u16],
-    words: &[u32],
-    motion: &[i16],
-    refs: &[i8],
-    entries: &[u8],
-    x: Pel,
-    z: Pel,
-    n: usize,
-    count: usize,
-) -> usize
-    requires { ⌜ Frame (size .columns) (size .rows) (now y) (now u) (now v) (now words) (now motion) (now refs) (now entries) ⌝ }
-    requires { ⌜ Side (size .columns) (size .rows) (x .0) (z .0) n × (x .0 < 4 * size .columns) × (count ≤ 1099511627776) ⌝ }
-    ensures { λ r. ⌜ Gone (record { words = now (words .entry); motion = now (motion .entry); refs = now (refs .entry) }) (now (entries .entry))
-        vertical (size .columns) (pick (leftDone (size .columns) (now (words .entry)) (x .0 / 4) (z .0 / 4)) (stretch vertical (x .0 / 4) (z .0 / 4) n) []) 16 count
-        (record { y = now (y .entry); u = now (u .entry); v = now (v .entry) }) (record { y = now (y .exit); u = now (u .exit); v = now (v .exit) }) r ⌝ }
+// Its first side: the left, if the unit beyond it is there and done; in the horizontal pass the top, if it is not the picture's.
+fn first_side(pass: Pass, size: Size, words: &[u32], cu: Cu) -> Side
+    requires { ⌜ BlockAt (size .columns) (size .rows) cu × (length (now words) ≡ size .rows * size .columns) ⌝ }
+    ensures { λ r. ⌜ Sided (passOf pass) (size .columns) (size .rows) (firstEdges (passOf pass) (size .columns) (now (words .entry)) (visitAt cu)) r ⌝ }
 {
-    let columns = size.columns;
-    let go = left_done(words, columns, pel2scu(x), pel2scu(z));
-    edges_if(
-        go,
-        Pass::Vertical,
-        size,
-        y,
-        u,
-        v,
-        words,
-        motion,
-        refs,
-        entries,
-        x,
-        z,
-        n,
-        count,
-    )
+    let x = cu.x;
+    let z = cu.z;
+    match pass {
+        Pass::Vertical => Side {
+            go: left_done(words, size.columns, pel2scu(x), pel2scu(z)),
+            across: x,
+            along: z,
+            n: cu.tall / 4,
+        },
+        Pass::Horizontal => Side {
+            go: 0 < pel2scu(z).0,
+            across: z,
+            along: x,
+            n: cu.wide / 4,
+        },
+    }
 }
 
-// The edge of n units left of the one at (x, y), if that one is there and done: the right edge of the block before it.
-fn right_edge(
-    size: Size,
-    y: &mut [u16],
-    u: &mut [u16],
-    v: &mut [u16],
-    words: &[u32],
-    motion: &[i16],
-    refs: &[i8],
-    entries: &[u8],
-    x: Pel,
-    z: Pel,
-    n: usize,
-    count: usize,
-) -> usize
-    requires { ⌜ Frame (size .columns) (size .rows) (now y) (now u) (now v) (now words) (now motion) (now refs) (now entries) ⌝ }
-    requires { ⌜ Side (size .columns) (size .rows) (x .0) (z .0) n × (4 ≤ x .0) × (count ≤ 1099511627776) ⌝ }
-    ensures { λ r. ⌜ Gone (record { words = now (words .entry); motion = now (motion .entry); refs = now (refs .entry) }) (now (entries .entry))
-        vertical (size .columns) (pick (thereDone (size .columns) (now (words .entry)) (x .0 / 4) (z .0 / 4)) (stretch vertical (x .0 / 4) (z .0 / 4) n) []) 16 count
-        (record { y = now (y .entry); u = now (u .entry); v = now (v .entry) }) (record { y = now (y .exit); u = now (u .exit); v = now (v .exit) }) r ⌝ }
+// Its second: the right, if the unit beyond it is there and done. The horizontal pass has none.
+fn second_side(pass: Pass, size: Size, words: &[u32], cu: Cu) -> Side
+    requires { ⌜ BlockAt (size .columns) (size .rows) cu × (length (now words) ≡ size .rows * size .columns) × (size .columns ≤ 1024) ⌝ }
+    ensures { λ r. ⌜ Sided (passOf pass) (size .columns) (size .rows) (secondEdges (passOf pass) (size .columns) (now (words .entry)) (visitAt cu)) r ⌝ }
 {
-    let columns = size.columns;
-    let go = there_done(words, columns, pel2scu(x), pel2scu(z));
-    edges_if(
-        go,
-        Pass::Vertical,
-        size,
-        y,
-        u,
-        v,
-        words,
-        motion,
-        refs,
-        entries,
-        x,
-        z,
-        n,
-        count,
-    )
+    let x = Pel(cu.x.0 + cu.wide);
+    let z = cu.z;
+    match pass {
+        Pass::Vertical => Side {
+            go: there_done(words, size.columns, pel2scu(x), pel2scu(z)),
+            across: x,
+            along: z,
+            n: cu.tall / 4,
+        },
+        Pass::Horizontal => Side {
+            go: false,
+            across: x,
+            along: z,
+            n: 0,
+        },
+    }
 }
 
-// evc_deblock_cu_ver, its edges: left, then right, each if the unit beyond it is done.
-fn edges_ver(
-    size: Size,
-    y: &mut [u16],
-    u: &mut [u16],
-    v: &mut [u16],
-    words: &[u32],
-    motion: &[i16],
-    refs: &[i8],
-    entries: &[u8],
-    x: Pel,
-    z: Pel,
-    wide: usize,
-    tall: usize,
-    count: usize,
-) -> usize
-    requires { ⌜ Frame (size .columns) (size .rows) (now y) (now u) (now v) (now words) (now motion) (now refs) (now entries) ⌝ }
-    requires { ⌜ Block (size .columns) (size .rows) (x .0) (z .0) wide tall × (count ≤ 549755813888) ⌝ }
-    ensures { λ r. ⌜ Gone (record { words = now (words .entry); motion = now (motion .entry); refs = now (refs .entry) }) (now (entries .entry))
-        vertical (size .columns) (visitEdges vertical (size .columns) (now (words .entry)) (visit (x .0 / 4) (z .0 / 4) (wide / 4) (tall / 4))) 32 count
-        (record { y = now (y .entry); u = now (u .entry); v = now (v .entry) }) (record { y = now (y .exit); u = now (u .exit); v = now (v .exit) }) r ⌝ }
-{
-    let n = left_edge(
-        size,
-        &mut *y,
-        &mut *u,
-        &mut *v,
-        words,
-        motion,
-        refs,
-        entries,
-        x,
-        z,
-        tall / 4,
-        count,
-    );
-    right_edge(
-        size,
-        &mut *y,
-        &mut *u,
-        &mut *v,
-        words,
-        motion,
-        refs,
-        entries,
-        Pel(x.0 + wide),
-        z,
-        tall / 4,
-        n,
-    )
-}
-
-// evc_deblock_cu_hor, its edge: the top, if it is not the picture's.
-fn edges_hor(
-    size: Size,
-    y: &mut [u16],
-    u: &mut [u16],
-    v: &mut [u16],
-    words: &[u32],
-    motion: &[i16],
-    refs: &[i8],
-    entries: &[u8],
-    x: Pel,
-    z: Pel,
-    wide: usize,
-    tall: usize,
-    count: usize,
-) -> usize
-    requires { ⌜ Frame (size .columns) (size .rows) (now y) (now u) (now v) (now words) (now motion) (now refs) (now entries) ⌝ }
-    requires { ⌜ Block (size .columns) (size .rows) (x .0) (z .0) wide tall × (count ≤ 549755813888) ⌝ }
-    ensures { λ r. ⌜ Gone (record { words = now (words .entry); motion = now (motion .entry); refs = now (refs .entry) }) (now (entries .entry))
-        horizontal (size .columns) (visitEdges horizontal (size .columns) (now (words .entry)) (visit (x .0 / 4) (z .0 / 4) (wide / 4) (tall / 4))) 32 count
-        (record { y = now (y .entry); u = now (u .entry); v = now (v .entry) }) (record { y = now (y .exit); u = now (u .exit); v = now (v .exit) }) r ⌝ }
-{
-    let go = 0 < pel2scu(z).0;
-    edges_if(
-        go,
-        Pass::Horizontal,
-        size,
-        y,
-        u,
-        v,
-        words,
-        motion,
-        refs,
-        entries,
-        z,
-        x,
-        wide / 4,
-        count,
-    )
-}
-
-// The edges of a leaf, or half of one, in either pass.
+// evc_deblock_cu_ver, evc_deblock_cu_hor, their edges: one side, then the other. The answer is the count, with these counted.
 fn edges_cu(
     pass: Pass,
     size: Size,
@@ -272,108 +154,58 @@ fn edges_cu(
     motion: &[i16],
     refs: &[i8],
     entries: &[u8],
-    x: Pel,
-    z: Pel,
-    wide: usize,
-    tall: usize,
+    cu: Cu,
     count: usize,
 ) -> usize
     requires { ⌜ Frame (size .columns) (size .rows) (now y) (now u) (now v) (now words) (now motion) (now refs) (now entries) ⌝ }
-    requires { ⌜ Block (size .columns) (size .rows) (x .0) (z .0) wide tall × (count ≤ 549755813888) ⌝ }
+    requires { ⌜ BlockAt (size .columns) (size .rows) cu × (count ≤ 549755813888) ⌝ }
     ensures { λ r. ⌜ Gone (record { words = now (words .entry); motion = now (motion .entry); refs = now (refs .entry) }) (now (entries .entry))
-        (passOf pass) (size .columns) (visitEdges (passOf pass) (size .columns) (now (words .entry)) (visit (x .0 / 4) (z .0 / 4) (wide / 4) (tall / 4))) 32 count
+        (passOf pass) (size .columns) (visitEdges (passOf pass) (size .columns) (now (words .entry)) (visitAt cu)) 32 count
         (record { y = now (y .entry); u = now (u .entry); v = now (v .entry) }) (record { y = now (y .exit); u = now (u .exit); v = now (v .exit) }) r ⌝ }
 {
-    match pass {
-        Pass::Vertical => edges_ver(
-            size,
-            y,
-            u,
-            v,
-            words,
-            motion,
-            refs,
-            entries,
-            x,
-            z,
-            wide,
-            tall,
-            count,
-        ),
-        Pass::Horizontal => edges_hor(
-            size,
-            y,
-            u,
-            v,
-            words,
-            motion,
-            refs,
-            entries,
-            x,
-            z,
-            wide,
-            tall,
-            count,
-        ),
-    }
-}
-
-// ---- a visit
-
-// evc_deblock_cu_ver, evc_deblock_cu_hor: the edges of a leaf, or half of one; then it is done. The answer is the count, with these counted.
-fn deblock_cu(
-    pass: Pass,
-    size: Size,
-    y: &mut [u16],
-    u: &mut [u16],
-    v: &mut [u16],
-    words: &mut [u32],
-    motion: &[i16],
-    refs: &[i8],
-    entries: &[u8],
-    x: Pel,
-    z: Pel,
-    wide: usize,
-    tall: usize,
-    count: usize,
-) -> usize
-    requires { ⌜ Frame (size .columns) (size .rows) (now y) (now u) (now v) (now words) (now motion) (now refs) (now entries) ⌝ }
-    requires { ⌜ Block (size .columns) (size .rows) (x .0) (z .0) wide tall × (count ≤ 549755813888) ⌝ }
-    ensures { λ r. ⌜ Visited (now (motion .entry)) (now (refs .entry)) (now (entries .entry)) (passOf pass) (size .columns) (visit (x .0 / 4) (z .0 / 4) (wide / 4) (tall / 4) ∷ []) 32
-        (record { planes = record { y = now (y .entry); u = now (u .entry); v = now (v .entry) }; words = now (words .entry); count = count })
-        (record { planes = record { y = now (y .exit); u = now (u .exit); v = now (v .exit) }; words = now (words .exit); count = r }) ⌝ }
-{
-    let columns = size.columns;
-    let n = edges_cu(
+    let first = first_side(pass, size, words, cu);
+    let second = second_side(pass, size, words, cu);
+    let n = edges(
         pass,
         size,
         &mut *y,
         &mut *u,
         &mut *v,
-        &*words,
+        words,
         motion,
         refs,
         entries,
-        x,
-        z,
-        wide,
-        tall,
+        first,
         count,
     );
-    mark(
-        &mut *words,
-        columns,
-        pel2scu(x),
-        pel2scu(z),
-        wide / 4,
-        tall / 4,
-    );
-    n
+    edges(
+        pass,
+        size,
+        &mut *y,
+        &mut *u,
+        &mut *v,
+        words,
+        motion,
+        refs,
+        entries,
+        second,
+        n,
+    )
 }
 
 // ---- a leaf
 
-// The sides of a half of a leaf of 64: the halves stand side by side in the vertical pass, stacked in the horizontal.
+// With limit 5 a leaf of 64 is two halves.
+fn parts(short: bool, side: usize) -> usize
+    ensures { λ r. ⌜ r ≡ pick (short && eqb side 64) 2 1 ⌝ }
+{
+    if short & (side == 64) {
+        return 2;
+    }
+    1
+}
+
+// The sides of a half: the halves stand side by side in the vertical pass, stacked in the horizontal.
 fn half_wide(pass: Pass) -> usize
     ensures { λ r. ⌜ r ≡ 4 * halfWide (passOf pass) ⌝ }
 {
@@ -392,66 +224,30 @@ fn half_tall(pass: Pass) -> usize
     }
 }
 
-// Two halves, the second where the first ends.
-fn deblock_halves(
-    pass: Pass,
-    size: Size,
-    y: &mut [u16],
-    u: &mut [u16],
-    v: &mut [u16],
-    words: &mut [u32],
-    motion: &[i16],
-    refs: &[i8],
-    entries: &[u8],
-    x: Pel,
-    z: Pel,
-    count: usize,
-) -> usize
-    requires { ⌜ Frame (size .columns) (size .rows) (now y) (now u) (now v) (now words) (now motion) (now refs) (now entries) ⌝ }
-    requires { ⌜ Block (size .columns) (size .rows) (x .0) (z .0) 64 64 × (count ≤ 274877906944) ⌝ }
-    ensures { λ r. ⌜ Visited (now (motion .entry)) (now (refs .entry)) (now (entries .entry)) (passOf pass) (size .columns) (halves (passOf pass) (x .0 / 4) (z .0 / 4)) 64
-        (record { planes = record { y = now (y .entry); u = now (u .entry); v = now (v .entry) }; words = now (words .entry); count = count })
-        (record { planes = record { y = now (y .exit); u = now (u .exit); v = now (v .exit) }; words = now (words .exit); count = r }) ⌝ }
+// Half i of the leaf, the second where the first ends; or the leaf.
+fn cu_at(pass: Pass, short: bool, x: Pel, z: Pel, side: usize, i: usize) -> Cu
+    requires { ⌜ (x .0 ≤ 4096) × (z .0 ≤ 4096) × (i ≤ 1) ⌝ }
+    ensures { λ r. ⌜ PartOf (passOf pass) short (x .0) (z .0) side i r ⌝ }
 {
-    let wide = half_wide(pass);
-    let tall = half_tall(pass);
-    let n = deblock_cu(
-        pass,
-        size,
-        &mut *y,
-        &mut *u,
-        &mut *v,
-        &mut *words,
-        motion,
-        refs,
-        entries,
+    if short & (side == 64) {
+        let wide = half_wide(pass);
+        let tall = half_tall(pass);
+        return Cu {
+            x: Pel(x.0 + i * (64 - wide)),
+            z: Pel(z.0 + i * (64 - tall)),
+            wide,
+            tall,
+        };
+    }
+    Cu {
         x,
         z,
-        wide,
-        tall,
-        count,
-    );
-    let px = Pel(x.0 + (64 - wide));
-    let pz = Pel(z.0 + (64 - tall));
-    deblock_cu(
-        pass,
-        size,
-        &mut *y,
-        &mut *u,
-        &mut *v,
-        &mut *words,
-        motion,
-        refs,
-        entries,
-        px,
-        pz,
-        wide,
-        tall,
-        n,
-    )
+        wide: side,
+        tall: side,
+    }
 }
 
-// evc_deblock_tree at a leaf: with limit 5 a leaf of 64 is two halves.
+// evc_deblock_tree at a leaf: the edges of each of its parts; then the part is done.
 fn deblock_leaf(
     pass: Pass,
     short: bool,
@@ -474,38 +270,25 @@ fn deblock_leaf(
         (record { planes = record { y = now (y .entry); u = now (u .entry); v = now (v .entry) }; words = now (words .entry); count = count })
         (record { planes = record { y = now (y .exit); u = now (u .exit); v = now (v .exit) }; words = now (words .exit); count = r }) ⌝ }
 {
-    if short & (side == 64) {
-        return deblock_halves(
+    let mut total = count;
+    for i in 0..parts(short, side) {
+        let cu = cu_at(pass, short, x, z, side, i);
+        total = edges_cu(
             pass,
             size,
-            y,
-            u,
-            v,
-            words,
+            &mut *y,
+            &mut *u,
+            &mut *v,
+            &*words,
             motion,
             refs,
             entries,
-            x,
-            z,
-            count,
+            cu,
+            total,
         );
+        mark(&mut *words, size.columns, cu);
     }
-    deblock_cu(
-        pass,
-        size,
-        y,
-        u,
-        v,
-        words,
-        motion,
-        refs,
-        entries,
-        x,
-        z,
-        side,
-        side,
-        count,
-    )
+    total
 }
 
 // ---- a root

@@ -1,11 +1,13 @@
 -- A unit's edge in the picture: its units lie in the maps and its windows in the planes; edges filtered one after another, and counted.
 -- Assumes nothing.
-use Prim.Native.Nat.{ℕ, zero, suc, _+_, _-_, _*_, _/_, _%_, _≤_, _<_}
-use mathlib.Core.Path.{_≡_, refl, sym, ap, _∙_, subst, transport}
-use mathlib.Core.Bool.{Bool, true, false}
+use Prim.Native.Nat.{ℕ, zero, suc, _+_, _-_, _*_, _/_, _≤_, _<_}
+use mathlib.Core.Path.{_≡_, refl, sym, ap, _∙_, subst}
+use mathlib.Core.Bool.{Bool, true, false, _&&_}
 use mathlib.Core.List.{List, [], _∷_, _++_}
 use native.Mathlib.Nat.{mul-le-mul-left, mul-le-mul-right, mul-one, add-mul, mul-suc, add-zero, suc-add}
 use native.Mathlib.Omega.{arith}
+use borrow.Author.Tests.{ltb-false}
+use lib.Dec.{ltb}
 use lib.IntN.{ℤ}
 use lib.ListN.{length, length-append}
 use Rattle.laws.specs.Index.{pick}
@@ -144,13 +146,17 @@ stretch-long d c a (suc n) = ap suc (stretch-long d c (suc a) n)
 
 -- ---- the edges of a side, where there is one to filter
 
-module _ (m : Maps) (t : List ℕ) (d : Pass) (w c a n count : ℕ) (p q : Planes) (few : n ≤ 16) where
-  pub went : (go : Bool) → go ≡ true → q ≡ filterAll m t d w (stretch d c a n) p → Gone m t d w (pick go (stretch d c a n) []) 16 count p q (count + n)
-  went go e g = rw e (record { planes = g; counted = ap (λ (k : ℕ). count + k) (sym (stretch-long d c a n)); few = omega arith })
-
-pub stayed : (m : Maps) (t : List ℕ) (d : Pass) (w c a n count : ℕ) (p : Planes) (go : Bool) → go ≡ false → Gone m t d w (pick go (stretch d c a n) []) 16 count p p count
-unfolding run
-stayed m t d w c a n count p go e = rw e (record { planes = refl; counted = sym (add-zero count); few = omega arith })
+-- a loop that stopped after k of n
+pub side-gone : (m : Maps) (t : List ℕ) (d : Pass) (w c a n k count : ℕ) (p q : Planes) (go : Bool) → n ≤ 16 → k ≤ n → (go ≡ false → k ≡ 0) → (go && ltb k n) ≡ false
+    → q ≡ filterAll m t d w (stretch d c a k) p → Gone m t d w (pick go (stretch d c a n) []) 16 count p q (count + k)
+unfolding stretch
+side-gone m t d w c a n k count p q true few h z e g =
+    let l = ltb-false k n e in
+    let f : k ≡ n = omega arith in
+    rw (← f) (record { planes = g; counted = ap (λ (j : ℕ). count + j) (sym (stretch-long d c a k)); few = omega arith })
+side-gone m t d w c a n k count p q false few h z e g =
+    let f = z refl in
+    record { planes = rw f at g; counted = omega arith; few = omega arith }
 
 -- one list after another
 pub gone-then : (m : Maps) (t : List ℕ) (d : Pass) (w : ℕ) (k l : List Edge) (count : ℕ) (p q s : Planes) (r r₁ : ℕ)
@@ -164,6 +170,3 @@ gone-then m t d w k l count p q s r r₁ g h = record {
 -- the same of an equal list
 pub gone-as : {m : Maps} {t : List ℕ} {d : Pass} {w : ℕ} {k l : List Edge} {most count : ℕ} {p q : Planes} {r : ℕ} → Gone m t d w k most count p q r → k ≡ l → Gone m t d w l most count p q r
 gone-as {m} {t} {d} {w} {most = most} {count} {p} {q} {r} g e = subst (λ (j : List Edge). Gone m t d w j most count p q r) e g
-
-pub gone-few : {m : Maps} {t : List ℕ} {d : Pass} {w : ℕ} {l : List Edge} {count : ℕ} {p q : Planes} {r : ℕ} → Gone m t d w l 16 count p q r → Gone m t d w l 32 count p q r
-gone-few g = record { planes = g .planes; counted = g .counted; few = omega (arith, g .few) }

@@ -1,17 +1,17 @@
 -- Laws of the units that a visit marks.
 -- Assumes nothing.
-use Prim.Native.Nat.{ℕ, _+_, _-_, _*_, _/_, _%_, _≤_, _<_}
+use Prim.Native.Nat.{ℕ, zero, suc, _+_, _-_, _*_, _/_, _%_, _≤_, _<_}
 use mathlib.Core.Path.{_≡_, refl, sym, ap, _∙_, subst}
 use mathlib.Core.Bool.{Bool, true, false, _&&_}
-use mathlib.Core.List.{List, [], _∷_, _++_}
+use mathlib.Core.List.{List, [], _∷_, _++_, append-nil}
 use native.Mathlib.Decide.{decLt}
 use native.Mathlib.Nat.{mul-le-mul-right}
 use native.Mathlib.Omega.{arith}
 use borrow.Author.Tests.{le-ltb, lt-ltb, ltb-true, eqb-true, eqb-false, eq-eqb, ne-eqb}
-use lib.Arith.{digits-div, digits-mod}
+use lib.Arith.{digits-div}
 use lib.Dec.{ltb, eqb}
 use lib.IntN.{ℤ}
-use lib.ListN.{length, getD}
+use lib.ListN.{length, getD, take}
 use lib.Seq.{ext-getD}
 use Rattle.def.specs.Word.{doneOf, withDone}
 use Rattle.laws.specs.Index.{pick}
@@ -19,13 +19,13 @@ use Rattle.laws.specs.Orders.{run}
 use Rattle.laws.proofs.Orders.{run-append}
 use Rattle.laws.specs.Plane.{within, withRow, withBlock}
 use Rattle.laws.proofs.Flat.{flat-below}
-use Rattle.laws.proofs.Planes.{within-yes, within-low, within-high, length-row, length-block, getD-row, getD-block, block-none, block-more}
+use Rattle.laws.proofs.Planes.{within-yes, within-low, within-high, length-row, getD-row, getD-block, block-more}
 use Rattle.split.specs.Edges.{Pass, Visit, visit, vertical, horizontal, halves, visitOf}
 use Rattle.split.specs.Walk.{leaf}
 use Rattle.split.proofs.Sides.{and-true}
 use Rattle.df_rules.specs.Frame.{AtUnits, Gone}
 use Rattle.df_rules.specs.Filter.{Planes}
-use Rattle.df_rules.specs.Visit.{doneRow, marked, thereDone, leftDone, Fits, Side, Block, visitEdges, State, visited, visitedAll, halfWide, halfTall, Visited}
+use Rattle.df_rules.specs.Visit.{doneRow, marked, thereDone, leftDone, Fits, Block, visitEdges, firstEdges, secondEdges, State, visited, visitedAll, halfWide, halfTall, Visited}
 
 -- ---- a block marked row by row
 
@@ -86,25 +86,25 @@ left-in w x y l e = let t = and-true (ltb 0 x) _ e in (ltb-true 0 x (t .0), ther
 
 -- ---- where a visit's edges lie
 
--- the side's first row of units lies in the map
-pub side-row : (w h x y n len v : ℕ) → Side w h x y n → len ≡ h * w → v ≡ y / 4 → (v + 1) * w ≤ len
-side-row w h x y n len v s e q = rw e (mul-le-mul-right w (omega (arith, s .some, s .bottom)))
+-- its first row of units lies in the map
+pub block-row : (w h x y wide tall len v : ℕ) → Block w h x y wide tall → len ≡ h * w → v ≡ y / 4 → (v + 1) * w ≤ len
+block-row w h x y wide tall len v b e q = rw e (mul-le-mul-right w (omega (arith, b .some-tall, b .bottom)))
 
-pub left-units : (w h x y n : ℕ) (l : List ℕ) → Side w h x y n → x < 4 * w → leftDone w l (x / 4) (y / 4) ≡ true → AtUnits vertical w h x y n
-left-units w h x y n l s r t =
+pub left-units : (w h x y wide tall : ℕ) (l : List ℕ) → Block w h x y wide tall → leftDone w l (x / 4) (y / 4) ≡ true → AtUnits vertical w h x y (tall / 4)
+left-units w h x y wide tall l b t =
     let i = left-in w (x / 4) (y / 4) l t in
     let i₀ = i .0 in
     record {
-      first = record { whole-c = s .whole-x; whole-a = s .whole-y; inner = omega (arith, s .whole-x); across = r; along = omega (arith, s .some, s .bottom) };
-      last = s .bottom;
+      first = record { whole-c = b .whole-x; whole-a = b .whole-y; inner = omega (arith, b .whole-x); across = omega (arith, b .some-wide, b .right); along = omega (arith, b .some-tall, b .bottom) };
+      last = omega (arith, b .bottom, b .whole-tall);
     }
 
-pub right-units : (w h x y n : ℕ) (l : List ℕ) → Side w h x y n → 4 ≤ x → thereDone w l (x / 4) (y / 4) ≡ true → AtUnits vertical w h x y n
-right-units w h x y n l s r t =
-    let i = there-in w (x / 4) (y / 4) l t in
+pub right-units : (w h x y wide tall : ℕ) (l : List ℕ) → Block w h x y wide tall → thereDone w l ((x + wide) / 4) (y / 4) ≡ true → AtUnits vertical w h (x + wide) y (tall / 4)
+right-units w h x y wide tall l b t =
+    let i = there-in w ((x + wide) / 4) (y / 4) l t in
     record {
-      first = record { whole-c = s .whole-x; whole-a = s .whole-y; inner = r; across = omega (arith, s .whole-x); along = omega (arith, s .some, s .bottom) };
-      last = s .bottom;
+      first = record { whole-c = omega (arith, b .whole-x, b .whole-wide); whole-a = b .whole-y; inner = omega (arith, b .some-wide); across = omega (arith, b .whole-x, b .whole-wide); along = omega (arith, b .some-tall, b .bottom) };
+      last = omega (arith, b .bottom, b .whole-tall);
     }
 
 pub top-units : (w h x y wide tall : ℕ) → Block w h x y wide tall → ltb 0 (y / 4) ≡ true → AtUnits horizontal w h y x (wide / 4)
@@ -115,13 +115,10 @@ top-units w h x y wide tall b t =
       last = omega (arith, b .right, b .whole-wide);
     }
 
-pub left-side : (w h x y wide tall : ℕ) → Block w h x y wide tall → Side w h x y (tall / 4)
-left-side w h x y wide tall b =
-    record { whole-x = b .whole-x; whole-y = b .whole-y; few = omega (arith, b .few-tall); some = omega (arith, b .some-tall); bottom = omega (arith, b .bottom, b .whole-tall) }
-
-pub right-side : (w h x y wide tall : ℕ) → Block w h x y wide tall → Side w h (x + wide) y (tall / 4)
-right-side w h x y wide tall b =
-    record { whole-x = omega (arith, b .whole-x, b .whole-wide); whole-y = b .whole-y; few = omega (arith, b .few-tall); some = omega (arith, b .some-tall); bottom = omega (arith, b .bottom, b .whole-tall) }
+-- both sides
+pub two-sides : (d : Pass) (w : ℕ) (l : List ℕ) (p : Visit) → firstEdges d w l p ++ secondEdges d w l p ≡ visitEdges d w l p
+two-sides vertical w l p = refl
+two-sides horizontal w l p = append-nil _
 
 -- the block's units lie in the map; u and v are where its first one stands
 pub block-fits : (w h x y wide tall n u v : ℕ) → Block w h x y wide tall → n ≡ h * w → u ≡ x / 4 → v ≡ y / 4 → Fits w n (visit u v (wide / 4) (tall / 4))
@@ -168,26 +165,32 @@ half-few vertical wide tall (e, f) = (omega arith, omega arith)
 half-few horizontal wide tall (e, f) = (omega arith, omega arith)
 
 module _ (w h x y wide tall : ℕ) (b : Block w h x y 64 64) where
-  pub first-half : (d : Pass) → Half d wide tall → Block w h x y wide tall
-  first-half vertical (e, f) = rw (e, f) (record { whole-x = b .whole-x; whole-y = b .whole-y; whole-wide = refl; whole-tall = refl; some-wide = omega arith; some-tall = omega arith; few-wide = omega arith; few-tall = omega arith; right = omega (arith, b .right); bottom = omega (arith, b .bottom) })
-  first-half horizontal (e, f) = rw (e, f) (record { whole-x = b .whole-x; whole-y = b .whole-y; whole-wide = refl; whole-tall = refl; some-wide = omega arith; some-tall = omega arith; few-wide = omega arith; few-tall = omega arith; right = omega (arith, b .right); bottom = omega (arith, b .bottom) })
+  -- half i, the second where the first ends
+  half-block : (i : ℕ) → i ≤ 1 → (d : Pass) → Half d wide tall → Block w h (x + i * (64 - wide)) (y + i * (64 - tall)) wide tall
+  half-block i l vertical (e, f) = rw (e, f) (record { whole-x = omega (arith, b .whole-x); whole-y = omega (arith, b .whole-y); whole-wide = refl; whole-tall = refl; some-wide = omega arith; some-tall = omega arith; few-wide = omega arith; few-tall = omega arith; right = omega (arith, b .right); bottom = omega (arith, b .bottom) })
+  half-block i l horizontal (e, f) = rw (e, f) (record { whole-x = omega (arith, b .whole-x); whole-y = omega (arith, b .whole-y); whole-wide = refl; whole-tall = refl; some-wide = omega arith; some-tall = omega arith; few-wide = omega arith; few-tall = omega arith; right = omega (arith, b .right); bottom = omega (arith, b .bottom) })
 
-  pub second-half : (d : Pass) → Half d wide tall → Block w h (x + (64 - wide)) (y + (64 - tall)) wide tall
-  second-half vertical (e, f) = rw (e, f) (record { whole-x = omega (arith, b .whole-x); whole-y = omega (arith, b .whole-y); whole-wide = refl; whole-tall = refl; some-wide = omega arith; some-tall = omega arith; few-wide = omega arith; few-tall = omega arith; right = omega (arith, b .right); bottom = omega (arith, b .bottom) })
-  second-half horizontal (e, f) = rw (e, f) (record { whole-x = omega (arith, b .whole-x); whole-y = omega (arith, b .whole-y); whole-wide = refl; whole-tall = refl; some-wide = omega arith; some-tall = omega arith; few-wide = omega arith; few-tall = omega arith; right = omega (arith, b .right); bottom = omega (arith, b .bottom) })
+  half-next : (i : ℕ) → i ≤ 1 → (d : Pass) → Half d wide tall
+      → take (i + 1) (halves d (x / 4) (y / 4)) ≡ take i (halves d (x / 4) (y / 4)) ++ (visit ((x + i * (64 - wide)) / 4) ((y + i * (64 - tall)) / 4) (wide / 4) (tall / 4) ∷ [])
+  half-next zero l vertical (e, f) =
+      let p : x / 4 ≡ (x + 0 * 32) / 4 = omega arith in
+      let q : y / 4 ≡ (y + 0 * 0) / 4 = omega arith in
+      rw (e, f) (λ j. visit (p j) (q j) 8 16 ∷ [])
+  half-next zero l horizontal (e, f) =
+      let p : x / 4 ≡ (x + 0 * 0) / 4 = omega arith in
+      let q : y / 4 ≡ (y + 0 * 32) / 4 = omega arith in
+      rw (e, f) (λ j. visit (p j) (q j) 16 8 ∷ [])
+  half-next (suc zero) l vertical (e, f) =
+      let p : x / 4 + 8 ≡ (x + 1 * 32) / 4 = omega arith in
+      let q : y / 4 ≡ (y + 1 * 0) / 4 = omega arith in
+      rw (e, f) (λ j. visit (x / 4) (y / 4) 8 16 ∷ visit (p j) (q j) 8 16 ∷ [])
+  half-next (suc zero) l horizontal (e, f) =
+      let p : x / 4 ≡ (x + 1 * 0) / 4 = omega arith in
+      let q : y / 4 + 8 ≡ (y + 1 * 32) / 4 = omega arith in
+      rw (e, f) (λ j. visit (x / 4) (y / 4) 16 8 ∷ visit (p j) (q j) 16 8 ∷ [])
+  half-next (suc (suc i)) l d g = absurd (omega arith)
 
-  -- one where the other ends
-  pub two-halves : (d : Pass) → Half d wide tall → visit (x / 4) (y / 4) (wide / 4) (tall / 4) ∷ visit ((x + (64 - wide)) / 4) ((y + (64 - tall)) / 4) (wide / 4) (tall / 4) ∷ [] ≡ halves d (x / 4) (y / 4)
-  two-halves vertical (e, f) =
-      let p : (x + 32) / 4 ≡ x / 4 + 8 = omega arith in
-      let q : (y + 0) / 4 ≡ y / 4 = omega arith in
-      rw (e, f) (λ i. visit (x / 4) (y / 4) 8 16 ∷ visit (p i) (q i) 8 16 ∷ [])
-  two-halves horizontal (e, f) =
-      let p : (x + 0) / 4 ≡ x / 4 = omega arith in
-      let q : (y + 32) / 4 ≡ y / 4 + 8 = omega arith in
-      rw (e, f) (λ i. visit (x / 4) (y / 4) 16 8 ∷ visit (p i) (q i) 16 8 ∷ [])
-
-pub cut-leaf : (d : Pass) (short : Bool) (x y side : ℕ) → (short && eqb side 64) ≡ true → halves d x y ≡ visitOf d short (leaf x y (side / 4))
+cut-leaf : (d : Pass) (short : Bool) (x y side : ℕ) → (short && eqb side 64) ≡ true → halves d x y ≡ visitOf d short (leaf x y (side / 4))
 unfolding visitOf
 cut-leaf d short x y side e =
     let t = and-true short (eqb side 64) e in
@@ -201,6 +204,34 @@ same-side side e = go (eqb side 64) refl where
   go true q = let p = eqb-true side 64 q in eq-eqb (side / 4) 16 (omega arith)
   go false q = ne-eqb (side / 4) 16 (λ r. eqb-false side 64 q (omega arith))
 
-pub whole-leaf : (d : Pass) (short : Bool) (x y side : ℕ) → side % 4 ≡ 0 → (short && eqb side 64) ≡ false → visit x y (side / 4) (side / 4) ∷ [] ≡ visitOf d short (leaf x y (side / 4))
+whole-leaf : (d : Pass) (short : Bool) (x y side : ℕ) → side % 4 ≡ 0 → (short && eqb side 64) ≡ false → visit x y (side / 4) (side / 4) ∷ [] ≡ visitOf d short (leaf x y (side / 4))
 unfolding visitOf
 whole-leaf d short x y side m e = rw (ap (λ (b : Bool). short && b) (same-side side m) ∙ e)
+
+-- the parts of a leaf, one after the other
+module _ (d : Pass) (short : Bool) (x y side : ℕ) where
+  abbrev all : List Visit
+  all = visitOf d short (leaf (x / 4) (y / 4) (side / 4))
+
+  cut-side : (short && eqb side 64) ≡ true → (w h : ℕ) → Block w h x y side side → Block w h x y 64 64
+  cut-side e w h b = subst (λ (n : ℕ). Block w h x y n n) (eqb-true side 64 (and-true short (eqb side 64) e .1)) b
+
+  pub cut-block : (short && eqb side 64) ≡ true → (w h wide tall i : ℕ) → i ≤ 1 → Half d wide tall → Block w h x y side side → Block w h (x + i * (64 - wide)) (y + i * (64 - tall)) wide tall
+  cut-block e w h wide tall i l g b = half-block w h x y wide tall (cut-side e w h b) i l d g
+
+  pub cut-next : (short && eqb side 64) ≡ true → (w h wide tall i : ℕ) → i ≤ 1 → Half d wide tall → Block w h x y side side
+      → take (i + 1) all ≡ take i all ++ (visit ((x + i * (64 - wide)) / 4) ((y + i * (64 - tall)) / 4) (wide / 4) (tall / 4) ∷ [])
+  cut-next e w h wide tall i l g b =
+      subst (λ (k : List Visit). take (i + 1) k ≡ take i k ++ (visit ((x + i * (64 - wide)) / 4) ((y + i * (64 - tall)) / 4) (wide / 4) (tall / 4) ∷ [])) (cut-leaf d short (x / 4) (y / 4) side e)
+      (half-next w h x y wide tall (cut-side e w h b) i l d g)
+
+  pub whole-next : (short && eqb side 64) ≡ false → side % 4 ≡ 0 → (i : ℕ) → i ≡ 0 → take (i + 1) all ≡ take i all ++ (visit (x / 4) (y / 4) (side / 4) (side / 4) ∷ [])
+  whole-next e m i z = rw z (ap (take 1) (sym (whole-leaf d short (x / 4) (y / 4) side m e)))
+
+  pub all-parts : side % 4 ≡ 0 → take (pick (short && eqb side 64) 2 1) all ≡ all
+  unfolding visitOf
+  all-parts m = rw (ap (λ (b : Bool). short && b) (same-side side m)) (go d (short && eqb side 64)) where
+    go : (d₁ : Pass) (b : Bool) → take (pick b 2 1) (pick b (halves d₁ (x / 4) (y / 4)) (visit (x / 4) (y / 4) (side / 4) (side / 4) ∷ [])) ≡ pick b (halves d₁ (x / 4) (y / 4)) (visit (x / 4) (y / 4) (side / 4) (side / 4) ∷ [])
+    go vertical true = refl
+    go horizontal true = refl
+    go d₁ false = refl

@@ -1,9 +1,9 @@
 -- What a pass does at a visit, as the code does it: by the done bits of the words as they are. w is the picture's width in units.
 -- Assumes nothing: these are definitions.
-use Prim.Native.Nat.{ℕ, _+_, _-_, _*_, _/_, _%_, _≤_, _<_}
+use Prim.Native.Nat.{ℕ, _+_, _-_, _*_, _%_, _≤_, _<_}
 use mathlib.Core.Bool.{Bool, _&&_}
 use mathlib.Core.Path.{_≡_}
-use mathlib.Core.List.{List, [], _∷_, _++_}
+use mathlib.Core.List.{List, [], _++_}
 use lib.Dec.{ltb}
 use lib.IntN.{ℤ}
 use lib.ListN.{length, getD}
@@ -11,7 +11,7 @@ use Rattle.def.specs.Word.{doneOf, withDone, withoutDone}
 use Rattle.laws.specs.Index.{pick, tabulate}
 use Rattle.laws.specs.Orders.{run}
 use Rattle.laws.specs.Plane.{withRow, withBlock}
-use Rattle.split.specs.Edges.{Pass, vertical, horizontal, Edge, Visit, visit}
+use Rattle.split.specs.Edges.{Pass, vertical, horizontal, Edge, Visit}
 use Rattle.split.specs.Passes.{leftEdge, rightEdge, topEdge}
 use Rattle.df_rules.specs.Filter.{Planes, filterAll}
 
@@ -41,6 +41,15 @@ abbrev pub visitEdges : Pass → (w : ℕ) (words : List ℕ) → Visit → List
 visitEdges vertical w l p =
     pick (leftDone w l (p .x) (p .y)) (leftEdge p) [] ++ pick (thereDone w l (p .x + p .wide) (p .y)) (rightEdge p) []
 visitEdges horizontal w l p = pick (ltb 0 (p .y)) (topEdge p) []
+
+-- those of its first side, and of its second
+abbrev pub firstEdges : Pass → (w : ℕ) (words : List ℕ) → Visit → List Edge
+firstEdges vertical w l p = pick (leftDone w l (p .x) (p .y)) (leftEdge p) []
+firstEdges horizontal w l p = pick (ltb 0 (p .y)) (topEdge p) []
+
+abbrev pub secondEdges : Pass → (w : ℕ) (words : List ℕ) → Visit → List Edge
+secondEdges vertical w l p = pick (thereDone w l (p .x + p .wide) (p .y)) (rightEdge p) []
+secondEdges horizontal w l p = []
 
 -- the planes, the words and the edges counted so far
 pub record State : Type 0 where
@@ -80,14 +89,6 @@ pub record Block (w h x y wide tall : ℕ) : Type 0 where
   pub few-tall : tall ≤ 64
   pub right : x + wide ≤ 4 * w
   pub bottom : y + tall ≤ 4 * h
-
--- n units down from the luma sample (x, y)
-pub record Side (w h x y n : ℕ) : Type 0 where
-  pub whole-x : x % 4 ≡ 0
-  pub whole-y : y % 4 ≡ 0
-  pub few : n ≤ 16
-  pub some : 1 ≤ n
-  pub bottom : y + 4 * n ≤ 4 * h
 
 -- what the functions of visits leave: the state after them, and no more edges than these
 pub record Visited (motion refs : List ℤ) (entries : List ℕ) (d : Pass) (w : ℕ) (l : List Visit) (most : ℕ) (a b : State) : Type 0 where
