@@ -70,6 +70,21 @@ line-is a b c d st m h p q =
     ((ap (farOf (pos a) (pos d)) eC ∙ far-sg a d h) i))
     ∙ moved-sg a b c d s (ltb a d) h (min (gapN a d / 4) (h / 2))
 
+-- the line by the steps of the code: g is the gap of d, h its limit, f the gap of A and D, e its reach
+pub line-made : (a b c d st g h f e a′ b′ c′ d′ : ℕ) → g ≡ gapN (a + 4 * c) (4 * b + d) → h ≡ limitN (g / 8) st → f ≡ gapN a d → e ≡ min (f / 4) (h / 2)
+    → a′ ≡ movedN (not (ltb a d)) a e → b′ ≡ movedN (ltb (a + 4 * c) (4 * b + d)) b h → c′ ≡ movedN (not (ltb (a + 4 * c) (4 * b + d))) c h → d′ ≡ movedN (ltb a d) d e
+    → record { a = a′; b = b′; c = c′; d = d′ } ≡ lineOf a b c d st
+line-made a b c d st g h f e a′ b′ c′ d′ pg ph pf pe pa pb pc pd =
+    let s = ltb (a + 4 * c) (4 * b + d) in
+    let far : e ≡ min (gapN a d / 4) (h / 2) = pe ∙ ap (λ (n : ℕ). min (n / 4) (h / 2)) pf in
+    (λ i. record { a = pa i; b = pb i; c = pc i; d = pd i })
+    ∙ ap (movesN a b c d s (ltb a d) h) far
+    ∙ sym (line-is a b c d st (g / 8) h (ap (λ (n : ℕ). n / 8) pg) ph)
+
+-- an eighth of a gap is at most 65535
+pub eighth : (g : ℕ) → g ≤ 327675 → g / 8 ≤ 65535
+eighth g p = omega arith
+
 -- strength 0 leaves the samples as they are
 pub line-zero : (a b c d : ℕ) → a ≤ 1023 → b ≤ 1023 → c ≤ 1023 → d ≤ 1023 → lineOf a b c d 0 ≡ record { a = a; b = b; c = c; d = d }
 line-zero a b c d ha hb hc hd =
