@@ -307,6 +307,20 @@ fn gather_by(
     Answer::Done
 }
 
+// Room for the run of a block of up to 8 samples a side.
+fn small_room() -> [u16; 33]
+    ensures { λ r. ⌜ 33 ≡ length r ⌝ }
+{
+    [0u16; 33]
+}
+
+// Room for any run.
+fn own_room() -> [u16; 257]
+    ensures { λ r. ⌜ 257 ≡ length r ⌝ }
+{
+    [0u16; 257]
+}
+
 // The same, with an array of its own: a small one for a small block, where clearing it counts.
 fn gather(
     plane: &[u16],
@@ -322,10 +336,10 @@ fn gather(
 {
     let n = run.len();
     if n <= 33 {
-        let mut small = [0u16; 33];
+        let mut small = small_room();
         return gather_by(plane, map_scu, block, constrained, &mut small[0..n], run);
     }
-    let mut own = [0u16; 257];
+    let mut own = own_room();
     gather_by(plane, map_scu, block, constrained, &mut own[0..n], run)
 }
 
