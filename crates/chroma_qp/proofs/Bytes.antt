@@ -1,63 +1,13 @@
--- Signed bytes: those not below 0, and any of them with 128 added, as numbers without a sign; and a held entry as a byte.
+-- An entry, held as v, as a byte.
 -- Assumes nothing.
-use mathlib.Core.Path.{_≡_, refl, sym, ap, _∙_}
-use mathlib.Core.Bool.{Bool, true, not}
-use Prim.Native.Nat.{ℕ, suc, _+_, _-_, _≤_}
+use Prim.Native.Nat.{ℕ, _≤_}
 use native.Mathlib.Omega.{arith}
-use borrow.Author.Tests.{le-leb, le-ltb}
-use lib.Dec.{T}
-use lib.IntN.{ℤ, pos, negsuc, natAbs, _+ℤ_, _-ℤ_}
-use lib.Signed.{leZ, ltZ, nonNeg, mag}
-use mir.Syntax.{w8, w16}
-use mir.Val.{SFits, toZ, ofZ}
-use Rattle.laws.proofs.Differences.{diff-cases, diff-same, diff-none, diff-neg}
-use Rattle.laws.proofs.Widths.{sfits, back}
-use Rattle.chroma_qp.specs.Mapping.{qpAt}
-
--- ---- a byte that is not below 0
-
-pub record Plain (z : ℤ) : Type 0 where
-  pub some : T (nonNeg z)
-  pub is : z ≡ pos (natAbs z)
-  pub most : natAbs z ≤ 127
-
-pub plain : (z : ℤ) → SFits w8 z → leZ (pos 0) z ≡ true → Plain z
-plain (pos n) f e = record { some = tt; is = refl; most = omega (arith, f .sfits) }
-plain (negsuc n) f e = absurd (let h : _≡_ {A = ℕ} 0 1 = cc in omega arith)
-
--- the code's test of a byte's sign
-sign : (z : ℤ) → leZ (pos 0) z ≡ not (ltZ z (pos 0))
-sign (pos n) = le-leb 0 n (omega arith) ∙ ap not (sym (le-ltb n 0 (omega arith)))
-sign (negsuc n) = refl
-
-pub byte-sign : (z : ℤ) (t : Bool) → SFits w8 z → ltZ (toZ w8 (ofZ w8 z)) (pos 0) ≡ t → leZ (pos 0) z ≡ not t
-byte-sign z t f e = sign z ∙ ap not (ap (λ (x : ℤ). ltZ x (pos 0)) (sym (back w8 z f)) ∙ e)
-
--- ---- any byte, and 128 more
-
-pub record Raised (z : ℤ) : Type 0 where
-  pub some : T (nonNeg (z +ℤ pos 128))
-  pub is : z ≡ pos (natAbs (z +ℤ pos 128)) -ℤ pos 128
-  pub most : natAbs (z +ℤ pos 128) ≤ 255
-
-raised-by : (z w : ℤ) (k : ℕ) → z +ℤ pos 128 ≡ w → w ≡ pos k → z ≡ pos k -ℤ pos 128 → k ≤ 255 → Raised z
-raised-by z w k e f g h = record { some = rw (e ∙ f) tt; is = rw (e ∙ f) g; most = rw (e ∙ f) h }
-
-pub raised : (z : ℤ) → SFits w8 z → Raised z
-raised (pos n) f = raised-by (pos n) (pos (n + 128)) (n + 128) refl refl (diff-none n ∙ diff-same n 0 (n + 128) 128 (omega arith)) (omega (arith, f .sfits))
-raised (negsuc n) f =
-    raised-by (negsuc n) (pos 128 -ℤ pos (suc n)) (127 - n) refl
-    (diff-same 128 (suc n) (127 - n) 0 (omega (arith, f .sfits)) ∙ sym (diff-none (127 - n)))
-    (diff-neg (suc n) ∙ diff-same 0 (suc n) (127 - n) 128 (omega (arith, f .sfits)))
-    (omega arith)
-
-pub raised-fits : (z : ℤ) → SFits w8 z → SFits w16 (z +ℤ pos 128)
-raised-fits z f = sfits w16 255 (small (z +ℤ pos 128) (raised z f .some) (raised z f .most)) tt where
-  small : (w : ℤ) → T (nonNeg w) → natAbs w ≤ 255 → mag w ≤ 255
-  small (pos k) t h = h
-  small (negsuc k) t h = absurd t
-
--- ---- an entry, held as v
+use lib.Signed.{mag}
+use mir.Syntax.{w8}
+use mir.Val.{SFits}
+use Rattle.laws.proofs.Differences.{diff-cases}
+use Rattle.laws.proofs.Widths.{sfits}
+use Rattle.chroma_qp_check.specs.Pivots.{qpAt}
 
 pub entry-fits : (v : ℕ) → v ≤ 103 → SFits w8 (qpAt v)
 unfolding qpAt

@@ -5,8 +5,9 @@ use Prim.Native.Nat.{ℕ, zero, suc, _+_, _-_, _≤_, _<_, min, max}
 use native.Mathlib.Omega.{arith}
 use lib.IntN.{ℤ, pos, _+ℤ_, _-ℤ_}
 use Rattle.laws.proofs.Differences.{diff-same, diff-add, diff-sub, diff-clip}
+use Rattle.chroma_qp_check.specs.Pivots.{qpAt}
 use Rattle.chroma_qp.specs.Held.{heldBelow, heldPast}
-use Rattle.chroma_qp.specs.Mapping.{qpAt, clipQp, below, past}
+use Rattle.chroma_qp.specs.Mapping.{clipQp, below, past}
 
 -- 13 less than x, clipped
 clip-is : (x : ℕ) → clipQp (pos x -ℤ pos 13) ≡ qpAt (min (x - 1) 69)

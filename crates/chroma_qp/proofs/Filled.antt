@@ -14,7 +14,7 @@ use Rattle.laws.specs.Index.{tabulate}
 use Rattle.laws.specs.Plane.{withRow}
 use Rattle.laws.proofs.Planes.{Rowed, rowed-more, within-yes, within-low, length-row, getD-row}
 use Rattle.laws.proofs.Tabulate.{is-tabulate}
-use Rattle.chroma_qp.specs.Mapping.{qpAt}
+use Rattle.chroma_qp_check.specs.Pivots.{qpAt}
 
 -- l′ is l with what is held as x put at the next place, k
 pub row-more : (a : ℕ) (h : ℕ → ℕ) (l₀ l l′ : List ℤ) (c x k : ℕ) → a + c < length l₀ → k ≡ a + c → l′ ≡ set l k (qpAt x) → x ≡ h c → Rowed (pos 0) a (λ (k : ℕ). qpAt (h k)) l₀ l c → Rowed (pos 0) a (λ (k : ℕ). qpAt (h k)) l₀ l′ (c + 1)

@@ -16,13 +16,15 @@ use mir.Val.{SFits}
 use Rattle.laws.proofs.Calls.{all-at}
 use Rattle.laws.proofs.Differences.{diff-same, diff-none, diff-neg}
 use Rattle.laws.proofs.Tabulate.{getD-tabulate}
-use Rattle.chroma_qp.specs.Derived.{pointsOk, pivotTests, pivotOk, pivotsOk}
+use Rattle.chroma_qp_check.specs.Check.{pointsOk, pivotTests, pivotOk, pivotsOk}
+use Rattle.chroma_qp_check.specs.Pivots.{Points, aAt, qpAt, inOf, outOf}
+use Rattle.chroma_qp_check.proofs.Offsets.{qp-le}
+use Rattle.chroma_qp_check.proofs.Pivots.{in-next}
+use Rattle.chroma_qp_check.proofs.Points.{countable}
 use Rattle.chroma_qp.specs.Held.{heldBelow, heldBetween, heldPast}
-use Rattle.chroma_qp.specs.Mapping.{Points, aAt, qpAt, inOf, outOf, upTo, lastOf, mapped, tableOf}
+use Rattle.chroma_qp.specs.Mapping.{upTo, lastOf, mapped, tableOf}
 use Rattle.chroma_qp.proofs.Bytes.{entry-fits}
-use Rattle.chroma_qp.proofs.Offsets.{qp-le}
-use Rattle.chroma_qp.proofs.Pivots.{Reached, reached-first, reached-next, in-next, at-below, at-between, between-most, at-past}
-use Rattle.chroma_qp.proofs.Points.{countable}
+use Rattle.chroma_qp.proofs.Pivots.{Reached, reached-first, reached-next, at-below, at-between, between-most, at-past}
 use Rattle.chroma_qp.proofs.Tables.{passes}
 
 -- a number of -12..91

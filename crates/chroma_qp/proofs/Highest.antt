@@ -7,7 +7,8 @@ use mathlib.Core.List.{[], _∷_, _++_}
 use lib.IntN.{pos, negsuc}
 use lib.ListN.{replicate}
 use Rattle.laws.specs.Clip.{maxZ, minZ, clipZ}
-use Rattle.chroma_qp.specs.Mapping.{Points, startOf, inOf, outOf, clipQp, below, past, between, upTo, mapped}
+use Rattle.chroma_qp_check.specs.Pivots.{Points, startOf, inOf, outOf}
+use Rattle.chroma_qp.specs.Mapping.{clipQp, below, past, between, upTo, mapped}
 
 -- 34 parts that fall by 1 over two entries, each of which leaves the entry where it was, and a rise back to 57 over one
 abbrev pub steepest : Points

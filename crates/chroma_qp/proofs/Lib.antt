@@ -1,13 +1,10 @@
 pub mod Bytes
-pub mod Checks
 pub mod Clipped
 pub mod Highest
 pub mod Filled
 pub mod Fits
-pub mod Offsets
 pub mod Outcomes
 pub mod Parts
 pub mod Pivots
-pub mod Points
 pub mod Promises
 pub mod Tables

@@ -13,10 +13,12 @@ use Rattle.def.specs.declared.Refusal.{Refusal}
 use Rattle.def.specs.declared.Answer.{Answer}
 use Rattle.def.specs.declared.Answer.the-variants.{Done, Refused}
 use Rattle.def.proofs.Answers.{on-refusal, on-done}
-use Rattle.chroma_qp.specs.Derived.{Input, inputStart, check, refused, done, outcome}
+use Rattle.chroma_qp_check.specs.Check.{Input, inputStart, check}
+use Rattle.chroma_qp_check.specs.Pivots.{qpAt}
+use Rattle.chroma_qp_check.proofs.Checks.{Passed, passed, Long, long}
+use Rattle.chroma_qp.specs.Derived.{refused, done, outcome}
 use Rattle.chroma_qp.specs.Held.{Checked}
-use Rattle.chroma_qp.specs.Mapping.{qpAt, tableOf}
-use Rattle.chroma_qp.proofs.Checks.{Passed, passed, Long, long}
+use Rattle.chroma_qp.specs.Mapping.{tableOf}
 
 unused : (same b : Bool) → same ≡ false → (same || b) ≡ true → b ≡ true
 unused true b e f = cc

@@ -13,9 +13,10 @@ use native.Mathlib.Omega.{arith}
 use lib.IntN.{ℤ, pos, _+ℤ_, _-ℤ_, _*ℤ_}
 use lib.Signed.{quotZ}
 use Rattle.laws.proofs.Differences.{diff-same, diff-add, diff-mul, diff-quot, diff-none}
+use Rattle.chroma_qp_check.specs.Pivots.{qpAt}
+use Rattle.chroma_qp_check.proofs.Offsets.{qp-sub}
 use Rattle.chroma_qp.specs.Held.{heldBetween}
-use Rattle.chroma_qp.specs.Mapping.{qpAt, between}
-use Rattle.chroma_qp.proofs.Offsets.{qp-sub}
+use Rattle.chroma_qp.specs.Mapping.{between}
 
 -- x is no more than y and what is left of it
 split-mul : (x y m : ℕ) → x * m ≤ y * m + (x - y) * m

@@ -15,9 +15,10 @@ use Rattle.def.specs.Answers.{afterChecks}
 use Rattle.def.proofs.Answers.{number-some}
 use Rattle.def.specs.declared.Answer.{Answer}
 use Rattle.def.specs.declared.Answer.the-variants.{Done, Refused}
-use Rattle.chroma_qp.specs.Derived.{Input, Outcome, inputStart, inputLengthsOk, pointsOk, check, refused, done, outcome}
-use Rattle.chroma_qp.specs.Mapping.{Points}
-use Rattle.chroma_qp.proofs.Checks.{at-first-points, at-second-points, Passed, passed}
+use Rattle.chroma_qp_check.specs.Check.{Input, inputStart, inputLengthsOk, pointsOk, check}
+use Rattle.chroma_qp_check.specs.Pivots.{Points}
+use Rattle.chroma_qp_check.proofs.Checks.{at-first-points, at-second-points, Passed, passed}
+use Rattle.chroma_qp.specs.Derived.{Outcome, refused, done, outcome}
 use Rattle.chroma_qp.proofs.Fits.{Entry, values-fit}
 
 pub record Kept (i : Input) (o : Outcome) : Type 0 where

@@ -13,14 +13,16 @@ use lib.ListN.{length, getD}
 use lib.Signed.{leZ}
 use Rattle.laws.specs.Plane.{withRow}
 use Rattle.laws.proofs.Scans.{scan-at}
-use Rattle.chroma_qp.specs.Derived.{pivotOk, pivotsOk}
+use Rattle.chroma_qp_check.specs.Check.{pivotOk, pivotsOk}
+use Rattle.chroma_qp_check.specs.Pivots.{Points, aAt, bAt, qpAt}
+use Rattle.chroma_qp_check.proofs.Offsets.{qp-apart}
+use Rattle.chroma_qp_check.proofs.Pivots.{Held, held-first, held-next, Tested, tested}
+use Rattle.chroma_qp_check.proofs.Points.{countable}
 use Rattle.chroma_qp.specs.Held.{heldBelow, heldBetween, heldPast, Entry, Checked}
-use Rattle.chroma_qp.specs.Mapping.{Points, aAt, bAt, qpAt, lastOf, mapped, tableOf}
+use Rattle.chroma_qp.specs.Mapping.{lastOf, mapped, tableOf}
 use Rattle.chroma_qp.proofs.Filled.{row-last, Filled, filled-none, filled-row, filled-all}
-use Rattle.chroma_qp.proofs.Offsets.{qp-apart}
 use Rattle.chroma_qp.proofs.Parts.{entry-most}
-use Rattle.chroma_qp.proofs.Pivots.{Held, held-first, held-next, Tested, tested, Reached, reached-first, reached-next, at-below, at-between, at-past, settled}
-use Rattle.chroma_qp.proofs.Points.{countable}
+use Rattle.chroma_qp.proofs.Pivots.{Reached, reached-first, reached-next, at-below, at-between, at-past, settled}
 
 pub passes : (s : ℤ) (p : Points) → pivotsOk s p ≡ true → (j : ℕ) → j < p .count → pivotOk s p j ≡ true
 unfolding pivotsOk

@@ -4,9 +4,8 @@ use Prim.Native.Nat.{ℕ, _+_, _-_, _*_, _/_, _≤_, min}
 use mathlib.Core.Path.{_≡_}
 use mathlib.Core.Bool.{true}
 use lib.IntN.{ℤ}
-use lib.ListN.{length}
-use Rattle.chroma_qp.specs.Derived.{pointsOk, pivotsOk}
-use Rattle.chroma_qp.specs.Mapping.{Points, qpAt}
+use Rattle.chroma_qp_check.specs.Check.{pivotsOk, Counted}
+use Rattle.chroma_qp_check.specs.Pivots.{Points, qpAt}
 
 -- the entry at k, up to the first pivot's in, where its out stands
 unfoldable pub heldBelow : (qpIn qpOut k : ℕ) → ℕ
@@ -27,12 +26,6 @@ pub record Entry (z : ℤ) : Type 0 where
   pub most : v ≤ 103
 
 -- what has been checked of a table's points: their count and their a, and then their pivots
-pub record Counted (s : ℕ) (p : Points) : Type 0 where
-  pub start : s ≤ 28
-  pub a-long : length (p .a) ≡ 58
-  pub b-long : length (p .b) ≡ 58
-  pub points : pointsOk (p .count) (p .a) ≡ true
-
 pub record Checked (s : ℕ) (p : Points) : Type 0 where
   pub counted : Counted s p
   pub pivots : pivotsOk (qpAt s) p ≡ true

@@ -13,8 +13,9 @@ use Rattle.def.specs.Picture.{sizeOk}
 use Rattle.def.specs.Word.{flagAt}
 use Rattle.def.specs.declared.Component.the-variants.{Luma}
 use Rattle.samples.specs.Samples.{samplesOk}
+use Rattle.chroma_qp_check.specs.Check as points-check
+use Rattle.chroma_qp_check.specs.Pivots.{Points, inOf, outOf}
 use Rattle.chroma_qp.specs.Derived as derived
-use Rattle.chroma_qp.specs.Mapping.{Points, inOf, outOf}
 use Rattle.avail.specs.Around as around
 use Rattle.avail.specs.Calls as avail
 use Rattle.nbr.specs.Gather as gather
@@ -58,5 +59,5 @@ given =
     ∷ []
 
 pub accepted : given ≡ replicate 12 0
-unfolding derived.outcome derived.check derived.lengthsOk derived.pointsOk derived.pivotsOk derived.pivotOk inOf outOf avail.intraOutcome avail.interOutcome avail.checkOf ranks.numberOutcome ranks.check ranks.lengthsOk ranks.modesOk gather.outcome gather.checkOf gather.lengthsOk gather.samplesOk gather.runAt gather.nearAt predict.outcome predict.lengthsOk recon.outcome recon.blockCheck recon.lengthsOk plane.outcome plane.planeCheck plane.blockLengthsOk leaves.outcome leaves.checkOf leaves.lengthsOk leaves.rootOk check.outcome check.check rank.outcome rank.check list.outcome list.checkOf list.lengthsOk list.limitOk sizeOk blockOk blockSideOk componentSideOk unitOk samplesOk flagAt fieldOf allBelow walk byByte inTurn onward leafWalk
+unfolding derived.outcome points-check.check points-check.lengthsOk points-check.pointsOk points-check.pivotsOk points-check.pivotOk inOf outOf avail.intraOutcome avail.interOutcome avail.checkOf ranks.numberOutcome ranks.check ranks.lengthsOk ranks.modesOk gather.outcome gather.checkOf gather.lengthsOk gather.samplesOk gather.runAt gather.nearAt predict.outcome predict.lengthsOk recon.outcome recon.blockCheck recon.lengthsOk plane.outcome plane.planeCheck plane.blockLengthsOk leaves.outcome leaves.checkOf leaves.lengthsOk leaves.rootOk check.outcome check.check rank.outcome rank.check list.outcome list.checkOf list.lengthsOk list.limitOk sizeOk blockOk blockSideOk componentSideOk unitOk samplesOk flagAt fieldOf allBelow walk byByte inTurn onward leafWalk
 accepted = refl

@@ -7,7 +7,8 @@ use Rattle.laws.specs.Bits.{fieldOf}
 use Rattle.laws.specs.Clip.{maxZ, minZ, clipZ, absZ, withSign, sampleZ}
 use Rattle.laws.specs.Index.{tabulateFrom}
 use Rattle.def.specs.Word.{flagAt}
-use Rattle.chroma_qp.specs.Mapping.{qpAt, inOf, outOf, clipQp, below, past, between, upTo, mapped, tableOf}
+use Rattle.chroma_qp_check.specs.Pivots.{qpAt, inOf, outOf}
+use Rattle.chroma_qp.specs.Mapping.{clipQp, below, past, between, upTo, mapped, tableOf}
 use Rattle.ipred.specs.Modes.{sumBelow, log2, dc, predicted}
 use Rattle.line.specs.Line.{stepOf, limitOf, farOf, movedBy, lineZ, lineOf}
 use Rattle.line.specs.Row.{eqZ, far, countedAs, sameRefs, anyFar, motionRow, rowOf}

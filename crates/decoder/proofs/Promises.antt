@@ -29,8 +29,9 @@ use Rattle.def.specs.declared.Refusal.the-variants.{Size, Length, Setting, Spli
 use Rattle.def.specs.declared.Component.the-variants.{Luma}
 use Rattle.def.proofs.Answers.{answer-apart}
 use Rattle.samples.specs.Samples.{samplesOk}
+use Rattle.chroma_qp_check.specs.Check as points-check
+use Rattle.chroma_qp_check.specs.Pivots.{Points, inOf, outOf}
 use Rattle.chroma_qp.specs.Derived as derived
-use Rattle.chroma_qp.specs.Mapping.{Points, inOf, outOf}
 use Rattle.avail.specs.Around as around
 use Rattle.avail.specs.Calls as avail
 use Rattle.avail.specs.Inter.{interNeighbours}
@@ -71,6 +72,8 @@ use Rattle.sheet.proofs.Outcomes.{reading-apart as printed-apart}
 use Rattle.decoder.specs.Promise.{ended, Sole, Refuses, refusalIn}
 use Rattle.decoder.proofs.Settled.{told, settled}
 use Rattle.decoder.proofs.Refusing.{Stops, last, rung, walk-rung, by-checks, root-stops, picture-stops, line-said, sheet-rung, digits-said}
+use Rattle.decoder.proofs.checked_points.Kinds as checked-points-kinds
+use Rattle.decoder.proofs.checked_points.Reads as checked-points-reads
 use Rattle.decoder.proofs.derived_chroma_qp_mapping_tables.Kinds as tables-kinds
 use Rattle.decoder.proofs.derived_chroma_qp_mapping_tables.Reads as tables-reads
 use Rattle.decoder.proofs.get_avail_intra.Kinds as get-avail-intra-kinds
@@ -115,6 +118,9 @@ use Rattle.decoder.proofs.listing.Reads as listing-reads
 pub derived-chroma-qp-mapping-tables-once : Sole 6 tables-kinds.ps tables-kinds.r tables-reads.Post (λ κs r x. ended r (now (x .1 .1 .1 .1 .1 .1 .1 .1 .0) ∷ now (x .1 .1 .1 .1 .1 .1 .1 .1 .1 .0) ∷ []))
 derived-chroma-qp-mapping-tables-once κs a r r′ x x′ p q = settled derived.outcome (λ o. o .number) (λ o. o .t0 ∷ o .t1 ∷ []) p q (answer-apart r r′)
 
+pub checked-points-once : Sole 6 checked-points-kinds.ps checked-points-kinds.r checked-points-reads.Post (λ κs r x. r)
+checked-points-once κs a r r′ x x′ p q = one-outcome points-check.check _ _ _ p q
+
 -- 58 points that have one a, of which some count; a table; and a call with them
 abbrev points : ℕ → ℤ → Points
 points n a = record { count = n; a = replicate 58 a; b = replicate 58 (pos 0) }
@@ -122,29 +128,43 @@ points n a = record { count = n; a = replicate 58 a; b = replicate 58 (pos 0) }
 abbrev chroma-table : List ℤ
 chroma-table = replicate 70 (pos 0)
 
-abbrev pointed : List ℤ → Points → Points → derived.Input
+abbrev pointed : List ℤ → Points → Points → points-check.Input
 pointed t p q = record { global-offset = false; same-table = false; first = p; second = q; t0 = t; t1 = t }
 
-pub derived-chroma-qp-mapping-tables-refusals : Refuses derived.outcome (λ o. o .number) (Length ∷ BadPoints ∷ BadPoints ∷ Pivot ∷ Pivot ∷ [])
-unfolding derived.outcome derived.check derived.lengthsOk derived.pointsOk derived.pivotsOk derived.pivotOk inOf outOf allBelow
+-- an input for each rung
+abbrev pointings : List points-check.Input
+pointings =
+    pointed [] (points 1 (pos 0)) (points 1 (pos 0))
+    ∷ pointed chroma-table (points 0 (pos 0)) (points 1 (pos 0))
+    ∷ pointed chroma-table (points 1 (pos 0)) (points 0 (pos 0))
+    ∷ pointed chroma-table (points 1 (pos 70)) (points 1 (pos 0))
+    ∷ pointed chroma-table (points 1 (pos 0)) (points 1 (pos 70))
+    ∷ []
+
+abbrev by-points : List Refusal
+by-points = Length ∷ BadPoints ∷ BadPoints ∷ Pivot ∷ Pivot ∷ []
+
+points-stop : (i : points-check.Input) → Stops by-points (points-check.check i)
+unfolding points-check.check
+points-stop i =
+    rung (points-check.inputLengthsOk i) Length _
+    (rung (points-check.pointsOk (i .first .count) (i .first .a)) BadPoints _
+    (rung (i .same-table || points-check.pointsOk (i .second .count) (i .second .a)) BadPoints _
+    (rung (points-check.pivotsOk (points-check.inputStart i) (i .first)) Pivot _
+    (rung (i .same-table || points-check.pivotsOk (points-check.inputStart i) (i .second)) Pivot _ last))))
+
+pub derived-chroma-qp-mapping-tables-refusals : Refuses derived.outcome (λ o. o .number) by-points
+unfolding derived.outcome points-check.check points-check.lengthsOk points-check.pointsOk points-check.pivotsOk points-check.pivotOk inOf outOf allBelow
 derived-chroma-qp-mapping-tables-refusals =
     record {
-      only = λ i.
-          by-checks (λ o. o .number) (derived.refused i) (derived.done i) (Length ∷ BadPoints ∷ BadPoints ∷ Pivot ∷ Pivot ∷ []) (derived.check i) (λ r. refl) refl
-          (rung (derived.inputLengthsOk i) Length _
-          (rung (derived.pointsOk (i .first .count) (i .first .a)) BadPoints _
-          (rung (i .same-table || derived.pointsOk (i .second .count) (i .second .a)) BadPoints _
-          (rung (derived.pivotsOk (derived.inputStart i) (i .first)) Pivot _
-          (rung (i .same-table || derived.pivotsOk (derived.inputStart i) (i .second)) Pivot _ last)))));
-      shown =
-          pointed [] (points 1 (pos 0)) (points 1 (pos 0))
-          ∷ pointed chroma-table (points 0 (pos 0)) (points 1 (pos 0))
-          ∷ pointed chroma-table (points 1 (pos 0)) (points 0 (pos 0))
-          ∷ pointed chroma-table (points 1 (pos 70)) (points 1 (pos 0))
-          ∷ pointed chroma-table (points 1 (pos 0)) (points 1 (pos 70))
-          ∷ [];
+      only = λ i. by-checks (λ o. o .number) (derived.refused i) (derived.done i) by-points (points-check.check i) (λ r. refl) refl (points-stop i);
+      shown = pointings;
       given = refl;
     }
+
+pub checked-points-refusals : Refuses points-check.check answerNumber by-points
+unfolding points-check.check points-check.lengthsOk points-check.pointsOk points-check.pivotsOk points-check.pivotOk inOf outOf allBelow
+checked-points-refusals = record { only = λ i. points-stop i .by; shown = pointings; given = refl }
 
 -- ---- availability
 

@@ -1,8 +1,10 @@
--- The public calls that answer a value and refuse nothing: what is shared, what a leaf record says, the line filter and its rows.
+-- The public calls that answer a value and refuse nothing: what is shared, the numbers of chroma points, what a leaf record says, the line filter and its rows.
 --     NAME-once    over the contract as the checker reads it from the source: the arguments determine the answer
 -- Assumes nothing.
 use Prim.Native.Nat.{ℕ}
 use mathlib.Core.Path.{sym, ap, _∙_}
+use lib.IntN.{natAbs}
+use Rattle.chroma_qp_check.proofs.Offsets.{qp-apart}
 use Rattle.decoder.specs.Promise.{Sole}
 use Rattle.decoder.proofs.pel2scu.Kinds as pel2scu-kinds
 use Rattle.decoder.proofs.pel2scu.Reads as pel2scu-reads
@@ -38,6 +40,12 @@ use Rattle.decoder.proofs.answer_number.Kinds as answer-number-kinds
 use Rattle.decoder.proofs.answer_number.Reads as answer-number-reads
 use Rattle.decoder.proofs.samples_ok.Kinds as samples-ok-kinds
 use Rattle.decoder.proofs.samples_ok.Reads as samples-ok-reads
+use Rattle.decoder.proofs.start_qp.Kinds as start-qp-kinds
+use Rattle.decoder.proofs.start_qp.Reads as start-qp-reads
+use Rattle.decoder.proofs.delta_in.Kinds as delta-in-kinds
+use Rattle.decoder.proofs.delta_in.Reads as delta-in-reads
+use Rattle.decoder.proofs.delta_out.Kinds as delta-out-kinds
+use Rattle.decoder.proofs.delta_out.Reads as delta-out-reads
 use Rattle.decoder.proofs.coded_y.Kinds as coded-y-kinds
 use Rattle.decoder.proofs.coded_y.Reads as coded-y-reads
 use Rattle.decoder.proofs.coded_u.Kinds as coded-u-kinds
@@ -111,6 +119,15 @@ answer-number-once κs a r r′ x x′ p q = p ∙ sym q
 
 pub samples-ok-once : Sole 1 samples-ok-kinds.ps samples-ok-kinds.r samples-ok-reads.Post (λ κs r x. r)
 samples-ok-once κs a r r′ x x′ p q = p ∙ sym q
+
+pub start-qp-once : Sole 0 start-qp-kinds.ps start-qp-kinds.r start-qp-reads.Post (λ κs r x. r)
+start-qp-once κs a r r′ x x′ p q = qp-apart r r′ (p .0 ∙ sym (q .0))
+
+pub delta-in-once : Sole 0 delta-in-kinds.ps delta-in-kinds.r delta-in-reads.Post (λ κs r x. r)
+delta-in-once κs a r r′ x x′ p q = ap natAbs (p .0 ∙ sym (q .0))
+
+pub delta-out-once : Sole 0 delta-out-kinds.ps delta-out-kinds.r delta-out-reads.Post (λ κs r x. r)
+delta-out-once κs a r r′ x x′ p q = ap natAbs (p .0 ∙ sym (q .0))
 
 pub coded-y-once : Sole 0 coded-y-kinds.ps coded-y-kinds.r coded-y-reads.Post (λ κs r x. r)
 coded-y-once κs a r r′ x x′ p q = p ∙ sym q

@@ -8,7 +8,8 @@ use lib.ListN.{getD, replicate}
 use Rattle.laws.specs.Index.{pick, tabulate}
 use Rattle.def.specs.declared.Component.{Component}
 use Rattle.def.specs.declared.Component.the-variants.{Luma, Chroma}
-use Rattle.chroma_qp.specs.Mapping.{Points, startOf, outOf, tableOf}
+use Rattle.chroma_qp_check.specs.Pivots.{Points, startOf, outOf}
+use Rattle.chroma_qp.specs.Mapping.{tableOf}
 use Rattle.ipred.specs.Modes.{predicted, blockOf}
 use Rattle.line.specs.declared.Mask.{Mask}
 use Rattle.line.specs.declared.Quad.{Quad}

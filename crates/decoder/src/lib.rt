@@ -1,7 +1,7 @@
 // The face: every public call and type of the product under one name, and nothing of its own. By the paper's modules:
 //     shared            pel2scu, in_component, get_if, get_qp, get_cbfl, get_cod, set_cod, clr_cod, leaf_word, size_ok, block_side_ok,
 //                       component_side_ok, block_ok, unit_ok, samples_ok, refusal_number, answer_number
-//     1 chroma QP       derived_chroma_qp_mapping_tables
+//     1 chroma QP       derived_chroma_qp_mapping_tables; checked_points, start_qp, delta_in, delta_out
 //     2 availability    get_avail_intra, get_avail_inter
 //     3 mode ranks      get_mpm, get_mpm_number
 //     4 gathering       get_nbr
@@ -16,6 +16,10 @@ pub use avail::Neighbours;
 pub use avail::get_avail_inter;
 pub use avail::get_avail_intra;
 pub use chroma_qp::derived_chroma_qp_mapping_tables;
+pub use chroma_qp_check::checked_points;
+pub use chroma_qp_check::delta_in;
+pub use chroma_qp_check::delta_out;
+pub use chroma_qp_check::start_qp;
 pub use def::Answer;
 pub use def::Component;
 pub use def::Pel;

@@ -3,7 +3,7 @@ use mathlib.Core.Path.{sym, _∙_}
 use native.Mathlib.Omega.{arith}
 use borrow.Author.Needs.{needs}
 use denote.Ref.{now}
-use Rattle.chroma_qp.specs.Derived.{Input}
+use Rattle.chroma_qp_check.specs.Check.{Input}
 use Rattle.chroma_qp.proofs.Outcomes.{Ready, lengths, first-checked, second-checked, by-refusal, by-copy, by-both}
 use Rattle.chroma_qp.proofs.derived_chroma_qp_mapping_tables.Statement.{statement}
 use Rattle.chroma_qp.proofs.derived_chroma_qp_mapping_tables.Tie as tie
@@ -21,12 +21,12 @@ input c =
       t1 = now (a .t1);
     }
 
-ready : (c : tie.After-start) → Ready (input (c .before .before .before .before .before .before)) (c .start .result)
+ready : (c : tie.After-start-qp) → Ready (input (c .before .before .before .before .before .before)) (c .start-qp .result)
 ready c =
     record {
-      small = c .start .ensures .1;
-      start = c .start .ensures .0;
-      told = sym (c .before .before .before .checked .ensures) ∙ c .before .enum-told .given .1;
+      small = c .start-qp .ensures .1;
+      start = c .start-qp .ensures .0;
+      told = sym (c .before .before .before .checked-points .ensures) ∙ c .before .enum-told .given .1;
     }
 
 fill-requires : tie.Need-fill-requires
@@ -44,7 +44,7 @@ fill-requires-2 c κs =
     (lengths _ _ r .t1, second-checked _ _ r (c .before .if1 .left))
 
 returns : tie.Need-returns
-returns c = by-refusal _ _ _ (c .before .before .before .checked .ensures) (c .before .r .given .1)
+returns c = by-refusal _ _ _ (c .before .before .before .checked-points .ensures) (c .before .r .given .1)
 
 returns-2 : tie.Need-returns-2
 returns-2 c =

@@ -4,8 +4,8 @@ use mathlib.Core.Path.{refl}
 use native.Mathlib.Omega.{arith}
 use lib.IntN.{pos}
 use Rattle.laws.proofs.Planes.{Rowed, rowed-none, rowed-all}
+use Rattle.chroma_qp_check.specs.Pivots.{qpAt}
 use Rattle.chroma_qp.specs.Held.{heldBetween}
-use Rattle.chroma_qp.specs.Mapping.{qpAt}
 use Rattle.chroma_qp.proofs.Filled.{row-more}
 use Rattle.chroma_qp.proofs.Parts.{entry-most}
 use Rattle.chroma_qp.proofs.fill_between.Statement.{statement}

@@ -7,9 +7,9 @@ use mir.Syntax.{w8}
 use mir.Val.{SFits, toZ, ofZ}
 use lib.IntN.{ℤ, pos, _+ℤ_}
 use Rattle.laws.proofs.Widths.{sfits, back}
+use Rattle.chroma_qp_check.proofs.Offsets.{qp-held}
 use Rattle.chroma_qp.specs.Held.{Entry}
 use Rattle.chroma_qp.proofs.Bytes.{entry-fits}
-use Rattle.chroma_qp.proofs.Offsets.{qp-held}
 use Rattle.chroma_qp.proofs.held_at.Statement.{statement}
 use Rattle.chroma_qp.proofs.held_at.Tie as tie
 

@@ -6,7 +6,7 @@ use mir.Syntax.{w8}
 use mir.Val.{toZ}
 use lib.IntN.{pos}
 use Rattle.laws.proofs.Widths.{sfits, back}
-use Rattle.chroma_qp.specs.Mapping.{qpAt}
+use Rattle.chroma_qp_check.specs.Pivots.{qpAt}
 use Rattle.chroma_qp.proofs.Bytes.{entry-fits}
 use Rattle.chroma_qp.proofs.put.Statement.{statement}
 use Rattle.chroma_qp.proofs.put.Tie as tie

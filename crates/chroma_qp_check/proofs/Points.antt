@@ -10,7 +10,7 @@ use lib.ListN.{getD}
 use lib.Signed.{leZ}
 use Rattle.laws.proofs.Calls.{all-at}
 use Rattle.laws.proofs.Scans.{scan-at}
-use Rattle.chroma_qp.specs.Derived.{pointsOk, pointTests}
+use Rattle.chroma_qp_check.specs.Check.{pointsOk, pointTests}
 
 pub record Countable (count : ℕ) (a : List ℤ) : Type 0 where
   pub some : 1 ≤ count

@@ -9,7 +9,7 @@ use lib.Dec.{leb}
 use lib.IntN.{ℤ, pos, _+ℤ_, _-ℤ_}
 use lib.Signed.{leZ}
 use Rattle.laws.proofs.Differences.{diff-same, diff-add, diff-sub, diff-le, diff-none, as-diff, leb-alike}
-use Rattle.chroma_qp.specs.Mapping.{qpAt}
+use Rattle.chroma_qp_check.specs.Pivots.{qpAt}
 
 pub qp-add : (k n : ℕ) → qpAt k +ℤ pos n ≡ qpAt (k + n)
 unfolding qpAt

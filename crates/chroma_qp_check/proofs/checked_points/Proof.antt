@@ -1,4 +1,4 @@
--- `chroma_qp::checked` meets its contract: a row of checks. `past-K` is what check K, passed, tells; each return cites those before it.
+-- `chroma_qp_check::checked_points` meets its contract: a row of checks. `past-K` is what check K, passed, tells; each return cites those before it.
 -- Assumes nothing.
 use mathlib.Core.Path.{_≡_, sym, ap, _∙_}
 use mathlib.Core.Bool.{true, _||_}
@@ -6,10 +6,10 @@ use borrow.Author.Needs.{needs}
 use borrow.Author.Tests.{not-true, not-false}
 use denote.Ref.{now}
 use lib.IntN.{ℤ}
-use Rattle.chroma_qp.specs.Derived.{Input, inputStart, inputLengthsOk, pointsOk, pivotsOk}
-use Rattle.chroma_qp.proofs.Checks.{at-length, at-first-points, at-second-points, at-first-pivots, at-second-pivots, past-all, Long, long}
-use Rattle.chroma_qp.proofs.checked.Statement.{statement}
-use Rattle.chroma_qp.proofs.checked.Tie as tie
+use Rattle.chroma_qp_check.specs.Check.{Input, inputStart, inputLengthsOk, pointsOk, pivotsOk}
+use Rattle.chroma_qp_check.proofs.Checks.{at-length, at-first-points, at-second-points, at-first-pivots, at-second-pivots, past-all, Long, long}
+use Rattle.chroma_qp_check.proofs.checked_points.Statement.{statement}
+use Rattle.chroma_qp_check.proofs.checked_points.Tie as tie
 
 -- the input of a call
 abbrev input : tie.Start → Input
@@ -57,13 +57,13 @@ pivots-ok-requires : tie.Need-pivots-ok-requires
 pivots-ok-requires c κs =
     let two = c .before .before .before in
     let l = lengths (two .before .before) in
-    record { start = c .start .ensures .1; a-long = l .a0; b-long = l .b0; points = past-2 two }
+    record { start = c .start-qp .ensures .1; a-long = l .a0; b-long = l .b0; points = past-2 two }
 
 -- what `pivots_ok` answers, at the start itself
 first-pivots : (c : tie.After-pivots-ok) → let i = input (c .before .before .before .before .before .before .before .before) in c .pivots-ok .result ≡ pivotsOk (inputStart i) (i .first)
 first-pivots c =
     let i = input (c .before .before .before .before .before .before .before .before) in
-    c .pivots-ok .ensures ∙ ap (λ (z : ℤ). pivotsOk z (i .first)) (c .before .start .ensures .0)
+    c .pivots-ok .ensures ∙ ap (λ (z : ℤ). pivotsOk z (i .first)) (c .before .start-qp .ensures .0)
 
 returns-4 : tie.Need-returns-4
 returns-4 c =
@@ -78,12 +78,12 @@ second-pivots-ok-requires : tie.Need-second-pivots-ok-requires
 second-pivots-ok-requires c κs =
     let three = c .before .before .before in
     let l = lengths (three .before .before .before .before) in
-    (c .before .before .start .ensures .1, l .a1, l .b1, past-3 three)
+    (c .before .before .start-qp .ensures .1, l .a1, l .b1, past-3 three)
 
 second-pivots : (c : tie.After-second-pivots-ok) → let i = input (c .before .before .before .before .before .before .before .before .before .before) in c .second-pivots-ok .result ≡ (i .same-table || pivotsOk (inputStart i) (i .second))
 second-pivots c =
     let i = input (c .before .before .before .before .before .before .before .before .before .before) in
-    c .second-pivots-ok .ensures ∙ ap (λ (z : ℤ). i .same-table || pivotsOk z (i .second)) (c .before .before .before .start .ensures .0)
+    c .second-pivots-ok .ensures ∙ ap (λ (z : ℤ). i .same-table || pivotsOk z (i .second)) (c .before .before .before .start-qp .ensures .0)
 
 returns-5 : tie.Need-returns-5
 returns-5 c =
@@ -106,8 +106,8 @@ returns-6 c =
       second-pivots = sym (second-pivots (c .before)) ∙ not-false _ (c .if5 .left);
     })
 
-pub checked-spec : {M : Type 1} → statement M
-checked-spec =
+pub checked-points-spec : {M : Type 1} → statement M
+checked-points-spec =
     tie.close
     (tie.spec (λ c κs. search needs) returns points-ok-requires returns-2 second-points-ok-requires returns-3 (λ c κs. search needs) pivots-ok-requires returns-4
     second-pivots-ok-requires returns-5 returns-6)

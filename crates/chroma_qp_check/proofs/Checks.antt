@@ -15,7 +15,7 @@ use Rattle.def.specs.declared.Refusal.{Refusal}
 use Rattle.def.specs.declared.Refusal.the-variants.{Length, Points, Pivot}
 use Rattle.def.specs.declared.Answer.{Answer}
 use Rattle.def.specs.declared.Answer.the-variants.{Done, Refused}
-use Rattle.chroma_qp.specs.Derived.{Input, inputStart, lengthTests, lengthsOk, inputLengthsOk, pointsOk, pivotsOk, check}
+use Rattle.chroma_qp_check.specs.Check.{Input, inputStart, lengthTests, lengthsOk, inputLengthsOk, pointsOk, pivotsOk, check}
 
 -- every test of the ladder holds
 pub record Passed (i : Input) : Type 0 where

@@ -1,7 +1,7 @@
--- `chroma_qp::second_pivots_ok` meets its contract: where there is one table its points are not read. Assumes nothing.
+-- `chroma_qp_check::second_pivots_ok` meets its contract: where there is one table its points are not read. Assumes nothing.
 use borrow.Author.Needs.{needs}
-use Rattle.chroma_qp.proofs.second_pivots_ok.Statement.{statement}
-use Rattle.chroma_qp.proofs.second_pivots_ok.Tie as tie
+use Rattle.chroma_qp_check.proofs.second_pivots_ok.Statement.{statement}
+use Rattle.chroma_qp_check.proofs.second_pivots_ok.Tie as tie
 
 pivots-ok-requires : tie.Need-pivots-ok-requires
 pivots-ok-requires c κs =

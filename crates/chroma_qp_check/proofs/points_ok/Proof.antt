@@ -1,4 +1,4 @@
--- `chroma_qp::points_ok` meets its contract: a scan of the a that count. Assumes nothing.
+-- `chroma_qp_check::points_ok` meets its contract: a scan of the a that count. Assumes nothing.
 use Prim.Native.Nat.{ℕ, _-_, _≤_, _<_}
 use mathlib.Core.Path.{_≡_, sym}
 use mathlib.Core.Bool.{true, false}
@@ -12,10 +12,10 @@ use lib.ListN.{getD}
 use Rattle.laws.specs.Scan.{allBelow}
 use Rattle.laws.proofs.Calls.{all-fails}
 use Rattle.laws.proofs.Scans.{scan-none, scan-more, scan-stop}
-use Rattle.chroma_qp.specs.Derived.{pointsOk, pointTests}
-use Rattle.chroma_qp.proofs.Bytes.{byte-sign}
-use Rattle.chroma_qp.proofs.points_ok.Statement.{statement}
-use Rattle.chroma_qp.proofs.points_ok.Tie as tie
+use Rattle.chroma_qp_check.specs.Check.{pointsOk, pointTests}
+use Rattle.chroma_qp_check.proofs.Bytes.{byte-sign}
+use Rattle.chroma_qp_check.proofs.points_ok.Statement.{statement}
+use Rattle.chroma_qp_check.proofs.points_ok.Tie as tie
 
 abbrev Inv-loop : tie.InvT-loop
 Inv-loop count a j₀ j = (j ≤ count) × (allBelow (λ (k : ℕ). leZ (pos 0) (getD a k (pos 0))) j ≡ true)

@@ -1,0 +1,5 @@
+pub mod Bytes
+pub mod Checks
+pub mod Offsets
+pub mod Pivots
+pub mod Points
