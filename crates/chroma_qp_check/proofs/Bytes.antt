@@ -1,5 +1,5 @@
 -- Signed bytes: those not below 0, and any of them with 128 added, as numbers without a sign.
---     plain, byte-sign, below-none, delta-in-is    a byte by its sign, and what `delta_in` answers of it
+--     plain, byte-sign, below-none, all-left, delta-in-is    a byte by its sign, and what `delta_in` answers of it
 --     raised, raised-fits, delta-out-is    a byte and 128, and what `delta_out` answers of it
 -- Assumes nothing.
 use mathlib.Core.Path.{_≡_, refl, sym, ap, _∙_}
