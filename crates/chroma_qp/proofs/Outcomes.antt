@@ -13,10 +13,9 @@ use Rattle.def.specs.declared.Refusal.{Refusal}
 use Rattle.def.specs.declared.Answer.{Answer}
 use Rattle.def.specs.declared.Answer.the-variants.{Done, Refused}
 use Rattle.def.proofs.Answers.{on-refusal, on-done}
-use Rattle.chroma_qp_check.specs.Check.{Input, inputStart, check}
 use Rattle.chroma_qp_check.specs.Pivots.{qpAt}
 use Rattle.chroma_qp_check.proofs.Checks.{Passed, passed, Long, long}
-use Rattle.chroma_qp.specs.Derived.{refused, done, outcome}
+use Rattle.chroma_qp.specs.Derived.{Input, checked, check, inputStart, refused, done, outcome}
 use Rattle.chroma_qp.specs.Held.{Checked}
 use Rattle.chroma_qp.specs.Mapping.{tableOf}
 
@@ -31,11 +30,11 @@ pub record Ready (i : Input) (s : ℕ) : Type 0 where
   pub told : check i ≡ Done
 
 module _ (i : Input) (s : ℕ) (r : Ready i s) where
-  all : Passed i
-  all = passed i (r .told)
+  all : Passed (checked i)
+  all = passed (checked i) (r .told)
 
-  pub lengths : Long i
-  lengths = long i (all .lengths)
+  pub lengths : Long (checked i)
+  lengths = long (checked i) (all .lengths)
 
   pub first-checked : Checked s (i .first)
   first-checked =

@@ -169,8 +169,8 @@ pub fn derived_chroma_qp_mapping_tables(
         count1,
         a1,
         b1,
-        &*t0,
-        &*t1,
+        t0.len(),
+        t1.len(),
     ) {
         Answer::Refused(r) => Answer::Refused(r),
         Answer::Done => {

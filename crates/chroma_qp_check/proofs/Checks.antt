@@ -80,13 +80,13 @@ pub record Long (i : Input) : Type 0 where
   pub b0 : length (i .first .b) ≡ 58
   pub a1 : length (i .second .a) ≡ 58
   pub b1 : length (i .second .b) ≡ 58
-  pub t0 : length (i .t0) ≡ 70
-  pub t1 : length (i .t1) ≡ 70
+  pub t0 : i .t0 ≡ 70
+  pub t1 : i .t1 ≡ 70
 
 pub long : (i : Input) → inputLengthsOk i ≡ true → Long i
 unfolding lengthsOk
 long i e =
-    let tests = lengthTests (length (i .first .a)) (length (i .first .b)) (length (i .second .a)) (length (i .second .b)) (length (i .t0)) (length (i .t1)) in
+    let tests = lengthTests (length (i .first .a)) (length (i .first .b)) (length (i .second .a)) (length (i .second .b)) (i .t0) (i .t1) in
     record {
       a0 = eqb-true _ 58 (all-at tests 0 e);
       b0 = eqb-true _ 58 (all-at tests 1 e);

@@ -1,4 +1,4 @@
--- The checks of `derived_chroma_qp_mapping_tables`: its input, and its refusals in their order.
+-- The checks of `derived_chroma_qp_mapping_tables`: its refusals in their order.
 -- Assumes nothing: these are definitions.
 use Prim.Native.Nat.{ℕ, _≤_}
 use mathlib.Core.Path.{_≡_}
@@ -16,13 +16,14 @@ use Rattle.def.specs.declared.Answer.the-variants.{Done, Refused}
 use Rattle.chroma_qp_check.specs.Pivots as pivots
 use Rattle.chroma_qp_check.specs.Pivots.{startOf, inOf, outOf}
 
+-- what is lent to a call. Of the tables the length alone
 pub record Input : Type 0 where
   pub global-offset : Bool
   pub same-table : Bool
   pub first : pivots.Points
   pub second : pivots.Points
-  pub t0 : List ℤ
-  pub t1 : List ℤ
+  pub t0 : ℕ
+  pub t1 : ℕ
 
 abbrev pub inputStart : Input → ℤ
 inputStart i = startOf (i .global-offset)
@@ -35,7 +36,7 @@ unfoldable pub lengthsOk : (a0 b0 a1 b1 t0 t1 : ℕ) → Bool
 lengthsOk a0 b0 a1 b1 t0 t1 = allOf (lengthTests a0 b0 a1 b1 t0 t1)
 
 abbrev pub inputLengthsOk : Input → Bool
-inputLengthsOk i = lengthsOk (length (i .first .a)) (length (i .first .b)) (length (i .second .a)) (length (i .second .b)) (length (i .t0)) (length (i .t1))
+inputLengthsOk i = lengthsOk (length (i .first .a)) (length (i .first .b)) (length (i .second .a)) (length (i .second .b)) (i .t0) (i .t1)
 
 -- a count of 1..58, and no a below 0 among the points counted
 abbrev pub pointTests : ℕ → List ℤ → List Bool

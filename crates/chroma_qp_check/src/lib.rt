@@ -116,19 +116,19 @@ pub fn checked_points(
     count1: usize,
     a1: &[i8],
     b1: &[i8],
-    t0: &[i8],
-    t1: &[i8],
+    t0: usize,
+    t1: usize,
 ) -> Answer
     ensures { λ r. ⌜ Gives check (record {
       global-offset = «global_offset»;
       same-table = «same_table»;
       first = record { count = count0; a = now (a0 .entry); b = now (b0 .entry) };
       second = record { count = count1; a = now (a1 .entry); b = now (b1 .entry) };
-      t0 = now (t0 .entry);
-      t1 = now (t1 .entry);
+      t0 = t0;
+      t1 = t1;
     }) r ⌝ }
 {
-    if !lengths_ok(a0.len(), b0.len(), a1.len(), b1.len(), t0.len(), t1.len()) {
+    if !lengths_ok(a0.len(), b0.len(), a1.len(), b1.len(), t0, t1) {
         return Answer::Refused(Refusal::Length);
     }
     if !points_ok(count0, a0) {

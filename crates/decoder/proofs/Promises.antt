@@ -118,7 +118,7 @@ use Rattle.decoder.proofs.listing.Reads as listing-reads
 pub derived-chroma-qp-mapping-tables-once : Sole 6 tables-kinds.ps tables-kinds.r tables-reads.Post (λ κs r x. ended r (now (x .1 .1 .1 .1 .1 .1 .1 .1 .0) ∷ now (x .1 .1 .1 .1 .1 .1 .1 .1 .1 .0) ∷ []))
 derived-chroma-qp-mapping-tables-once κs a r r′ x x′ p q = settled derived.outcome (λ o. o .number) (λ o. o .t0 ∷ o .t1 ∷ []) p q (answer-apart r r′)
 
-pub checked-points-once : Sole 6 checked-points-kinds.ps checked-points-kinds.r checked-points-reads.Post (λ κs r x. r)
+pub checked-points-once : Sole 4 checked-points-kinds.ps checked-points-kinds.r checked-points-reads.Post (λ κs r x. r)
 checked-points-once κs a r r′ x x′ p q = one-outcome points-check.check _ _ _ p q
 
 -- 58 points that have one a, of which some count; a table; and a call with them
@@ -128,11 +128,11 @@ points n a = record { count = n; a = replicate 58 a; b = replicate 58 (pos 0) }
 abbrev chroma-table : List ℤ
 chroma-table = replicate 70 (pos 0)
 
-abbrev pointed : List ℤ → Points → Points → points-check.Input
+abbrev pointed : List ℤ → Points → Points → derived.Input
 pointed t p q = record { global-offset = false; same-table = false; first = p; second = q; t0 = t; t1 = t }
 
 -- an input for each rung
-abbrev pointings : List points-check.Input
+abbrev pointings : List derived.Input
 pointings =
     pointed [] (points 1 (pos 0)) (points 1 (pos 0))
     ∷ pointed chroma-table (points 0 (pos 0)) (points 1 (pos 0))
@@ -157,14 +157,14 @@ pub derived-chroma-qp-mapping-tables-refusals : Refuses derived.outcome (λ o. o
 unfolding derived.outcome points-check.check points-check.lengthsOk points-check.pointsOk points-check.pivotsOk points-check.pivotOk inOf outOf allBelow
 derived-chroma-qp-mapping-tables-refusals =
     record {
-      only = λ i. by-checks (λ o. o .number) (derived.refused i) (derived.done i) by-points (points-check.check i) (λ r. refl) refl (points-stop i);
+      only = λ i. by-checks (λ o. o .number) (derived.refused i) (derived.done i) by-points (derived.check i) (λ r. refl) refl (points-stop (derived.checked i));
       shown = pointings;
       given = refl;
     }
 
 pub checked-points-refusals : Refuses points-check.check answerNumber by-points
 unfolding points-check.check points-check.lengthsOk points-check.pointsOk points-check.pivotsOk points-check.pivotOk inOf outOf allBelow
-checked-points-refusals = record { only = λ i. points-stop i .by; shown = pointings; given = refl }
+checked-points-refusals = record { only = λ i. points-stop i .by; shown = map derived.checked pointings; given = refl }
 
 -- ---- availability
 

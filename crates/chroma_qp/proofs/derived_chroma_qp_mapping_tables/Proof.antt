@@ -3,7 +3,7 @@ use mathlib.Core.Path.{sym, _∙_}
 use native.Mathlib.Omega.{arith}
 use borrow.Author.Needs.{needs}
 use denote.Ref.{now}
-use Rattle.chroma_qp_check.specs.Check.{Input}
+use Rattle.chroma_qp.specs.Derived.{Input}
 use Rattle.chroma_qp.proofs.Outcomes.{Ready, lengths, first-checked, second-checked, by-refusal, by-copy, by-both}
 use Rattle.chroma_qp.proofs.derived_chroma_qp_mapping_tables.Statement.{statement}
 use Rattle.chroma_qp.proofs.derived_chroma_qp_mapping_tables.Tie as tie
@@ -21,7 +21,7 @@ input c =
       t1 = now (a .t1);
     }
 
-ready : (c : tie.After-start-qp) → Ready (input (c .before .before .before .before .before .before)) (c .start-qp .result)
+ready : (c : tie.After-start-qp) → Ready (input (c .before .before .before .before)) (c .start-qp .result)
 ready c =
     record {
       small = c .start-qp .ensures .1;
@@ -60,4 +60,4 @@ pub derived-chroma-qp-mapping-tables-spec : {M : Type 1} → statement M
 derived-chroma-qp-mapping-tables-spec =
     tie.close
     (tie.spec (λ c κs. search needs) (λ c. search needs) (λ c. search needs) (λ c κs. search needs) fill-requires copy-requires fill-requires-2
-    (λ c. search needs) (λ c. search needs) returns (λ c. search needs) (λ c. search needs) returns-2 (λ c. search needs) (λ c. search needs) returns-3)
+    returns (λ c. search needs) (λ c. search needs) returns-2 (λ c. search needs) (λ c. search needs) returns-3)

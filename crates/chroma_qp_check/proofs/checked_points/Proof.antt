@@ -20,8 +20,8 @@ input c =
       same-table = a .same-table;
       first = record { count = a .count0; a = now (a .a0); b = now (a .b0) };
       second = record { count = a .count1; a = now (a .a1); b = now (a .b1) };
-      t0 = now (a .t0);
-      t1 = now (a .t1);
+      t0 = a .t0;
+      t1 = a .t1;
     }
 
 past-1 : (c : tie.Else1) → inputLengthsOk (input (c .before .before)) ≡ true
