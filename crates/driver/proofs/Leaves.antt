@@ -1,5 +1,6 @@
 -- A leaf, from what its functions leave.
 --     planes-asked, told    what its components and its units ask
+--     planes-drawn    its components
 --     leaves-start, leaves-next, leaves-asked    the first leaves of a list
 --     kept    the lengths of what is written
 --     ended, done-ended    the planes and the maps of the last state, and the call's outcome
@@ -16,14 +17,15 @@ use Rattle.laws.specs.Index.{pick, tabulate}
 use Rattle.def.specs.Blocks.{blockOk}
 use Rattle.def.specs.Picture.{sizeOk, unitCount}
 use Rattle.def.specs.Word.{leafWord}
+use Rattle.def.specs.declared.Component.the-variants.{Luma, Chroma}
 use Rattle.def.proofs.Blocks.{blocked}
 use Rattle.def.proofs.Sizes.{sized}
 use Rattle.nbr.proofs.Sides.{four}
 use Rattle.split.specs.Stored.{leavesFrom}
 use Rattle.driver_rules.specs.Asked.{GivenAsked, StateAsked, Stepped}
 use Rattle.driver_rules.specs.Call.{Input, leavesOf, done}
-use Rattle.driver_rules.specs.Records.{kindAt, qpAt, maskAt, isMode, codedY, placeOf, passed}
-use Rattle.driver_rules.specs.Steps.{Given, State, withUnits, stepAt, steps}
+use Rattle.driver_rules.specs.Records.{kindAt, qpAt, maskAt, isMode, codedY, codedU, codedV, residualCount, startU, startV, placeOf, passed}
+use Rattle.driver_rules.specs.Steps.{Given, State, componentOf, withUnits, stepAt, steps}
 use Rattle.driver_rules.proofs.States.{asked-y, asked-u, asked-v}
 use Rattle.driver_rules.proofs.Walked.{one-leaf, leaves-none, leaves-more, stepped-place}
 use Rattle.driver.specs.Lends.{givenOf, stateOf, Drawn, PlanesAsked, Told, Ended}
@@ -38,6 +40,17 @@ module _ {w h : ℕ} {constrained : Bool} {leaves : List ℕ} {residual : List �
         u-asked = asked-u _ x z side _ ga sa b;
         v-asked = asked-v _ x z side _ ga sa b;
       }
+
+-- the components one after another, each where the one before ended in the residual list
+module _ (g : Given) (x z side kind mask at : ℕ) (words y u v : List ℕ) {y′ u′ v′ : List ℕ} {coded-y coded-u coded-v : Bool} {a b end : ℕ} where
+  pub planes-drawn : coded-y ≡ codedY mask → coded-u ≡ codedU mask → coded-v ≡ codedV mask
+      → (y′ ≡ componentOf g Luma x z side kind (g .pred-y) coded-y at y words) × (a ≡ at + residualCount Luma coded-y side)
+      → (u′ ≡ componentOf g Chroma x z side kind (g .pred-u) coded-u a u words) × (b ≡ a + residualCount Chroma coded-u side)
+      → (v′ ≡ componentOf g Chroma x z side kind (g .pred-v) coded-v b v words) × (end ≡ b + residualCount Chroma coded-v side) → Drawn g x z side kind mask at words y u v y′ u′ v′ end
+  planes-drawn ey eu ev p q r =
+      let first : a ≡ startU at mask side = p .1 ∙ rw ey in
+      let second : b ≡ startV at mask side = q .1 ∙ rw (first, eu) in
+      record { y-drawn = p .0 ∙ rw ey; u-drawn = q .0 ∙ rw (first, eu); v-drawn = r .0 ∙ rw (second, ev); ends = r .1 ∙ rw (second, ev) }
 
 pub told : (w h x z side : ℕ) (words modes : List ℕ) → sizeOk w h ≡ true → blockOk w h x z side ≡ true → length words ≡ unitCount w h → length modes ≡ unitCount w h → Told (w / 4) (x / 4) (z / 4) (side / 4) words modes
 told w h x z side words modes s b e f =

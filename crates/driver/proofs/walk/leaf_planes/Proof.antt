@@ -1,8 +1,11 @@
 -- `driver::walk::leaf_planes` meets its contract: the three components, each where the one before ended in the residual list. Assumes nothing.
 use mathlib.Core.Path.{_≡_, _∙_}
+use mathlib.Core.List.{[]}
 use native.Mathlib.Omega.{arith}
 use borrow.Author.Needs.{needs}
 use Rattle.driver_rules.specs.Records.{startU, startV}
+use Rattle.driver.specs.Lends.{givenOf}
+use Rattle.driver.proofs.Leaves.{planes-drawn}
 use Rattle.driver.proofs.walk.leaf_planes.Statement.{statement}
 use Rattle.driver.proofs.walk.leaf_planes.Tie as tie
 
@@ -30,15 +33,13 @@ component-requires-3 c κs =
 
 returns : tie.Need-returns
 returns c =
-    record {
-      y-drawn = c .before .before .before .before .before .before .before .before .before .before .before .before .component .ensures .0 ∙ rw (c .before .before .before .before .before .before .before .before .before .before .before .before .before .before .coded-y .ensures);
-      u-drawn = c .before .before .before .before .before .before .before .component2 .ensures .0 ∙ rw (c .before .before .before .before .before .before .before .before .before .coded-u .ensures, first-end (c .before .before .before .before .before .before .before .before .before .before .before .before));
-      v-drawn = c .before .before .component3 .ensures .0 ∙ rw (c .before .before .before .before .coded-v .ensures, second-end (c .before .before .before .before .before .before .before));
-      ends = c .before .before .component3 .ensures .1 ∙ rw (c .before .before .before .before .coded-v .ensures, second-end (c .before .before .before .before .before .before .before));
-    }
+    let s = c .before .before .before .before .before .before .before .before .before .before .before .before .before .before .before .before .before .before .before .before .before .before .before .before in
+    let a = s .args in
+    planes-drawn (givenOf (a .w) (a .h) (a .constrained) [] (a .residual .now) (a .pred-y .now) (a .pred-u .now) (a .pred-v .now)) (a .leaf .x .0) (a .leaf .z .0) (a .leaf .side) (a .said .kind) (a .said .mask) (a .at) (a .map-scu .now) (a .y .now) (a .u .now) (a .v .now)
+    (c .before .before .before .before .before .before .before .before .before .before .before .before .before .before .coded-y .ensures) (c .before .before .before .before .before .before .before .before .before .coded-u .ensures) (c .before .before .before .before .coded-v .ensures) (c .before .before .before .before .before .before .before .before .before .before .before .before .component .ensures) (c .before .before .before .before .before .before .before .component2 .ensures) (c .before .before .component3 .ensures)
 
 pub leaf-planes-spec : {M : Type 1} → statement M
 leaf-planes-spec =
     tie.close
     (tie.spec (λ c κs. search needs) component-requires (λ c κs. search needs) component-requires-2 (λ c κs. search needs) component-requires-3
-    (λ c. search needs) (λ c. search needs) (λ c. search needs) returns)
+    (λ c. c .before .before .before .before .before .before .before .before .before .before .before .before .component .kept .1 .1 .1 .1 .1 .1 .1 .0) (λ c. c .before .before .before .before .before .before .before .component2 .kept .1 .1 .1 .1 .1 .1 .1 .0) (λ c. c .before .before .component3 .kept .1 .1 .1 .1 .1 .1 .1 .0) returns)
