@@ -88,8 +88,8 @@ module _ (g : Given) {x z side kind qp mask at end : ℕ} {y u v words modes y�
       let n : k + (j + 1) ≡ k + j + 1 = omega arith in
       let one = one-leaf g x z side _ _ ga (a .asked) b drawn in
       rw n (leaves-more g list j s _ _ a (rw (place .0, place .1, place .2) at one)) where
-    drawn : stateOf y′ u′ v′ words′ modes′ end (k + j + 1) ≡ stepAt g x z side (stateOf y u v words modes at (k + j))
-    drawn = rw (d .y-drawn, d .u-drawn, d .v-drawn, d .ends, t .0, t .1, e .0, e .1, e .2)
+        drawn : stateOf y′ u′ v′ words′ modes′ end (k + j + 1) ≡ stepAt g x z side (stateOf y u v words modes at (k + j))
+        drawn = rw (d .y-drawn, d .u-drawn, d .v-drawn, d .ends, t .0, t .1, e .0, e .1, e .2)
 
 -- lengths stay
 pub record Kept (s t : State) : Type 0 where
