@@ -1,7 +1,8 @@
 -- The lanes of a unit's edge.
 --     line-inside    a line lies no further than the last
 --     gather-none, gather-more    lines of a plane become lanes, one after the other
---     quiet-unit, lanes-unit    a unit's edge at no strength, and by its lanes
+--     quiet-unit    a unit's edge at no strength
+--     lanes-filtered, filtered-unit    and by its lanes, filtered and written back
 -- Assumes nothing.
 use Prim.Native.Nat.{ℕ, zero, suc, _+_, _-_, _*_, _≤_, _<_}
 use mathlib.Core.Path.{_≡_, refl, sym, ap, _∙_}
@@ -17,17 +18,16 @@ use native.Mathlib.Decide.{decLt}
 use native.Mathlib.Nat.{mul-le-mul-right}
 use native.Mathlib.Omega.{arith}
 use lib.ListN.{length, getD}
-use Rattle.line.specs.declared.Mask.{Mask}
 use Rattle.line.specs.declared.Quad.{Quad}
 use Rattle.lanes.specs.Lanes.{laneOf, heldLine, lanesOf}
 use Rattle.lanes.proofs.ByLane.{laid, own-lane, other-lane, lane-of, on-samples}
 use Rattle.df_rules.specs.Lanes.{samplesAt, putLines}
-use Rattle.df_rules.specs.Window.{quadAt, windowAt}
+use Rattle.df_rules.specs.Window.{quadAt}
 use Rattle.df_rules.proofs.Lanes.{window-put}
 use Rattle.df_rules.proofs.Windows.{untouched}
 use Rattle.df.specs.declared.window.Place.{Place}
 use Rattle.df.specs.declared.window.Strengths.{Strengths}
-use Rattle.df.specs.Edges.{Inside, Lying, Gathered, Windowed}
+use Rattle.df.specs.Edges.{Inside, Lying, Gathered, Filtered, Windowed}
 
 pub line-inside : (p : Place) (n k : ℕ) (xs : List ℕ) → Inside p (n - 1) xs → k < n → Inside p k xs
 line-inside p n k xs h l = let m : k * p .next ≤ (n - 1) * p .next = mul-le-mul-right (p .next) (omega arith) in omega arith
@@ -50,21 +50,16 @@ gather-more p xs t r first k q h e s g =
           let n : j ≡ k = omega arith in
           rw n (own-lane r (first + k) q h e ∙ s)
 
--- the lanes of t from `first` on hold n lines of the plane xs, and have its strength
-plane-window : (m : Mask) (p : Place) (st first n : ℕ) (xs t sts r ys : List ℕ) → Lying p n xs → first + n ≤ 8
+-- the lanes of t from `first` on hold n lines of the plane xs, and have its strength: what they become
+became : (p : Place) (st first n : ℕ) (xs t sts r : List ℕ) → Lying p n xs → first + n ≤ 8
     → ((k : ℕ) → k < n → laneOf t (first + k) ≡ samplesAt (p .step) (p .at + k * p .next) xs)
     → ((k : ℕ) → k < n → getD sts (first + k) 0 ≡ st)
-    → r ≡ lanesOf t sts → ys ≡ putLines m (λ (k : ℕ). laneOf r (first + k)) (p .step) (p .next) (p .at) n xs
-    → ys ≡ windowAt m st (p .step) (p .next) (p .at) n xs
-plane-window m p st first n xs t sts r ys g h held strong e w =
-    w ∙ window-put m (λ (k : ℕ). laneOf r (first + k)) st (p .step) (p .next) (p .at) n xs (g .apart) (g .all) became
-  where
-    became : (k : ℕ) → k < n → laneOf r (first + k) ≡ quadAt st (p .step) (p .at + k * p .next) xs
-    became k l =
-        let i = p .at + k * p .next in
-        ap (λ (s : List ℕ). laneOf s (first + k)) e ∙ lane-of t sts (first + k) (omega arith)
-        ∙ (λ j. heldLine (held k l j) (strong k l j))
-        ∙ on-samples _ _ _ _ st (g .all i) (g .all (i + p .step)) (g .all (i + 2 * p .step)) (g .all (i + 3 * p .step))
+    → r ≡ lanesOf t sts → (k : ℕ) → k < n → laneOf r (first + k) ≡ quadAt st (p .step) (p .at + k * p .next) xs
+became p st first n xs t sts r g h held strong e k l =
+    let i = p .at + k * p .next in
+    ap (λ (s : List ℕ). laneOf s (first + k)) e ∙ lane-of t sts (first + k) (omega arith)
+    ∙ (λ j. heldLine (held k l j) (strong k l j))
+    ∙ on-samples _ _ _ _ st (g .all i) (g .all (i + p .step)) (g .all (i + 2 * p .step)) (g .all (i + 3 * p .step))
 
 -- ---- a unit's edge
 
@@ -103,20 +98,23 @@ each-v st zero h = refl
 each-v st (suc zero) h = refl
 each-v st (suc (suc k)) h = absurd (omega arith)
 
--- y, u and v gathered one after the other into t, filtered, and written back
-pub lanes-unit : (luma chroma : Place) (st : Strengths) (m n : Mask) (y u v y₁ u₁ v₁ o ty tu t r : List ℕ)
-    → Lying luma 4 y → Lying chroma 2 u → Lying chroma 2 v
-    → Gathered luma y o 0 4 ty → Gathered chroma u ty 4 2 tu → Gathered chroma v tu 6 2 t → r ≡ lanesOf t (strengthsOf st)
-    → m ≡ maskOf Luma → n ≡ maskOf Chroma
-    → y₁ ≡ putLines m (λ (k : ℕ). laneOf r (0 + k)) (luma .step) (luma .next) (luma .at) 4 y
-    → u₁ ≡ putLines n (λ (k : ℕ). laneOf r (4 + k)) (chroma .step) (chroma .next) (chroma .at) 2 u
-    → v₁ ≡ putLines n (λ (k : ℕ). laneOf r (6 + k)) (chroma .step) (chroma .next) (chroma .at) 2 v
+-- y, u and v gathered one after the other into t, and filtered
+pub lanes-filtered : (luma chroma : Place) (st : Strengths) (y u v o ty tu t r : List ℕ) → Lying luma 4 y → Lying chroma 2 u → Lying chroma 2 v
+    → Gathered luma y o 0 4 ty → Gathered chroma u ty 4 2 tu → Gathered chroma v tu 6 2 t → r ≡ lanesOf t (strengthsOf st) → Filtered luma chroma st y u v r
+lanes-filtered luma chroma st y u v o ty tu t r ly lu lv gy gu gv e = record {
+  y = became luma (st .y) 0 4 y t (strengthsOf st) r ly (omega arith) (λ k h. gv .before (0 + k) (omega arith) ∙ gu .before (0 + k) (omega arith) ∙ gy .lines k h) (each-y st) e;
+  u = became chroma (st .u) 4 2 u t (strengthsOf st) r lu (omega arith) (λ k h. gv .before (4 + k) (omega arith) ∙ gu .lines k h) (each-u st) e;
+  v = became chroma (st .v) 6 2 v t (strengthsOf st) r lv (omega arith) (gv .lines) (each-v st) e;
+}
+
+-- and written back
+pub filtered-unit : (luma chroma : Place) (st : Strengths) (y u v y₁ u₁ v₁ r : List ℕ) → Lying luma 4 y → Lying chroma 2 u → Lying chroma 2 v → Filtered luma chroma st y u v r
+    → y₁ ≡ putLines (maskOf Luma) (λ (k : ℕ). laneOf r (0 + k)) (luma .step) (luma .next) (luma .at) 4 y
+    → u₁ ≡ putLines (maskOf Chroma) (λ (k : ℕ). laneOf r (4 + k)) (chroma .step) (chroma .next) (chroma .at) 2 u
+    → v₁ ≡ putLines (maskOf Chroma) (λ (k : ℕ). laneOf r (6 + k)) (chroma .step) (chroma .next) (chroma .at) 2 v
     → Windowed luma chroma st y u v y₁ u₁ v₁
-lanes-unit luma chroma st m n y u v y₁ u₁ v₁ o ty tu t r ly lu lv gy gu gv e em en py pu pv = record {
-  y = plane-window m luma (st .y) 0 4 y t (strengthsOf st) r y₁ ly (omega arith) (λ k h. gv .before (0 + k) (omega arith) ∙ gu .before (0 + k) (omega arith) ∙ gy .lines k h) (each-y st) e py
-      ∙ ap (λ (w : Mask). windowAt w (st .y) (luma .step) (luma .next) (luma .at) 4 y) em;
-  u = plane-window n chroma (st .u) 4 2 u t (strengthsOf st) r u₁ lu (omega arith) (λ k h. gv .before (4 + k) (omega arith) ∙ gu .lines k h) (each-u st) e pu
-      ∙ ap (λ (w : Mask). windowAt w (st .u) (chroma .step) (chroma .next) (chroma .at) 2 u) en;
-  v = plane-window n chroma (st .v) 6 2 v t (strengthsOf st) r v₁ lv (omega arith) (gv .lines) (each-v st) e pv
-      ∙ ap (λ (w : Mask). windowAt w (st .v) (chroma .step) (chroma .next) (chroma .at) 2 v) en;
+filtered-unit luma chroma st y u v y₁ u₁ v₁ r ly lu lv f py pu pv = record {
+  y = py ∙ window-put (maskOf Luma) (λ (k : ℕ). laneOf r (0 + k)) (st .y) (luma .step) (luma .next) (luma .at) 4 y (ly .apart) (ly .all) (f .y);
+  u = pu ∙ window-put (maskOf Chroma) (λ (k : ℕ). laneOf r (4 + k)) (st .u) (chroma .step) (chroma .next) (chroma .at) 2 u (lu .apart) (lu .all) (f .u);
+  v = pv ∙ window-put (maskOf Chroma) (λ (k : ℕ). laneOf r (6 + k)) (st .v) (chroma .step) (chroma .next) (chroma .at) 2 v (lv .apart) (lv .all) (f .v);
 }

@@ -2,7 +2,7 @@
 --     row-none, row-more    a loop that writes a row
 --     rows-lines     four rows, written one after the other, are their lines
 --     rows-copied    so are four rows that are copied
---     rows-unit      a unit's edge by its rows
+--     rows-filtered    a unit's edge, filtered by its rows
 --     beside-pass    in which pass a unit's lines lie side by side
 -- Assumes nothing.
 use Prim.Native.Nat.{ℕ, zero, suc, _+_, _*_, _≤_, _<_}
@@ -25,9 +25,9 @@ use Rattle.df_rules.specs.Lanes.{samplesAt, putLine, putLines}
 use Rattle.df_rules.specs.Window.{putIf}
 use Rattle.df.specs.declared.window.Place.{Place}
 use Rattle.df.specs.declared.window.Strengths.{Strengths}
-use Rattle.df.specs.Edges.{placeOf, Beside, Lying, Gathered, Windowed}
+use Rattle.df.specs.Edges.{placeOf, Beside, Lying, Gathered, Filtered}
 use Rattle.df.specs.Rows.{putRow, putRowIf}
-use Rattle.df.proofs.Lanes.{gather-none, gather-more, strengthsOf, lanes-unit}
+use Rattle.df.proofs.Lanes.{gather-none, gather-more, strengthsOf, lanes-filtered}
 
 -- ---- a row
 
@@ -152,25 +152,20 @@ gathered : (all : Mask) (p : Place) (xs t r : List ℕ) (first n : ℕ) → all 
 gathered all p xs t r first n m e h l w =
     subst (Gathered p xs t first n) (sym (w ∙ ap (λ (a : Mask). putLines a (λ (k : ℕ). samplesAt (p .step) (p .at + k) xs) 8 1 first n t) m)) (lanes-put p xs t first n e h l)
 
--- y, u and v copied by their rows into t, filtered, and copied back
-pub rows-unit : (luma chroma : Place) (st : Strengths) (all inner : Mask) (y u v y₁ u₁ v₁ o ty tu t r : List ℕ)
-    → Beside luma 4 → Beside chroma 2 → Lying luma 4 y → Lying chroma 2 u → Lying chroma 2 v → all ≡ maskOf Luma → inner ≡ maskOf Chroma → length o ≡ 32
+-- y, u and v copied by their rows into t, and filtered
+pub rows-filtered : (luma chroma : Place) (st : Strengths) (all : Mask) (y u v o ty tu t r : List ℕ)
+    → Beside luma 4 → Beside chroma 2 → Lying luma 4 y → Lying chroma 2 u → Lying chroma 2 v → all ≡ maskOf Luma → length o ≡ 32
     → ty ≡ putLines all (λ (k : ℕ). samplesAt (luma .step) (luma .at + k) y) 8 1 0 4 o
     → tu ≡ putLines all (λ (k : ℕ). samplesAt (chroma .step) (chroma .at + k) u) 8 1 4 2 ty
     → t ≡ putLines all (λ (k : ℕ). samplesAt (chroma .step) (chroma .at + k) v) 8 1 6 2 tu
-    → r ≡ lanesOf t (strengthsOf st)
-    → y₁ ≡ putLines all (λ (k : ℕ). laneOf r (0 + k)) (luma .step) 1 (luma .at) 4 y
-    → u₁ ≡ putLines inner (λ (k : ℕ). laneOf r (4 + k)) (chroma .step) 1 (chroma .at) 2 u
-    → v₁ ≡ putLines inner (λ (k : ℕ). laneOf r (6 + k)) (chroma .step) 1 (chroma .at) 2 v
-    → Windowed luma chroma st y u v y₁ u₁ v₁
-rows-unit luma chroma st all inner y u v y₁ u₁ v₁ o ty tu t r by bc ly lu lv ea ei l gy gu gv e py pu pv =
+    → r ≡ lanesOf t (strengthsOf st) → Filtered luma chroma st y u v r
+rows-filtered luma chroma st all y u v o ty tu t r by bc ly lu lv ea l gy gu gv e =
     let ly₁ : length ty ≡ 32 = ap length gy ∙ lines-long all _ 8 1 0 4 o ∙ l in
     let lu₁ : length tu ≡ 32 = ap length gu ∙ lines-long all _ 8 1 4 2 ty ∙ ly₁ in
-    lanes-unit luma chroma st all inner y u v y₁ u₁ v₁ o ty tu t r ly lu lv
+    lanes-filtered luma chroma st y u v o ty tu t r ly lu lv
     (gathered all luma y o ty 0 4 ea (by .beside) (omega arith) l gy)
     (gathered all chroma u ty tu 4 2 ea (bc .beside) (omega arith) ly₁ gu)
-    (gathered all chroma v tu t 6 2 ea (bc .beside) (omega arith) lu₁ gv) e ea ei
-    (rw (by .beside) py) (rw (bc .beside) pu) (rw (bc .beside) pv)
+    (gathered all chroma v tu t 6 2 ea (bc .beside) (omega arith) lu₁ gv) e
 
 -- only the horizontal pass has lines side by side: in the vertical the next one lies a row further on, which is an even number of samples
 pub beside-pass : (d : Pass) (w h c a : ℕ) (luma chroma : Place) → a < unitsAlong d w h → luma ≡ placeOf d (4 * w) (4 * c) (4 * a) → chroma ≡ placeOf d (2 * w) (2 * c) (2 * a)

@@ -18,7 +18,7 @@ use Rattle.df_rules.specs.Lanes.{samplesAt, Apart}
 use Rattle.df_rules.specs.Places.{stepAcross, stepAlong, lineStart}
 use Rattle.df_rules.specs.Strength.{Maps, strengthOf}
 use Rattle.df_rules.specs.Visit.{Block}
-use Rattle.df_rules.specs.Window.{windowAt, Samples}
+use Rattle.df_rules.specs.Window.{quadAt, windowAt, Samples}
 use Rattle.df.specs.declared.edge.Pass as code
 use Rattle.df.specs.declared.edge.Pass.the-variants.{Vertical, Horizontal}
 use Rattle.df.specs.declared.edge.Side.{Side}
@@ -59,6 +59,12 @@ pub record Lying (p : Place) (n : ℕ) (xs : List ℕ) : Type 0 where
 pub record Gathered (p : Place) (xs t : List ℕ) (first n : ℕ) (r : List ℕ) : Type 0 where
   pub lines : (k : ℕ) → k < n → laneOf r (first + k) ≡ samplesAt (p .step) (p .at + k * p .next) xs
   pub before : (j : ℕ) → j < first → laneOf r j ≡ laneOf t j
+
+-- the lanes of r are what the lines of a unit's edge become: four of luma, two of each chroma plane
+pub record Filtered (luma chroma : Place) (st : Strengths) (y₀ u₀ v₀ r : List ℕ) : Type 0 where
+  pub y : (k : ℕ) → k < 4 → laneOf r (0 + k) ≡ quadAt (st .y) (luma .step) (luma .at + k * luma .next) y₀
+  pub u : (k : ℕ) → k < 2 → laneOf r (4 + k) ≡ quadAt (st .u) (chroma .step) (chroma .at + k * chroma .next) u₀
+  pub v : (k : ℕ) → k < 2 → laneOf r (6 + k) ≡ quadAt (st .v) (chroma .step) (chroma .at + k * chroma .next) v₀
 
 -- a unit's edge in all three planes: four lines of luma, two of each chroma plane
 pub record Windowed (luma chroma : Place) (st : Strengths) (y₀ u₀ v₀ y₁ u₁ v₁ : List ℕ) : Type 0 where

@@ -2,9 +2,11 @@
 // The Rust beside it: df.rs, evc_get_tbl_qp_to_st and the loops of evc_deblock_cu_hor and evc_deblock_cu_ver.
 ghost use mathlib.Core.Path.{_≡_};
 ghost use Prim.Native.Nat.{_+_, _-_, _*_, _/_, _≤_, _<_};
+ghost use lib.Dec.{eqb};
 ghost use lib.ListN.{length, getD};
 ghost use mathlib.Core.List.{[], _∷_};
 ghost use mathlib.Core.Bool.{true};
+ghost use Rattle.laws.specs.Call.{allOf};
 ghost use Rattle.laws.specs.Index.{pick};
 ghost use Rattle.split.specs.Edges.{edgeAt, stretch};
 ghost use Rattle.df_rules.specs.Strength.{motionAt, rowAt};
@@ -14,7 +16,9 @@ ghost use Rattle.df_rules.specs.Frame.{Unit, Frame, AtUnit, AtUnits, Gone};
 ghost use Rattle.df.specs.Edges.{Strong, passOf, placeOf};
 use crate::window::Place;
 use crate::window::Strengths;
-use crate::window::unit;
+use crate::window::filter;
+use crate::window::put_chroma;
+use crate::window::put_luma;
 use def::Pel;
 use def::get_cbfl;
 use def::get_if;
@@ -144,7 +148,15 @@ pub(crate) struct Size {
     pub(crate) rows: usize,
 }
 
-// One unit's edge in all three planes: `across` and `along` are those of Q's first luma sample.
+// Whether no plane has a strength.
+fn quiet(st: Strengths) -> bool
+    ensures { λ r. ⌜ r ≡ allOf (eqb (st .y) 0 ∷ eqb (st .u) 0 ∷ eqb (st .v) 0 ∷ []) ⌝ }
+{
+    (st.y == 0) & (st.u == 0) & (st.v == 0)
+}
+
+// One unit's edge in all three planes: `across` and `along` are those of Q's first luma sample. Strength 0 leaves a window untouched, and so does
+// filtering its samples at 0. In the horizontal pass the lines lie side by side.
 fn edge(
     pass: Pass,
     size: Size,
@@ -171,9 +183,16 @@ fn edge(
     let q = unit_at(pass, columns, across, along);
     let p = q - step_across(pass, columns);
     let st = strengths_at(words, motion, refs, entries, q, p);
+    if quiet(st) {
+        return;
+    }
     let luma = place(pass, 4 * columns, x, z);
     let chroma = place(pass, 2 * columns, x / 2, z / 2);
-    unit(y, u, v, luma, chroma, st);
+    let rows = luma.next == 1;
+    let t = filter(rows, &*y, &*u, &*v, luma, chroma, st);
+    put_luma(rows, y, &t, luma);
+    put_chroma(rows, u, &t, 4, chroma);
+    put_chroma(rows, v, &t, 6, chroma);
 }
 
 // The edges of a block's side: those of n units, where `go` holds; the first lies at `across` and `along`.

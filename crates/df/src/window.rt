@@ -1,16 +1,16 @@
-// One unit's edge in all three planes: its lines gathered into eight lanes, filtered side by side and written back. Luma and chroma, both directions:
+// The lines of a unit's edge in all three planes: gathered into eight lanes, filtered side by side, and written back. Luma and chroma, both directions:
 // line by line, or row by row where the lines lie side by side.
 // The Rust beside it: df.rs, deblock_scu_hor_luma, deblock_scu_hor_chroma, deblock_scu_ver_luma, deblock_scu_ver_chroma.
 ghost use mathlib.Core.Path.{_≡_};
-ghost use mathlib.Core.List.{[], _∷_};
+ghost use mathlib.Core.Bool.{true};
 ghost use Prim.Native.Nat.{_+_, _-_, _*_, _≤_, _<_};
-ghost use lib.Dec.{eqb};
 ghost use lib.ListN.{length, getD};
-ghost use Rattle.laws.specs.Call.{allOf};
+ghost use Rattle.def.specs.declared.Component.the-variants.{Luma, Chroma};
+ghost use Rattle.line.specs.Line.{maskOf};
 ghost use Rattle.lanes.specs.Lanes.{laneOf};
 ghost use Rattle.df_rules.specs.Window.{putIf};
 ghost use Rattle.df_rules.specs.Lanes.{samplesAt, putLine, putLines};
-ghost use Rattle.df.specs.Edges.{Inside, Beside, Lying, Gathered, Windowed};
+ghost use Rattle.df.specs.Edges.{Inside, Beside, Lying, Gathered, Filtered};
 ghost use Rattle.df.specs.Rows.{putRow, putRowIf};
 use def::Component;
 use line::Mask;
@@ -157,73 +157,73 @@ fn copy_rows(
 
 // ---- a unit's edge
 
-// Four lines of luma, two of each chroma plane.
-fn unit_lines(
-    y: &mut [u16],
-    u: &mut [u16],
-    v: &mut [u16],
+// What the lanes become where the lines lie side by side. A row has 4 samples in luma and 2 in chroma, numbers that stand here for the compiler to
+// see: it copies such a row at once.
+fn filter_rows(
+    y: &[u16],
+    u: &[u16],
+    v: &[u16],
     luma: Place,
     chroma: Place,
     st: Strengths,
-)
-    requires { ⌜ Lying luma 4 (now y) × Lying chroma 2 (now u) × Lying chroma 2 (now v) ⌝ }
-    ensures { λ _. ⌜ Windowed luma chroma st (now (y .entry)) (now (u .entry)) (now (v .entry)) (now (y .exit)) (now (u .exit)) (now (v .exit)) ⌝ }
-{
-    let ty = gather([0; 32], &*y, 0, 4, luma);
-    let tu = gather(ty, &*u, 4, 2, chroma);
-    let t = gather(tu, &*v, 6, 2, chroma);
-    let r = lanes::lanes(t, [st.y, st.y, st.y, st.y, st.u, st.u, st.v, st.v]);
-    let inner = line::mask_of(Component::Chroma);
-    scatter(y, line::mask_of(Component::Luma), &r, 0, 4, luma);
-    scatter(u, inner, &r, 4, 2, chroma);
-    scatter(v, inner, &r, 6, 2, chroma);
-}
-
-// The same where they lie side by side. A row has 4 samples in luma and 2 in chroma, numbers that stand here for the compiler to see: it copies
-// such a row at once.
-fn unit_rows(y: &mut [u16], u: &mut [u16], v: &mut [u16], luma: Place, chroma: Place, st: Strengths)
+) -> [u16; 32]
     requires { ⌜ Beside luma 4 × Beside chroma 2 ⌝ }
     requires { ⌜ Lying luma 4 (now y) × Lying chroma 2 (now u) × Lying chroma 2 (now v) ⌝ }
-    ensures { λ _. ⌜ Windowed luma chroma st (now (y .entry)) (now (u .entry)) (now (v .entry)) (now (y .exit)) (now (u .exit)) (now (v .exit)) ⌝ }
+    ensures { λ r. ⌜ Filtered luma chroma st (now (y .entry)) (now (u .entry)) (now (v .entry)) r ⌝ }
 {
     let all = line::mask_of(Component::Luma);
-    let inner = line::mask_of(Component::Chroma);
     let mut t = [0u16; 32];
-    copy_rows(&mut t, all, 0, 8, &*y, luma.at, luma.step, 4);
-    copy_rows(&mut t, all, 4, 8, &*u, chroma.at, chroma.step, 2);
-    copy_rows(&mut t, all, 6, 8, &*v, chroma.at, chroma.step, 2);
-    let r = lanes::lanes(t, [st.y, st.y, st.y, st.y, st.u, st.u, st.v, st.v]);
-    copy_rows(y, all, luma.at, luma.step, &r, 0, 8, 4);
-    copy_rows(u, inner, chroma.at, chroma.step, &r, 4, 8, 2);
-    copy_rows(v, inner, chroma.at, chroma.step, &r, 6, 8, 2);
+    copy_rows(&mut t, all, 0, 8, y, luma.at, luma.step, 4);
+    copy_rows(&mut t, all, 4, 8, u, chroma.at, chroma.step, 2);
+    copy_rows(&mut t, all, 6, 8, v, chroma.at, chroma.step, 2);
+    lanes::lanes(t, [st.y, st.y, st.y, st.y, st.u, st.u, st.v, st.v])
 }
 
-// Whether no plane has a strength.
-fn quiet(st: Strengths) -> bool
-    ensures { λ r. ⌜ r ≡ allOf (eqb (st .y) 0 ∷ eqb (st .u) 0 ∷ eqb (st .v) 0 ∷ []) ⌝ }
-{
-    (st.y == 0) & (st.u == 0) & (st.v == 0)
-}
-
-// Strength 0 leaves a window untouched, and so does filtering its samples at 0. In the horizontal pass the lines lie side by side.
-pub(crate) fn unit(
-    y: &mut [u16],
-    u: &mut [u16],
-    v: &mut [u16],
+// The same in either pass: four lines of luma, two of each chroma plane.
+pub(crate) fn filter(
+    rows: bool,
+    y: &[u16],
+    u: &[u16],
+    v: &[u16],
     luma: Place,
     chroma: Place,
     st: Strengths,
-)
-    requires { ⌜ (luma .next ≡ 1 → Beside luma 4 × Beside chroma 2) ⌝ }
+) -> [u16; 32]
+    requires { ⌜ (rows ≡ true → Beside luma 4 × Beside chroma 2) ⌝ }
     requires { ⌜ Lying luma 4 (now y) × Lying chroma 2 (now u) × Lying chroma 2 (now v) ⌝ }
-    ensures { λ _. ⌜ Windowed luma chroma st (now (y .entry)) (now (u .entry)) (now (v .entry)) (now (y .exit)) (now (u .exit)) (now (v .exit)) ⌝ }
+    ensures { λ r. ⌜ Filtered luma chroma st (now (y .entry)) (now (u .entry)) (now (v .entry)) r ⌝ }
 {
-    if quiet(st) {
+    if rows {
+        return filter_rows(y, u, v, luma, chroma, st);
+    }
+    let ty = gather([0; 32], y, 0, 4, luma);
+    let tu = gather(ty, u, 4, 2, chroma);
+    let t = gather(tu, v, 6, 2, chroma);
+    lanes::lanes(t, [st.y, st.y, st.y, st.y, st.u, st.u, st.v, st.v])
+}
+
+// The lanes back into luma.
+pub(crate) fn put_luma(rows: bool, y: &mut [u16], t: &[u16; 32], p: Place)
+    requires { ⌜ (rows ≡ true → Beside p 4) × Inside p 3 (now y) ⌝ }
+    ensures { λ _. ⌜ now (y .exit) ≡ putLines (maskOf Luma) (λ k. laneOf (now (t .entry)) (0 + k)) (p .step) (p .next) (p .at) 4 (now (y .entry)) ⌝ }
+{
+    let all = line::mask_of(Component::Luma);
+    if rows {
+        copy_rows(y, all, p.at, p.step, t, 0, 8, 4);
         return;
     }
-    if luma.next == 1 {
-        unit_rows(y, u, v, luma, chroma, st);
+    scatter(y, all, t, 0, 4, p);
+}
+
+// And into a chroma plane, whose two start at `first`.
+pub(crate) fn put_chroma(rows: bool, u: &mut [u16], t: &[u16; 32], first: usize, p: Place)
+    requires { ⌜ (rows ≡ true → Beside p 2) × Inside p 1 (now u) × (first ≤ 6) ⌝ }
+    ensures { λ _. ⌜ now (u .exit) ≡ putLines (maskOf Chroma) (λ k. laneOf (now (t .entry)) (first + k)) (p .step) (p .next) (p .at) 2 (now (u .entry)) ⌝ }
+{
+    let inner = line::mask_of(Component::Chroma);
+    if rows {
+        copy_rows(u, inner, p.at, p.step, t, first, 8, 2);
         return;
     }
-    unit_lines(y, u, v, luma, chroma, st);
+    scatter(u, inner, t, first, 2, p);
 }

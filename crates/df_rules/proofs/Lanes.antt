@@ -1,5 +1,6 @@
 -- Lines read at once and then written.
 --     at-once       of lines that share no place, filtered so or one after the other
+--     line-put      a line written sample by sample
 --     put-more      a loop that writes lines
 --     window-put    on samples that is their window, at strength 0 too
 --     apart-pass    the lines of a unit's edge share no place
@@ -119,6 +120,12 @@ lines-window m st step next at n xs h =
     (λ t. touched m st step next at n xs (eqb-false st 0 t))
 
 -- ---- the window
+
+-- one line, sample by sample
+pub line-put : (m : Mask) (step at : ℕ) (q : Quad) (xs x₁ x₂ x₃ x₄ : List ℕ) → x₁ ≡ putIf (m .a) at (q .a) xs → x₂ ≡ putIf (m .b) (at + step) (q .b) x₁
+    → x₃ ≡ putIf (m .c) (at + 2 * step) (q .c) x₂ → x₄ ≡ putIf (m .d) (at + 3 * step) (q .d) x₃ → x₄ ≡ putLine m step at q xs
+line-put m step at q xs x₁ x₂ x₃ x₄ a b c d =
+    d ∙ ap (putIf (m .d) (at + 3 * step) (q .d)) (c ∙ ap (putIf (m .c) (at + 2 * step) (q .c)) (b ∙ ap (putIf (m .b) (at + step) (q .b)) a))
 
 -- one line more
 pub put-more : (m : Mask) (q : ℕ → Quad) (step next at k : ℕ) (r : Quad) (xs ys zs : List ℕ) → r ≡ q k → ys ≡ putLines m q step next at k xs
