@@ -14,11 +14,11 @@ use native.Mathlib.Numerals.{add-one}
 use native.Mathlib.Omega.{arith}
 use lib.ListN.{length, getD, set, length-set}
 use lib.Seq.{set-comm}
-use Rattle.def.specs.declared.Component.the-variants.{Luma, Chroma}
+use Rattle.def.specs.declared.Component.the-variants.{Luma}
 use Rattle.line.specs.declared.Mask.{Mask}
 use Rattle.line.specs.declared.Quad.{Quad}
 use Rattle.line.specs.Line.{maskOf}
-use Rattle.lanes.specs.Lanes.{laneOf, lanesOf}
+use Rattle.lanes.specs.Lanes.{lanesOf}
 use Rattle.split.specs.Edges.{Pass, vertical, horizontal}
 use Rattle.df_rules.specs.Frame.{unitsAlong}
 use Rattle.df_rules.specs.Lanes.{samplesAt, putLine, putLines}

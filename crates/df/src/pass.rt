@@ -143,7 +143,8 @@ fn second_side(pass: Pass, size: Size, words: &[u32], cu: Cu) -> Side
     }
 }
 
-// evc_deblock_cu_ver, evc_deblock_cu_hor, their edges: one side, then the other. The answer is the count, with these counted.
+// evc_deblock_cu_ver, evc_deblock_cu_hor, their edges: one side, then the other, which the horizontal pass does not have. The answer is the count, with
+// these counted.
 fn edges_cu(
     pass: Pass,
     size: Size,
@@ -178,19 +179,10 @@ fn edges_cu(
         first,
         count,
     );
-    edges(
-        pass,
-        size,
-        &mut *y,
-        &mut *u,
-        &mut *v,
-        words,
-        motion,
-        refs,
-        entries,
-        second,
-        n,
-    )
+    if second.go {
+        return edges(pass, size, y, u, v, words, motion, refs, entries, second, n);
+    }
+    n
 }
 
 // ---- a leaf

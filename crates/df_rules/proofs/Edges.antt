@@ -3,7 +3,7 @@
 use Prim.Native.Nat.{ℕ, zero, suc, _+_, _-_, _*_, _/_, _≤_, _<_}
 use mathlib.Core.Path.{_≡_, refl, sym, ap, _∙_, subst}
 use mathlib.Core.Bool.{Bool, true, false, _&&_}
-use mathlib.Core.List.{List, [], _∷_, _++_}
+use mathlib.Core.List.{List, [], _∷_, _++_, append-nil}
 use native.Mathlib.Nat.{mul-le-mul-left, mul-le-mul-right, mul-one, add-mul, mul-suc, add-zero, suc-add}
 use native.Mathlib.Omega.{arith}
 use borrow.Author.Tests.{ltb-false}
@@ -170,3 +170,7 @@ gone-then m t d w k l count p q s r r₁ g h = record {
 -- the same of an equal list
 pub gone-as : {m : Maps} {t : List ℕ} {d : Pass} {w : ℕ} {k l : List Edge} {most count : ℕ} {p q : Planes} {r : ℕ} → Gone m t d w k most count p q r → k ≡ l → Gone m t d w l most count p q r
 gone-as {m} {t} {d} {w} {most = most} {count} {p} {q} {r} g e = subst (λ (j : List Edge). Gone m t d w j most count p q r) e g
+
+-- nothing after it
+pub gone-alone : {m : Maps} {t : List ℕ} {d : Pass} {w : ℕ} {k l : List Edge} {count : ℕ} {p q : Planes} {r : ℕ} → Gone m t d w k 16 count p q r → l ≡ [] → Gone m t d w (k ++ l) 32 count p q r
+gone-alone {k = k} g e = gone-as (record { planes = g .planes; counted = g .counted; few = omega (arith, g .few) }) (sym (append-nil k) ∙ ap (λ (j : List Edge). k ++ j) (sym e))
