@@ -1,13 +1,16 @@
 -- A block of the walk, in luma samples as the code has it and in units as the rules have it.
 --     past-x, past-y, inside    a leaf
---     skip-x, skip-y, at-unit, at-leaf, at-bad, at-cut    each way through the walk
+--     skip-x, skip-y, skip, started, at-unit, at-leaf, at-bad, at-cut    each way through the walk
 --     Cut, cut    what a block that is cut hands to its parts
 -- Assumes nothing.
+use mathlib.Core.Bool.{Bool, true, false, _||_}
 use mathlib.Core.List.{List, [], _∷_}
-use mathlib.Core.Path.{_≡_, sym, ap, _∙_}
+use mathlib.Core.Path.{_≡_, refl, sym, ap, _∙_}
 use Prim.Native.Nat.{ℕ, suc, _+_, _-_, _*_, _/_, _%_, _^_, _≤_, _<_}
 use native.Mathlib.Nat.{mul-le-mul-right, one-mul, two-pow-succ, mul-pos}
 use native.Mathlib.Omega.{arith}
+use borrow.Author.Tests.{leb-true, leb-false}
+use lib.Dec.{leb}
 use lib.ListN.{length, getD}
 use lib.Pow.{pow-pos}
 use Rattle.def.specs.declared.Answer.the-variants.{Done, Refused}
@@ -18,6 +21,37 @@ use Rattle.split.proofs.Walks.{few-in-turn, few-leaves, walk-x, walk-y,
 
 pub at-most-half : (bit half : ℕ) → bit ≤ 1 → bit * half ≤ half
 at-most-half bit half h = omega (arith, mul-le-mul-right half h, one-mul half)
+
+-- the split byte by the centre's column and row, in units
+pub byte-at-centre : (s : List ℕ) (level : ℕ) {column column′ row row′ : ℕ} → column ≡ column′ → row ≡ row′
+    → getD s (256 * level + (16 * (row % 16) + column % 16)) 0 ≡ getD s (256 * level + (16 * (row′ % 16) + column′ % 16)) 0
+byte-at-centre s level p q = λ i. getD s (256 * level + (16 * (q i % 16) + p i % 16)) 0
+
+-- the bits of a part's number
+pub low-bit : (i : ℕ) → i % 2 ≤ 1
+low-bit i = omega arith
+
+pub high-bit : (i : ℕ) → i < 4 → i / 2 ≤ 1
+high-bit i l = omega arith
+
+-- the numbers of the loop over the parts: a byte that is left, the next level, the next part
+pub only-one : (byte : ℕ) → byte ≤ 1 → (byte ≡ 0 → ⊥) → byte ≡ 1
+only-one byte l n = omega arith
+
+pub deeper : (level : ℕ) → level < 4 → level + 1 < 2 ^ 64
+deeper level l = omega arith
+
+pub not-last : (level : ℕ) → level < 4 → (level ≡ 3 → ⊥) → level + 1 < 4
+not-last level l n = omega arith
+
+pub counted : (part : ℕ) → part < 4 → part + 1 < 2 ^ 64
+counted part l = omega arith
+
+pub within : (part : ℕ) → part < 4 → part + 1 ≤ 4
+within part l = omega arith
+
+pub fewer : (part : ℕ) → part < 4 → 4 - (part + 1) < 4 - part
+fewer part l = omega arith
 
 -- ---- a leaf
 
@@ -67,12 +101,27 @@ pub record Cut (s : List ℕ) (w h x y side level half : ℕ) : Type 0 where
 
 -- ---- each way through the walk
 
+neither : (a b : Bool) → (a || b) ≡ false → (a ≡ false) × (b ≡ false)
+neither true b e = (e, cc)
+neither false b e = (refl, e)
+
+-- a block that is not skipped starts in the picture
+pub started : (w h x y : ℕ) → (leb w x || leb h y) ≡ false → (x < w) × (y < h)
+started w h x y e = let n = neither (leb w x) (leb h y) e in (leb-false w x (n .0), leb-false h y (n .1))
+
 module _ (s : List ℕ) {w h x y side level : ℕ} (b : Block w h x y side level) where
   pub skip-x : w ≤ x → walk s (w / 4) (h / 4) (4 - level) (x / 4) (y / 4) ≡ nothing
   skip-x g = walk-x s _ _ (4 - level) _ _ (omega arith)
 
   pub skip-y : x < w → h ≤ y → walk s (w / 4) (h / 4) (4 - level) (x / 4) (y / 4) ≡ nothing
   skip-y f g = walk-y s _ _ (4 - level) _ _ (omega arith) (omega arith)
+
+  skip-by : (past : Bool) → leb w x ≡ past → (past || leb h y) ≡ true → walk s (w / 4) (h / 4) (4 - level) (x / 4) (y / 4) ≡ nothing
+  skip-by true e p = skip-x (leb-true w x e)
+  skip-by false e p = skip-y (leb-false w x e) (leb-true h y p)
+
+  pub skip : (leb w x || leb h y) ≡ true → walk s (w / 4) (h / 4) (4 - level) (x / 4) (y / 4) ≡ nothing
+  skip p = skip-by (leb w x) refl p
 
   pub at-unit : x < w → y < h → level ≡ 4 → walk s (w / 4) (h / 4) (4 - level) (x / 4) (y / 4) ≡ leafWalk (w / 4) (h / 4) (2 ^ (4 - level)) (x / 4) (y / 4)
   at-unit f g e = rw e (walk-unit s _ _ _ _ (omega arith) (omega arith))

@@ -108,12 +108,7 @@ fn walk_block(
     requires { ⌜ Block w h (x .0) (y .0) side level × (level < 4) × (length (now bytes) ≡ 1024) × (3 * (n + side / 4 * (side / 4)) ≤ length (now out)) ⌝ }
     ensures { λ r. ⌜ Stored (walk (now (bytes .entry)) (w / 4) (h / 4) (4 - level) (x .0 / 4) (y .0 / 4)) (now (out .entry)) n (now (out .exit)) r ⌝ }
 {
-    let px = x.0;
-    let py = y.0;
-    if w <= px {
-        return Walked::Done(n);
-    }
-    if h <= py {
+    if (w <= x.0) | (h <= y.0) {
         return Walked::Done(n);
     }
     let byte = get_split_mode(bytes, x, y, side, level);
