@@ -1,16 +1,20 @@
 -- A block of the descent, in luma samples as the code has it and in units as the rules have it.
 --     past-x, past-y, inside                         a leaf
---     take-x, take-y, take-unit, take-out, take-leaf    each way through the descent but the cut
+--     take-skip, take-unit, take-out, take-leaf    each way through the descent but the cut
+--     not-unit, x-near, y-near, side-small    what the place of its byte asks
+--     bit-fits, part-near, part-near-down    the numbers of a part
 --     half-less, part-block    its parts
 --     Cutting, CutParts, cut-none, cut-more, cut-stop, cut-all    a block that is cut, part by part
 -- Assumes nothing.
 use mathlib.Core.Path.{_≡_, refl, sym, ap, _∙_, subst}
-use mathlib.Core.Bool.{true}
+use mathlib.Core.Bool.{Bool, true, false, _||_}
 use mathlib.Core.List.{List}
 use Prim.Native.Nat.{ℕ, suc, _+_, _-_, _*_, _/_, _%_, _^_, _≤_, _<_}
 use native.Mathlib.Nat.{two-pow-succ}
 use native.Mathlib.Numerals.{add-one}
 use native.Mathlib.Omega.{arith}
+use borrow.Author.Tests.{leb-true, leb-false}
+use lib.Dec.{leb}
 use lib.ListN.{length, drop, getD, set}
 use lib.Pow.{pow-pos}
 use Rattle.def.specs.declared.Answer.{Answer}
@@ -66,6 +70,27 @@ module _ {w h x y side level : ℕ} (b : Block w h x y side level) where
 
   row-in : y < h → y / 4 < h / 4
   row-in g = omega arith
+
+  pub not-unit : (level ≡ 4 → ⊥) → level < 4
+  not-unit n = omega arith
+
+  pub x-near : x ≤ 8192
+  x-near = omega arith
+
+  pub y-near : y ≤ 8192
+  y-near = omega arith
+
+  pub side-small : side ≤ 64
+  side-small = omega arith
+
+  pub bit-fits : (bit : ℕ) → bit ≤ 1 → bit * (side / 2) < 2 ^ 64
+  bit-fits bit l = omega (arith, at-most-half bit (side / 2) l)
+
+  pub part-near : (bit : ℕ) → bit ≤ 1 → x + bit * (side / 2) < 2 ^ 64
+  part-near bit l = omega (arith, at-most-half bit (side / 2) l)
+
+  pub part-near-down : (bit : ℕ) → bit ≤ 1 → y + bit * (side / 2) < 2 ^ 64
+  part-near-down bit l = omega (arith, at-most-half bit (side / 2) l)
 
   -- ---- a block that has a digit, and its parts. K + 1 is the log of its side in units
 
@@ -141,11 +166,18 @@ module _ {w h x y side level : ℕ} (b : Block w h x y side level) where
   -- ---- each way through the descent
 
   module _ (digits : List ℕ) (at : ℕ) (map : List ℕ) where
-    pub take-x : w ≤ x → at ≤ length digits → Met (w / 4) (h / 4) (4 - level) (x / 4) (y / 4) digits at map map at
+    take-x : w ≤ x → at ≤ length digits → Met (w / 4) (h / 4) (4 - level) (x / 4) (y / 4) digits at map map at
     take-x g = met-x _ _ (4 - level) _ _ digits at map (omega arith)
 
-    pub take-y : x < w → h ≤ y → at ≤ length digits → Met (w / 4) (h / 4) (4 - level) (x / 4) (y / 4) digits at map map at
+    take-y : x < w → h ≤ y → at ≤ length digits → Met (w / 4) (h / 4) (4 - level) (x / 4) (y / 4) digits at map map at
     take-y f g = met-y _ _ (4 - level) _ _ digits at map (column-in f) (omega arith)
+
+    skip-by : (past : Bool) → leb w x ≡ past → (past || leb h y) ≡ true → at ≤ length digits → Met (w / 4) (h / 4) (4 - level) (x / 4) (y / 4) digits at map map at
+    skip-by true e p = take-x (leb-true w x e)
+    skip-by false e p = take-y (leb-false w x e) (leb-true h y p)
+
+    pub take-skip : (leb w x || leb h y) ≡ true → at ≤ length digits → Met (w / 4) (h / 4) (4 - level) (x / 4) (y / 4) digits at map map at
+    take-skip p = skip-by (leb w x) refl p
 
     pub take-unit : x < w → y < h → level ≡ 4 → at ≤ length digits → (r : Taken) → r ≡ takenBy at (leafWalk (w / 4) (h / 4) U (x / 4) (y / 4) .answer) → Descended (w / 4) (h / 4) (4 - level) (x / 4) (y / 4) digits at map map r
     take-unit f g e l r q =

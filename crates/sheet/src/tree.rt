@@ -59,10 +59,7 @@ fn take_block(
 {
     let px = x.0;
     let py = y.0;
-    if w <= px {
-        return Taken::Done(at);
-    }
-    if h <= py {
+    if (w <= px) | (h <= py) {
         return Taken::Done(at);
     }
     if level == 4 {
