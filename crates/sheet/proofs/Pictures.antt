@@ -1,11 +1,12 @@
 -- The roots of a picture, one after another, each with its own part of the map.
 --     turn-same                              walks in turn that are the same one by one
 --     Grid, count-roots, grid, root-block    a root, in luma samples as the code has it
+--     column-fits, row-fits, start-fits, end-fits, forth, end-in, next-fits, within, fewer    the numbers of the loop over the roots
 --     roots-none, roots-more, roots-stop     the roots so far
 -- Assumes nothing.
 use mathlib.Core.Path.{_≡_, refl, sym, ap, ap₂, _∙_, subst}
 use mathlib.Core.List.{List, _++_}
-use Prim.Native.Nat.{ℕ, zero, suc, _+_, _-_, _*_, _/_, _%_, _≤_, _<_}
+use Prim.Native.Nat.{ℕ, zero, suc, _+_, _-_, _*_, _/_, _%_, _^_, _≤_, _<_}
 use native.Mathlib.Nat.{mod-lt, div-le-self, mul-le-mul-right}
 use native.Mathlib.Numerals.{add-one}
 use native.Mathlib.Omega.{arith}
@@ -54,6 +55,34 @@ pub grid : (w h n : ℕ) → Sides w h → n ≡ roots (w / 4) (h / 4) → n ≤
 grid w h n s e l =
     let a : (w + 63) / 64 ≡ across (w / 4) = omega arith in
     record { sides = s; columns = a; all = e; some = omega arith; narrow = omega arith; few = l }
+
+module _ {w h a n : ℕ} (g : Grid w h a n) (i : ℕ) (l : i < n) where
+  pub column-fits : 64 * (i % a) < 2 ^ 64
+  column-fits = let m = mod-lt i (g .some) in omega arith
+
+  pub row-fits : 64 * (i / a) < 2 ^ 64
+  row-fits = let d = div-le-self i a in omega arith
+
+  pub start-fits : 1024 * i < 2 ^ 64
+  start-fits = omega arith
+
+  pub end-fits : 1024 * i + 1024 < 2 ^ 64
+  end-fits = omega arith
+
+  pub next-fits : i + 1 < 2 ^ 64
+  next-fits = omega arith
+
+  pub end-in : (map : List ℕ) → length map ≡ 1024 * n → 1024 * i + 1024 ≤ length map
+  end-in map e = omega arith
+
+pub forth : (i : ℕ) → 1024 * i ≤ 1024 * i + 1024
+forth i = omega arith
+
+pub within : (n i : ℕ) → i < n → i + 1 ≤ n
+within n i l = omega arith
+
+pub fewer : (n i : ℕ) → i < n → n - (i + 1) < n - i
+fewer n i l = omega arith
 
 pub root-block : (w h a n i : ℕ) → Grid w h a n → i < n → Block w h (64 * (i % a)) (64 * (i / a)) 64 0
 root-block w h a n i g l =

@@ -2,14 +2,14 @@
 use mathlib.Core.Path.{_≡_, sym, ap, subst, _∙_}
 use mathlib.Core.Bool.{true}
 use Prim.Native.Nat.{ℕ, _+_, _-_, _*_, _/_, _≤_}
-use native.Mathlib.Nat.{mod-lt, div-le-self, le-antisymm}
+use native.Mathlib.Nat.{le-antisymm}
 use native.Mathlib.Omega.{arith}
 use borrow.Author.Needs.{needs}
 use borrow.Rule.Slice.PartMut.{same-len-mid}
 use lib.ListN.{length}
 use Rattle.sheet_lines.specs.Lines.{binary}
 use Rattle.sheet.specs.Taken.{RootsMet}
-use Rattle.sheet.proofs.Pictures.{Grid, grid, root-block, roots-none, own-length, root-more, root-stop}
+use Rattle.sheet.proofs.Pictures.{Grid, grid, column-fits, row-fits, start-fits, end-fits, forth, end-in, next-fits, within, fewer, root-block, roots-none, own-length, root-more, root-stop}
 use Rattle.sheet.proofs.tree.take_picture.Statement.{statement}
 use Rattle.sheet.proofs.tree.take_picture.Tie as tie
 
@@ -25,12 +25,6 @@ loop-holds c =
     let p = c .before .before .before .pre in
     let g = grid _ _ _ (p .0) (c .root-count .ensures .0) (c .root-count .ensures .1) in
     (omega arith, p .2 ∙ ap (λ (n : ℕ). 1024 * n) (sym (g .all)), p .1, g, roots-none _ _ _ _)
-
-mul-x : tie.Need-mul-t18 Inv-loop μ-loop
-mul-x c = let l = c .before .loop in omega (arith, l .inv .3 .narrow, mod-lt (l .i) (l .inv .3 .some))
-
-mul-y : tie.Need-mul-t18-2 Inv-loop μ-loop
-mul-y c = let l = c .before .loop in omega (arith, l .inv .3 .few, div-le-self (l .i) ((c .before .before .before .before .before .args .w + 63) / 64))
 
 take-block-requires : tie.Need-take-block-requires Inv-loop μ-loop
 take-block-requires c κs =
@@ -54,7 +48,7 @@ loop-again c =
     let l = c .before .before .before .before .before .before .before .before .loop in
     let b = c .before .before .before .before .before .take-block in
     let k = b .kept .1 .1 .1 .1 .1 .1 .1 .1 .0 in (
-      omega arith,
+      within _ _ (c .before .before .before .before .before .before .before .loop-test .taken),
       same-len-mid (1024 * l .i) (1024 * l .i + 1024 - 1024 * l .i) (l .map) (b .last .1 .1 .1 .1 .1 .1 .1 .1 .0) k ∙ l .inv .1,
       l .inv .2,
       l .inv .3,
@@ -82,22 +76,22 @@ take-picture-spec =
     (λ c. search needs)
     (λ c κs. c .before .before .pre .0)
     loop-holds
-    (λ c. search needs)
-    mul-x
-    (λ c. search needs)
-    mul-y
-    (λ c. omega (arith, c .before .loop .inv .3 .few))
-    (λ c. omega (arith, c .before .loop .inv .3 .few))
-    (λ c. search needs)
-    (λ c. search needs)
-    (λ c. omega arith)
+    (λ c. c .before .loop .inv .3 .some)
+    (λ c. record { fits = column-fits (c .before .loop .inv .3) _ (c .loop-test .taken) })
+    (λ c. c .before .loop .inv .3 .some)
+    (λ c. record { fits = row-fits (c .before .loop .inv .3) _ (c .loop-test .taken) })
+    (λ c. record { fits = start-fits (c .before .loop .inv .3) _ (c .loop-test .taken) })
+    (λ c. record { fits = end-fits (c .before .loop .inv .3) _ (c .loop-test .taken) })
+    (λ c. forth _)
+    (λ c. forth _)
+    (λ c. end-in (c .before .loop .inv .3) _ (c .loop-test .taken) (c .before .loop .map) (c .before .loop .inv .1))
     take-block-requires
-    (λ c. search needs)
-    (λ c. search needs)
+    (λ c. c .match .keys1)
+    (λ c. c .match .keys2)
     same-length
     returns
-    (λ c. omega (arith, c .before .before .before .before .before .before .before .before .loop .inv .3 .few))
-    (λ c. search needs)
+    (λ c. record { fits = next-fits (c .before .before .before .before .before .before .before .before .loop .inv .3) _ (c .before .before .before .before .before .before .before .loop-test .taken) })
+    (λ c. fewer _ _ (c .before .before .before .before .before .before .before .loop-test .taken))
     loop-again
     same-length-2
     returns-2)
