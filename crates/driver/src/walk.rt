@@ -88,7 +88,8 @@ fn tell(map_scu: &mut [u32], modes: &mut [u8], w: usize, leaf: Leaf, said: Recor
     let columns = w / 4;
     let x = pel2scu(leaf.x).0;
     let y = pel2scu(leaf.z).0;
-    let n = leaf.side / 4;
+    let side = leaf.side;
+    let n = side / 4;
     let word = word_of(said.kind, said.qp, said.mask);
     let mode = mode_of(said.kind);
     let mut r = 0;
