@@ -4,7 +4,7 @@
 -- Assumes nothing.
 use Prim.Native.Nat.{ℕ, _+_, _-_, _*_, _/_, _%_, _≤_, _<_}
 use mathlib.Core.Path.{_≡_, refl, sym, _∙_, subst}
-use mathlib.Core.Bool.{Bool, true, false, _&&_, and-true}
+use mathlib.Core.Bool.{Bool, true, false, _&&_, _||_, and-true}
 use mathlib.Core.List.{List}
 use native.Mathlib.Omega.{arith}
 use native.Mathlib.Decide.{decLt}
@@ -84,13 +84,38 @@ pub up-none : (c : Component) (w x y v : ℕ) → v ≡ y / 4 → v ≡ 0 → no
 unfolding upArm
 up-none c w x y v f p = rw (eq-eqb (y / 4) 0 (sym f ∙ p))
 
-pub corner-none : (c : Component) (w x y u : ℕ) → u ≡ x / 4 → u ≡ 0 → noArm ≡ cornerArm c w x y
-unfolding cornerArm
-corner-none c w x y u e p = rw (eq-eqb (x / 4) 0 (sym e ∙ p))
+module _ (c : Component) (w x y u v : ℕ) (e : u ≡ x / 4) (f : v ≡ y / 4) where
+  none-by : (edge : Bool) → eqb u 0 ≡ edge → (edge || eqb v 0) ≡ true → noArm ≡ cornerArm c w x y
+  unfolding cornerArm
+  none-by true d p = rw (eq-eqb (x / 4) 0 (sym e ∙ eqb-true u 0 d))
+  none-by false d p = rw (ne-eqb (x / 4) 0 (λ z. eqb-false u 0 d (e ∙ z)), eq-eqb (y / 4) 0 (sym f ∙ eqb-true v 0 p))
 
-pub corner-none-above : (c : Component) (w x y u v : ℕ) → u ≡ x / 4 → v ≡ y / 4 → (u ≡ 0 → ⊥) → v ≡ 0 → noArm ≡ cornerArm c w x y
-unfolding cornerArm
-corner-none-above c w x y u v e f p q = rw (ne-eqb (x / 4) 0 (λ z. p (e ∙ z)), eq-eqb (y / 4) 0 (sym f ∙ q))
+  pub corner-none : (eqb u 0 || eqb v 0) ≡ true → noArm ≡ cornerArm c w x y
+  corner-none p = none-by (eqb u 0) refl p
+
+-- a block that has a corner lies at neither edge
+pub record Cornered (u v : ℕ) : Type 0 where
+  pub right : u ≡ 0 → ⊥
+  pub down : v ≡ 0 → ⊥
+  pub some-left : 0 < u
+  pub some-above : 0 < v
+
+pub cornered : (u v : ℕ) → (eqb u 0 || eqb v 0) ≡ false → Cornered u v
+cornered u v p =
+    let q = eqb-false u 0 (neither-left (eqb u 0) (eqb v 0) p) in
+    let r = eqb-false v 0 (neither-right (eqb u 0) (eqb v 0) p) in
+    record { right = q; down = r; some-left = above-zero u q; some-above = above-zero v r }
+  where
+    neither-left : (a b : Bool) → (a || b) ≡ false → a ≡ false
+    neither-left true b e = e
+    neither-left false b e = refl
+
+    neither-right : (a b : Bool) → (a || b) ≡ false → b ≡ false
+    neither-right true b e = cc
+    neither-right false b e = e
+
+    above-zero : (n : ℕ) → (n ≡ 0 → ⊥) → 0 < n
+    above-zero n h = omega arith
 
 module _ (c : Component) (w h x y u v a k r from word : ℕ) (e : u ≡ x / 4) (f : v ≡ y / 4) (g : a ≡ w / scaleOf c) (m : k ≡ x / scaleOf c) (n : r ≡ y / scaleOf c) where
   pub left-made : (u ≡ 0 → ⊥) → from ≡ r * a + (k - 1) → word ≡ v * (w / 4) + (u - 1) → record { from = from; step = a; word = word; next = w / 4; there = h / 4 - v } ≡ leftArm c w h x y

@@ -200,10 +200,7 @@ fn corner_arm(block: Block) -> Arm
     let w = block.w;
     let u = def::pel2scu(block.x).0;
     let v = def::pel2scu(block.y).0;
-    if u == 0 {
-        return no_arm();
-    }
-    if v == 0 {
+    if (u == 0) | (v == 0) {
         return no_arm();
     }
     let component = block.component;
