@@ -1,4 +1,5 @@
 -- A block of the walk, in luma samples as the code has it and in units as the rules have it.
+--     byte-at-centre, low-bit, high-bit, only-one, deeper, not-last, counted, within, fewer    the numbers of the walk's code
 --     past-x, past-y, inside    a leaf
 --     skip-x, skip-y, skip, started, at-unit, at-leaf, at-bad, at-cut    each way through the walk
 --     Cut, cut    what a block that is cut hands to its parts
