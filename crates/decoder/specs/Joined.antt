@@ -2,7 +2,6 @@
 -- Assumes nothing: these are definitions.
 use Prim.Native.Nat.{ℕ, _*_, _≤_}
 use mathlib.Core.Bool.{true}
-use mathlib.Core.List.{List}
 use mathlib.Core.Path.{_≡_}
 use lib.ListN.{length}
 use Rattle.def.specs.Picture.{unitCount}

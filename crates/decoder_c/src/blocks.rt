@@ -1,5 +1,4 @@
 // A block's samples: gathering, the five modes and residual addition.
-ghost use mathlib.Core.Path.{_≡_};
 ghost use Rattle.laws.specs.Call.{Gives};
 ghost use Rattle.ipred.specs.Predict as predict;
 ghost use Rattle.nbr.specs.Gather as gather;

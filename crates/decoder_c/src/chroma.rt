@@ -1,5 +1,4 @@
 // The derived chroma QP tables.
-ghost use mathlib.Core.Path.{_≡_};
 ghost use Rattle.laws.specs.Call.{Gives};
 ghost use Rattle.chroma_qp.specs.Derived as derived;
 

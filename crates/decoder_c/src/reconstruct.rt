@@ -1,5 +1,4 @@
 // The block driver.
-ghost use mathlib.Core.Path.{_≡_};
 ghost use Rattle.laws.specs.Call.{Gives};
 ghost use Rattle.driver_rules.specs.Call as driving;
 ghost use Rattle.driver.specs.Lends.{givenOf};

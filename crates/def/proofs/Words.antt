@@ -1,12 +1,12 @@
 -- Laws of the unit word: what a writer puts is read back, and every other field is as it was.
 -- Assumes nothing.
 use Prim.Native.Nat.{ℕ, _+_, _%_, _≤_, _<_}
-use mathlib.Core.Path.{_≡_, refl, sym, ap, _∙_}
+use mathlib.Core.Path.{_≡_, refl, ap, _∙_}
 use mathlib.Core.Bool.{Bool, true, false}
 use native.Mathlib.Omega.{arith}
 use lib.Dec.{eqb}
 use Rattle.laws.specs.Bits.{fieldOf, withField}
-use Rattle.laws.proofs.Bits.{field-same, field-below, field-above}
+use Rattle.laws.proofs.Bits.{field-same, field-below}
 use Rattle.def.specs.Word.{flagAt, intraOf, qpOf, codedOf, doneOf, withDone, withoutDone, bit, leafWord}
 
 bit-small : (b : Bool) → bit b < 2

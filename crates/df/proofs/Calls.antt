@@ -1,12 +1,11 @@
 -- The call: what its checks tell of the picture, the strengths of both passes in the words of the rule, and its outcome.
 -- Assumes nothing.
-use Prim.Native.Nat.{ℕ, _+_, _*_, _/_, _≤_, _<_}
-use mathlib.Core.Path.{_≡_, refl, sym, ap, _∙_, subst}
+use Prim.Native.Nat.{ℕ, _*_, _/_, _<_}
+use mathlib.Core.Path.{_≡_, sym, ap, _∙_, subst}
 use mathlib.Core.List.{List, List·Memᴰ}
 use native.Mathlib.Nat.{mul-comm}
 use native.Mathlib.Omega.{arith}
 use lib.Dec.{eqb}
-use lib.IntN.{ℤ}
 use lib.ListN.{length, getD}
 use Rattle.def.specs.Picture.{unitCount}
 use Rattle.def.specs.Word.{qpOf}
@@ -17,11 +16,10 @@ use Rattle.def.proofs.Sizes.{Sized, sized}
 use Rattle.laws.proofs.Flat.{flat-within}
 use Rattle.split.specs.Demand3.{Demand3}
 use Rattle.split.specs.Edges.{Pass, vertical, horizontal, Edge}
-use Rattle.split.specs.Rows.{EdgeOf}
 use Rattle.split.proofs.Demand3.{demand-3}
 use Rattle.split.proofs.Roots.{some-wide}
 use Rattle.strength.specs.Entries.{entriesOf}
-use Rattle.strength.proofs.Strengths.{entries-long, luma-entry, u-entry, v-entry}
+use Rattle.strength.proofs.Strengths.{luma-entry, u-entry, v-entry}
 use Rattle.df_check.specs.Tables.{vTable}
 use Rattle.df_check.proofs.Passed.{Passed, passed, any-qp}
 use Rattle.df_check.proofs.Units.{UnitTold}
@@ -29,12 +27,10 @@ use Rattle.df_rules.specs.Filter.{Planes, inY, inU, inV, filterAll}
 use Rattle.df_rules.specs.Frame.{Frame, Both}
 use Rattle.df_rules.specs.Leaves.{Accepted}
 use Rattle.df_rules.specs.Places.{unitQ, unitP}
-use Rattle.df_rules.specs.Strength.{Maps, rowAt, qpAt, strengthOf, strength}
-use Rattle.df_rules.specs.Visit.{allDone}
+use Rattle.df_rules.specs.Strength.{rowAt, qpAt, strengthOf, strength}
 use Rattle.df_rules.proofs.Planes.{planes-finished}
 use Rattle.df_rules.proofs.Strengths.{row-few}
-use Rattle.df.specs.Deblock.{Input, Outcome, readingOf, checked, check, passEdges, qpY, qpU, qpV, mapsOf, refused, done, outcome}
-use Rattle.df.specs.declared.Deblocked.{Deblocked}
+use Rattle.df.specs.Deblock.{Input, readingOf, checked, check, passEdges, qpY, qpU, qpV, mapsOf, outcome}
 use Rattle.df.specs.declared.Deblocked.the-variants.{Done, Refused}
 
 -- the entries of a pass

@@ -1,10 +1,9 @@
 -- Both passes, one after the other: their lists filtered, their edges counted, and every unit done.
 -- Assumes nothing.
 use Prim.Native.Nat.{ℕ, _*_, _/_, _≤_, _<_}
-use mathlib.Core.Path.{_≡_, refl, sym, ap, _∙_, subst}
+use mathlib.Core.Path.{_≡_, sym, ap, _∙_, subst}
 use mathlib.Core.Bool.{Bool}
 use mathlib.Core.List.{List}
-use lib.IntN.{ℤ}
 use lib.ListN.{length, getD}
 use Rattle.def.specs.Word.{withDone}
 use Rattle.def.proofs.Sizes.{sized}

@@ -12,7 +12,7 @@ use Rattle.df_rules.specs.Frame.{Frame}
 use Rattle.df_rules.specs.Strength.{Maps}
 use Rattle.df_rules.specs.Visit.{cleared, State, visited, visitedAll, Visited, visitEdges}
 use Rattle.df_rules.proofs.Marks.{frame-alike, marked-alike, cleared-alikes}
-use Rattle.df_rules.proofs.Planes.{SameLengths, SamplePlanes, filter-long, filter-small}
+use Rattle.df_rules.proofs.Planes.{filter-long, filter-small}
 
 -- the frame of a picture's planes
 abbrev pub Framed : (w h : ℕ) (motion refs : List ℤ) (entries : List ℕ) → Planes → (words : List ℕ) → Type 0

@@ -10,7 +10,7 @@ use lib.IntN.{ℤ}
 use lib.Pow.{pow-mono}
 use Rattle.laws.specs.Orders.{each}
 use Rattle.laws.proofs.Orders.{each-append}
-use Rattle.split.specs.Edges.{Pass, Visit, visitOf, visits}
+use Rattle.split.specs.Edges.{Pass, visitOf, visits}
 use Rattle.split.specs.Walk.{Leaf}
 use Rattle.split.specs.Picture.{roots, rootLeaves, leavesOf}
 use Rattle.split.specs.Stored.{leafFrom, leavesFrom}

@@ -7,17 +7,17 @@ use mathlib.Core.List.{List, [], _∷_}
 use native.Mathlib.Nat.{div-add-mod', le-of-suc-le-suc}
 use native.Mathlib.Decide.{decLt}
 use native.Mathlib.Omega.{arith}
-use borrow.Author.Tests.{leb-true, ltb-true}
+use borrow.Author.Tests.{leb-true}
 use lib.Dec.{leb, ltb}
 use lib.IntN.{ℤ}
 use lib.ListN.{length, getD}
-use Rattle.def.specs.Word.{doneOf, withDone, qpOf}
+use Rattle.def.specs.Word.{withDone}
 use Rattle.def.proofs.Words.{Alike, set-alike, cleared-alike}
 use Rattle.laws.specs.Index.{pick}
 use Rattle.laws.specs.Orders.{run}
-use Rattle.laws.specs.Plane.{within, withBlock}
+use Rattle.laws.specs.Plane.{within}
 use Rattle.laws.proofs.Planes.{length-block, getD-block}
-use Rattle.split.specs.Edges.{Pass, Visit, visit}
+use Rattle.split.specs.Edges.{Pass, Visit}
 use Rattle.split.specs.Passes.{has}
 use Rattle.split.proofs.Sides.{and-true}
 use Rattle.df_rules.specs.Frame.{Frame}

@@ -1,32 +1,32 @@
 -- The passes as the code makes them, by the done bits of the words, filter the lists of edges: what a pass leaves of the planes, the count and the words.
 -- Assumes nothing.
 use Prim.Native.Nat.{ℕ, _+_, _-_, _*_, _/_, _%_, _≤_, _<_}
-use mathlib.Core.Path.{_≡_, refl, sym, ap, ap₂, _∙_, subst}
+use mathlib.Core.Path.{_≡_, refl, sym, ap, _∙_, subst}
 use mathlib.Core.Bool.{Bool, true, false, _&&_, _||_}
 use mathlib.Core.List.{List, [], _∷_, _++_, append-assoc, append-nil, List·Memᴰ, List·Memᴰ·head, List·Memᴰ·tail, List·Memᴰ·cases-cons, List·Memᴰ·eq-of-singleton}
 use mathlib.Core.Logic.{⊎-elim}
 use native.Mathlib.Nat.{mod-lt, div-lt-iff-lt-mul, add-zero, zero-add}
 use native.Mathlib.Omega.{arith}
-use borrow.Author.Tests.{lt-ltb, le-ltb, le-leb, ltb-true, ltb-false, eqb-true}
+use borrow.Author.Tests.{lt-ltb, le-leb, ltb-true, ltb-false, eqb-true}
 use lib.Arith.{digits-div, digits-mod}
 use lib.Dec.{ltb, leb, eqb}
 use lib.IntN.{ℤ}
 use lib.ListN.{length, getD, length-append}
 use lib.Pow.{pow-pos}
-use Rattle.def.specs.Word.{flagAt, intraOf, qpOf, codedOf, doneOf, withDone, withoutDone}
-use Rattle.def.proofs.Words.{Alike, set-alike, cleared-alike, done-set, done-cleared}
+use Rattle.def.specs.Word.{doneOf, withDone, withoutDone}
+use Rattle.def.proofs.Words.{Alike, set-alike, done-set, done-cleared}
 use Rattle.def.specs.declared.Component.the-variants.{Luma, Chroma}
 use Rattle.laws.specs.Bits.{withField}
 use Rattle.laws.specs.Index.{pick}
 use Rattle.laws.specs.Orders.{run, each}
 use Rattle.laws.proofs.Flat.{flat-within}
-use Rattle.laws.proofs.Orders.{run-append, each-mem, mem-each}
+use Rattle.laws.proofs.Orders.{run-append, each-mem}
 use Rattle.laws.proofs.Tabulate.{length-tabulate, getD-tabulate, is-tabulate}
 use Rattle.line.specs.declared.Motion.{Motion}
 use Rattle.line.specs.Row.{motionRow, rowOf}
-use Rattle.split.specs.Demand3.{Demand3, OneLeaf, Aligned}
+use Rattle.split.specs.Demand3.{Demand3}
 use Rattle.split.specs.Edges.{Pass, vertical, horizontal, Edge, Visit, visit, halves, visitOf, visits, edgeList}
-use Rattle.split.specs.Passes.{leftEdge, rightEdge, topEdge, has, done, verticalPass, horizontalPass}
+use Rattle.split.specs.Passes.{leftEdge, rightEdge, has, done, verticalPass, horizontalPass}
 use Rattle.split.specs.Picture.{allLeaves}
 use Rattle.split.specs.Tiling.{Holds}
 use Rattle.split.specs.Walk.{Leaf}

@@ -8,7 +8,7 @@ use mathlib.Core.List.{List, _++_}
 use Prim.Native.Nat.{ℕ, _+_, _-_, _≤_, _<_, min}
 use native.Mathlib.Decide.{decLt}
 use native.Mathlib.Omega.{arith}
-use lib.ListN.{length, getD, set, length-set, List·getD-append, length-append}
+use lib.ListN.{length, getD, set, length-set, List·getD-append}
 use lib.Seq.{ext-getD, getD-set-same, getD-set-other, getD-append-add}
 use Rattle.laws.specs.Index.{tabulate, tabulateFrom}
 use Rattle.laws.proofs.Tabulate.{getD-tabulate, length-tabulate}

@@ -1,14 +1,9 @@
 -- `cases::number` meets its contract: no byte, a minus first, or digits alone. Assumes nothing.
-use mathlib.Core.Path.{_≡_}
 use native.Mathlib.Omega.{arith}
 use Rattle.cases.proofs.Steps.{number-past, number-none, number-below, number-above}
 use borrow.Author.Needs.{needs}
 use Rattle.cases.proofs.number.Statement.{statement}
 use Rattle.cases.proofs.number.Tie as tie
-use Rattle.cases.proofs.number.Reads as reads
-use Rattle.cases.proofs.number.Lts as lts
-use Rattle.cases.proofs.until.Reads as until-reads
-use Rattle.cases.proofs.value.Reads as value-reads
 
 -- src/lib.rt:63:9
 returns : tie.Need-returns

@@ -1,10 +1,10 @@
 -- `cases::signed` meets its contract: the magnitude is below what an i32 holds. Assumes nothing.
-use Prim.Native.Nat.{ℕ, _+_, _%_, _<_, _≤_}
-use mathlib.Core.Path.{_≡_, refl, sym, ap, _∙_}
+use Prim.Native.Nat.{ℕ, _+_, _%_, _≤_}
+use mathlib.Core.Path.{_≡_, _∙_}
 use native.Mathlib.Nat.{mod-lt}
 use native.Mathlib.Omega.{arith}
 use borrow.Author.Needs.{needs}
-use lib.IntN.{ℤ, pos, negℤ, _-ℤ_, +ℤ-idl}
+use lib.IntN.{pos, negℤ, _-ℤ_, +ℤ-idl}
 use mir.Syntax.{w32}
 use mir.Val.{SFits, toZ, ofZ}
 use Rattle.laws.proofs.Widths.{sfits, back}

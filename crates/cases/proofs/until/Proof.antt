@@ -1,5 +1,5 @@
 -- `cases::until` meets its contract: what is looked for is not among the bytes passed. Assumes nothing.
-use Prim.Native.Nat.{ℕ, _-_, _≤_}
+use Prim.Native.Nat.{_-_, _≤_}
 use mathlib.Core.Path.{_≡_, refl, sym, _∙_}
 use native.Mathlib.Omega.{arith}
 use borrow.Author.Needs.{needs}
@@ -8,9 +8,6 @@ use Rattle.cases.specs.Numbers.{first}
 use Rattle.cases.proofs.Steps.{first-here, first-on, first-end}
 use Rattle.cases.proofs.until.Statement.{statement}
 use Rattle.cases.proofs.until.Tie as tie
-use Rattle.cases.proofs.until.Reads as reads
-use Rattle.cases.proofs.until.Lts as lts
-use Rattle.cases.proofs.number_byte.Reads as number-byte-reads
 
 abbrev Inv-loop : tie.InvT-loop
 Inv-loop s at wanted i₀ i = (at ≤ i) × (i ≤ length s) × (first wanted s (length s - at) at ≡ first wanted s (length s - i) i)

@@ -1,16 +1,12 @@
 -- `cases::value` meets its contract: after i bytes, what they come to. Assumes nothing.
 use Prim.Native.Nat.{ℕ, _-_, _≤_, _<_}
-use mathlib.Core.Path.{_≡_, refl, sym, ap, _∙_}
+use mathlib.Core.Path.{_≡_, ap, _∙_}
 use native.Mathlib.Omega.{arith}
 use borrow.Author.Needs.{needs}
-use lib.ListN.{length}
 use Rattle.cases.specs.Numbers.{valueOf}
 use Rattle.cases.proofs.Steps.{value-none, value-more}
 use Rattle.cases.proofs.value.Statement.{statement}
 use Rattle.cases.proofs.value.Tie as tie
-use Rattle.cases.proofs.value.Reads as reads
-use Rattle.cases.proofs.value.Lts as lts
-use Rattle.cases.proofs.wide.Reads as wide-reads
 
 abbrev Inv-loop : tie.InvT-loop
 Inv-loop s from to v₀ i₀ v i = (from ≤ i) × (i ≤ to) × (v < 1152921504606846976) × (v ≡ valueOf s from (i - from))

@@ -1,6 +1,5 @@
 -- `def::clr_cod` meets its contract: a word has no bit above 31, which is cleared. Assumes nothing.
 use native.Mathlib.Omega.{arith}
-use borrow.Author.Needs.{needs}
 use Rattle.laws.specs.Bits.{withField}
 use Rattle.def.proofs.clr_cod.Statement.{statement}
 use Rattle.def.proofs.clr_cod.Tie as tie

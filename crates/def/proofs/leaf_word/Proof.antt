@@ -1,12 +1,11 @@
 -- `def::leaf_word` meets its contract: four fields that do not overlap, in a word that was 0. Assumes nothing.
 use Prim.Native.Nat.{ℕ, _+_, _*_, _%_, _^_, _≤_, _<_}
 use mathlib.Core.Path.{_≡_, sym, ap, _∙_}
-use mathlib.Core.Bool.{Bool}
 use native.Mathlib.Omega.{arith}
 use borrow.Author.Needs.{needs}
 use Rattle.laws.specs.Bits.{withField}
 use Rattle.laws.proofs.Bits.{field-fresh}
-use Rattle.def.specs.Word.{bit, leafWord}
+use Rattle.def.specs.Word.{leafWord}
 use Rattle.def.proofs.leaf_word.Statement.{statement}
 use Rattle.def.proofs.leaf_word.Tie as tie
 

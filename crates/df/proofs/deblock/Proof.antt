@@ -1,6 +1,5 @@
 -- `df::deblock` meets its contract: nothing is written before all checks passed, and then both passes follow. Assumes nothing.
 use mathlib.Core.Path.{_≡_, sym, ap, _∙_}
-use mathlib.Core.List.{List}
 use borrow.Author.Needs.{needs}
 use denote.Ref.{now}
 use lib.ListN.{length}

@@ -1,5 +1,5 @@
 -- `df::pass_entries` meets its contract: an arm for each table that V looks into. Assumes nothing.
-use mathlib.Core.Path.{_≡_, sym, _∙_}
+use mathlib.Core.Path.{sym, _∙_}
 use borrow.Author.Needs.{needs}
 use denote.Ref.{now}
 use mir.Syntax.{w8}

@@ -1,6 +1,5 @@
 -- `recon::held` meets its contract: the comparisons are the clip. Assumes nothing.
-use mathlib.Core.Path.{_≡_, _∙_}
-use borrow.Author.Needs.{needs}
+use mathlib.Core.Path.{_∙_}
 use mir.Syntax.{w16}
 use Rattle.laws.proofs.Widths.{back}
 use Rattle.recon.proofs.Residuals.{held-low, held-high, held-within}

@@ -3,13 +3,6 @@ use Rattle.cases.proofs.Fills.{part-long}
 use borrow.Author.Needs.{needs}
 use Rattle.replay_avail.proofs.one.Statement.{statement}
 use Rattle.replay_avail.proofs.one.Tie as tie
-use Rattle.replay_avail.proofs.one.Reads as reads
-use Rattle.replay_avail.proofs.one.Lts as lts
-use Rattle.avail.proofs.get_avail_inter.Reads as get-avail-inter-reads
-use Rattle.avail.proofs.get_avail_intra.Reads as get-avail-intra-reads
-use Rattle.cases.proofs.number.Reads as number-reads
-use Rattle.cases.proofs.slice_u32.Reads as slice-u32-reads
-use Rattle.replay_avail.proofs.print.Reads as print-reads
 
 -- src/main.rt:51:9
 number-requires : tie.Need-number-requires

@@ -1,7 +1,6 @@
 -- `replay_sheet::replay` meets its contract: the place of the next sheet moves on. Assumes nothing.
 use Prim.Native.Nat.{_-_, _≤_}
-use mathlib.Core.Path.{_≡_, refl, _∙_}
-use native.Mathlib.Omega.{arith}
+use mathlib.Core.Path.{_≡_}
 use borrow.Author.Needs.{needs}
 use lib.ListN.{length}
 use Rattle.replay_sheet.proofs.replay.Statement.{statement}

@@ -1,6 +1,5 @@
 -- `replay_sheet::until` meets its contract. Assumes nothing.
 use Prim.Native.Nat.{_-_, _≤_}
-use native.Mathlib.Omega.{arith}
 use borrow.Author.Needs.{needs}
 use lib.ListN.{length}
 use Rattle.replay_sheet.proofs.until.Statement.{statement}

@@ -1,5 +1,5 @@
 -- `sheet_out::print` meets its contract: the text that was written lies in the buffer. Assumes nothing.
-use mathlib.Core.Path.{_≡_, sym, ap, _∙_}
+use mathlib.Core.Path.{sym, ap}
 use borrow.Author.Needs.{needs}
 use lib.Seq.{length-take-le}
 use Rattle.sheet.specs.Listing.{Outcome}

@@ -1,12 +1,8 @@
 -- `df::edge::unit_at` meets its contract: an arm for each pass. Assumes nothing.
-use Prim.Native.Nat.{ℕ, _+_, _*_, _/_, _≤_}
-use mathlib.Core.Path.{_≡_, _∙_}
+use Prim.Native.Nat.{ℕ, _+_, _*_, _≤_}
 use native.Mathlib.Nat.{mul-le-mul}
 use native.Mathlib.Omega.{arith}
 use borrow.Author.Needs.{needs}
-use Rattle.split.specs.Edges.{edgeAt}
-use Rattle.df.specs.Edges.{passOf}
-use Rattle.df_rules.specs.Places.{unitQ}
 use Rattle.df.proofs.edge.unit_at.Statement.{statement}
 use Rattle.df.proofs.edge.unit_at.Tie as tie
 

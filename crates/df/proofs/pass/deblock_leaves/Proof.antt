@@ -1,8 +1,7 @@
 -- `df::pass::deblock_leaves` meets its contract: after k turns the state is that of the first k leaves. Assumes nothing.
-use Prim.Native.Nat.{ℕ, _+_, _-_, _*_, _≤_, _<_}
+use Prim.Native.Nat.{_+_, _-_, _*_, _≤_, _<_}
 use mathlib.Core.Path.{_≡_, refl, _∙_}
 use native.Mathlib.Omega.{arith}
-use borrow.Author.Needs.{needs}
 use lib.ListN.{length}
 use Rattle.laws.specs.Orders.{each}
 use Rattle.split.specs.Edges.{visitOf}

@@ -1,7 +1,6 @@
 -- `df::pass::deblock_pass` meets its contract: after i turns the state is that of the first i roots. Assumes nothing.
-use Prim.Native.Nat.{ℕ, _+_, _-_, _*_, _/_, _≤_, _<_}
+use Prim.Native.Nat.{_+_, _-_, _*_, _/_, _≤_}
 use mathlib.Core.Path.{_≡_, refl, sym, _∙_}
-use mathlib.Core.List.{List}
 use native.Mathlib.Omega.{arith}
 use borrow.Author.Needs.{needs}
 use lib.ListN.{length}
@@ -9,7 +8,6 @@ use Rattle.def.specs.Picture.{rootCount}
 use Rattle.def.proofs.Sizes.{Sized, sized}
 use Rattle.split.proofs.Roots.{few-roots, roots-units}
 use Rattle.df.specs.Edges.{passOf}
-use Rattle.df_rules.specs.Visit.{cleared}
 use Rattle.df_rules.proofs.Frames.{Framed, frame-cleared}
 use Rattle.df_rules.proofs.Leaves.{Roots, roots-none, roots-more, roots-few, roots-frame, roots-all}
 use Rattle.df.proofs.pass.deblock_pass.Statement.{statement}

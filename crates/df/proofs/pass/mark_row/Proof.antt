@@ -1,9 +1,9 @@
 -- `df::pass::mark_row` meets its contract: a loop that stores a row's part. Assumes nothing.
 use Prim.Native.Nat.{ℕ, _+_, _-_, _≤_}
-use mathlib.Core.Path.{_≡_, ap, _∙_}
+use mathlib.Core.Path.{ap, _∙_}
 use native.Mathlib.Omega.{arith}
 use borrow.Author.Needs.{needs}
-use lib.ListN.{length, getD}
+use lib.ListN.{getD}
 use Rattle.laws.proofs.Planes.{Rowed, rowed-none, rowed-more, rowed-all}
 use Rattle.def.specs.Word.{withDone}
 use Rattle.df.proofs.pass.mark_row.Statement.{statement}
