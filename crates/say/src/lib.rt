@@ -1,0 +1,64 @@
+// What a program tells: words and numbers on standard error, what a refusal's number means, and the exit status. It is for the programs alone.
+use libc::STDERR_FILENO;
+
+// ---- words
+
+// Some words.
+pub fn words(text: &[u8]) {
+    io::write_all(STDERR_FILENO, text);
+}
+
+// Some words, and the end of their line.
+pub fn line(text: &[u8]) {
+    words(text);
+    words(b"\n");
+}
+
+// A number.
+pub fn number(n: usize) {
+    io::print_decimal(STDERR_FILENO, n as u64);
+}
+
+// ---- the exit status
+
+// 0 is done, 1 refused, 2 bad usage or a failure of input or output. A program has no status of its own: it writes a digit to descriptor 3, which bin/program
+// turns into one. It is told last, when every file that the program opened is closed: where nobody has opened descriptor 3, a file could have that number.
+pub fn status(n: u8) {
+    match n {
+        0 => io::write_all(3, b"0"),
+        1 => io::write_all(3, b"1"),
+        _ => io::write_all(3, b"2"),
+    }
+    ;
+}
+
+// ---- refusals
+
+// What a number means.
+fn meaning(number: u8) {
+    match number {
+        1 => words(b"a side of the picture that is not a multiple of 4 from 4 to 4096"),
+        2 => words(b"something of the wrong length"),
+        3 => words(b"a setting outside its range"),
+        4 => words(b"a split byte that is not 0 or 1"),
+        5 => words(b"a block that reaches past the picture and is not cut"),
+        6 => words(b"a QP over 51"),
+        7 => words(b"a sample over 1023"),
+        8 => words(b"a place outside the picture, or off its multiple"),
+        9 => words(b"a mode that there is not"),
+        10 => words(b"a count of chroma points outside 1 to 58, or an a below 0"),
+        11 => words(b"a pivot outside -12 to 57"),
+        12 => words(b"a malformed sheet"),
+        13 => words(b"a leaf record, or the length of the leaf or residual list"),
+        _ => words(b"refused"),
+    }
+}
+
+// The line of a refusal: `refused=7: a sample over 1023`.
+pub fn refused(number: u8) {
+    words(b"refused=");
+    io::print_decimal(STDERR_FILENO, number as u64);
+    words(b": ");
+    meaning(number);
+    words(b"\n");
+}
