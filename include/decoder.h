@@ -27,7 +27,7 @@ enum {
     LOMSAKEUN_SETTING = 3,  /* the transform limit is not 5 or 6, or an offset lies outside -12..12 */
     LOMSAKEUN_SPLIT = 4,    /* a split byte reached by the walk is not 0 or 1 */
     LOMSAKEUN_LEAF = 5,     /* a leaf reaches past the picture */
-    LOMSAKEUN_QP = 6,       /* a QP, or a mapped chroma QP, outside 0..51 */
+    LOMSAKEUN_QP = 6,       /* a luma QP above 51 */
     LOMSAKEUN_SAMPLE = 7,   /* a sample over 1023 */
     LOMSAKEUN_BLOCK = 8,    /* a block's or a unit's place, or a side */
     LOMSAKEUN_MODE = 9,     /* a mode, or a consulted mode byte */

@@ -15,7 +15,7 @@ pub enum Refusal {
     Split = 4,
     /// A leaf reaches past the picture.
     Leaf = 5,
-    /// A QP, or a mapped chroma QP, outside 0..=51.
+    /// A luma QP above 51.
     Qp = 6,
     /// A sample over 1023.
     Sample = 7,

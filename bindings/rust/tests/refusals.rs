@@ -346,8 +346,6 @@ fn deblocking() {
     }
     for i in 0..2 {
         Deblock::refused(Length, |case| case.tables[i].push(0));
-        Deblock::refused(Qp, |case| case.tables[i].fill(52));
-        Deblock::refused(Qp, |case| case.tables[i].fill(-1));
     }
     Deblock::refused(Length, |case| case.words.push(0));
     Deblock::refused(Length, |case| case.splits.push(0));

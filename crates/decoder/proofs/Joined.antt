@@ -1,18 +1,12 @@
 -- What the driver leaves is accepted by deblocking: none of 1, 4 and 5, no 2 for the planes, the words and the split bytes, no 6 for a luma QP, and no 7.
 -- Assumes nothing.
-use Prim.Native.Nat.{ℕ, _*_, _/_, _≤_}
-use mathlib.Core.Bool.{Bool, true}
-use mathlib.Core.List.{List}
+use Prim.Native.Nat.{_*_, _/_}
+use mathlib.Core.Bool.{true}
 use mathlib.Core.Path.{_≡_, sym, ap, _∙_}
-use borrow.Author.Tests.{eq-eqb, leb-true}
-use lib.Dec.{leb}
-use lib.ListN.{length, getD}
+use borrow.Author.Tests.{eq-eqb}
+use lib.ListN.{length}
 use native.Mathlib.Omega.{arith}
-use Rattle.laws.specs.Scan.{allIn}
-use Rattle.laws.proofs.ScanAll.{scan-pass}
-use Rattle.laws.proofs.Scans.{scan-at}
 use Rattle.def.specs.Picture.{sizeOk, unitCount, rootCount, lumaLength, chromaLength}
-use Rattle.def.specs.Word.{qpOf}
 use Rattle.def.specs.declared.Answer.the-variants.{Done}
 use Rattle.samples.specs.Samples.{samplesOk}
 use Rattle.split.specs.Picture.{pictureWalk}
@@ -21,12 +15,6 @@ use Rattle.driver_rules.proofs.Checks.{all-passed}
 use Rattle.driver_rules.proofs.Finished.{last, finished}
 use Rattle.df_check.specs.Checks as deblocking
 use Rattle.decoder.specs.Joined.{Follows, Lent}
-
--- a scan of the words for QPs up to 51, and a test that all of these pass
-all-good : (good : ℕ → Bool) (words : List ℕ) → allIn 0 (λ (x : ℕ). leb (qpOf x) 51) words ≡ true → ((qp : ℕ) → qp ≤ 51 → good qp ≡ true) → allIn 0 (λ (x : ℕ). good (qpOf x)) words ≡ true
-all-good good words e f =
-    scan-pass (λ (k : ℕ). good (qpOf (getD words k 0))) (length words)
-    (λ k p. f (qpOf (getD words k 0)) (leb-true _ _ (scan-at (λ (j : ℕ). leb (qpOf (getD words j 0)) 51) (length words) k p e)))
 
 module _ (i : driver.Input) (fine : driver.check i ≡ Done) where
   left : driver.outcome i ≡ driver.done i
@@ -86,9 +74,9 @@ module _ (i : driver.Input) (fine : driver.check i ≡ Done) where
           eq-eqb _ _ (l .strengths),
         )
 
-    qps : deblocking.qpsOk (j .settings) (j .table0) (j .table1) (j .words) ≡ true
+    qps : deblocking.qpsOk (j .words) ≡ true
     unfolding deblocking.qpsOk
-    qps = rw is-words (all-good (deblocking.qpOk (j .settings) (j .table0) (j .table1)) (driver.end i .words) (finished i fine .qps) (l .lookups))
+    qps = rw is-words (finished i fine .qps)
 
     samples : deblocking.planesOk (j .y) (j .u) (j .v) ≡ true
     unfolding deblocking.planesOk

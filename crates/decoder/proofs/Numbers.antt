@@ -4,7 +4,7 @@ use Prim.Native.Nat.{ℕ}
 use mathlib.Core.Path.{_≡_, refl}
 use mathlib.Core.List.{map}
 use Rattle.laws.specs.Bits.{fieldOf}
-use Rattle.laws.specs.Clip.{maxZ, minZ, clipZ, absZ, withSign, sampleZ}
+use Rattle.laws.specs.Clip.{maxZ, minZ, clipZ, absZ, withSign, heldTo, sampleZ}
 use Rattle.laws.specs.Index.{tabulateFrom}
 use Rattle.def.specs.Word.{flagAt}
 use Rattle.chroma_qp_check.specs.Pivots.{qpAt, inOf, outOf}
@@ -15,5 +15,5 @@ use Rattle.line.specs.Row.{eqZ, far, countedAs, sameRefs, anyFar, motionRow, ro
 use Rattle.decoder.specs.Numbers.{Line, answered, table}
 
 pub numbers : (z : ℕ) → map (λ (l : Line). answered (l .asked)) (table z) ≡ map (λ (l : Line). l .answer) (table z)
-unfolding answered tabulateFrom maxZ minZ clipZ absZ withSign sampleZ lineOf lineZ movedBy farOf limitOf stepOf rowOf motionRow sameRefs anyFar far countedAs eqZ flagAt fieldOf predicted dc sumBelow log2 tableOf mapped upTo past below between clipQp outOf inOf qpAt
+unfolding answered tabulateFrom maxZ minZ clipZ absZ withSign sampleZ heldTo lineOf lineZ movedBy farOf limitOf stepOf rowOf motionRow sameRefs anyFar far countedAs eqZ flagAt fieldOf predicted dc sumBelow log2 tableOf mapped upTo past below between clipQp outOf inOf qpAt
 numbers z = refl

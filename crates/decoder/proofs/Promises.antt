@@ -15,7 +15,6 @@ use lib.ListN.{length, replicate}
 use Rattle.laws.proofs.Calls.{one-outcome}
 use Rattle.laws.specs.Bits.{fieldOf}
 use Rattle.laws.specs.Call.{allOf}
-use Rattle.laws.specs.Clip.{maxZ, minZ, clipZ}
 use Rattle.laws.specs.Orders.{run}
 use Rattle.laws.specs.Scan.{allBelow}
 use Rattle.def.specs.Answers.{answerNumber, afterChecks}
@@ -55,7 +54,6 @@ use Rattle.split.specs.ListCall as list
 use Rattle.split.specs.Picture.{leavesOf}
 use Rattle.split.specs.Walk.{onward, inTurn, leafWalk, byByte, walk}
 use Rattle.split.proofs.Apart.{leaves-apart, list-apart}
-use Rattle.strength.specs.ChromaQp.{indexOf, mappedZ}
 use Rattle.df_check.specs.Checks as checks
 use Rattle.df_check.specs.declared.VEdge.the-variants.{Source}
 use Rattle.df.specs.Deblock as deblock
@@ -487,7 +485,7 @@ checked-leaves-refusals = record { only = λ i. driver-stops i .by; shown = driv
 pub deblock-once : Sole 10 deblock-kinds.ps deblock-kinds.r deblock-reads.Post (λ κs r x. ended r (now (x .1 .1 .0) ∷ now (x .1 .1 .1 .0) ∷ now (x .1 .1 .1 .1 .0) ∷ now (x .1 .1 .1 .1 .1 .0) ∷ []))
 deblock-once κs a r r′ x x′ p q = settled deblock.outcome (λ o. o .reading) (λ o. o .y ∷ o .u ∷ o .v ∷ o .words ∷ []) p q (deblocked-apart r r′)
 
-pub checked-once : Sole 7 checked-kinds.ps checked-kinds.r checked-reads.Post (λ κs r x. r)
+pub checked-once : Sole 5 checked-kinds.ps checked-kinds.r checked-reads.Post (λ κs r x. r)
 checked-once κs a r r′ x x′ p q = one-outcome checks.checkOf _ _ _ p q
 
 -- a picture of one unit, w wide: its split bytes, the transform limit, its word, and the number that every luma sample is
@@ -531,11 +529,11 @@ checks-stop i =
     (rung (checks.lengthsOk (i .w) (i .h) (checks.lengthsOf i)) Length _
     (rung (checks.settingsOk (i .settings)) Setting _
     (walk-rung (Qp ∷ Sample ∷ []) _ _ (picture-stops (i .splits) (i .w / 4) (i .h / 4))
-    (rung (checks.qpsOk (i .settings) (i .table0) (i .table1) (i .words)) Qp _
+    (rung (checks.qpsOk (i .words)) Qp _
     (rung (checks.planesOk (i .y) (i .u) (i .v)) Sample _ last)))))
 
 pub deblock-refusals : Refuses deblock.outcome (λ o. o .reading .number) by-deblocking
-unfolding deblock.outcome checks.checkOf checks.lengthsOk checks.settingsOk checks.offsetOk checks.qpsOk checks.qpOk checks.planesOk list.limitOk sizeOk walk byByte inTurn onward leafWalk samplesOk allBelow fieldOf mappedZ indexOf clipZ maxZ minZ
+unfolding deblock.outcome checks.checkOf checks.lengthsOk checks.settingsOk checks.offsetOk checks.qpsOk checks.planesOk list.limitOk sizeOk walk byByte inTurn onward leafWalk samplesOk allBelow fieldOf
 deblock-refusals =
     record {
       only = λ i. by-checks (λ o. o .reading .number) (deblock.refused i) (deblock.done i) by-deblocking (deblock.check i) (λ r. refl) refl (checks-stop (deblock.checked i));
@@ -544,7 +542,7 @@ deblock-refusals =
     }
 
 pub checked-refusals : Refuses checks.checkOf answerNumber by-deblocking
-unfolding checks.checkOf checks.lengthsOk checks.settingsOk checks.offsetOk checks.qpsOk checks.qpOk checks.planesOk list.limitOk sizeOk walk byByte inTurn onward leafWalk samplesOk allBelow fieldOf mappedZ indexOf clipZ maxZ minZ
+unfolding checks.checkOf checks.lengthsOk checks.settingsOk checks.offsetOk checks.qpsOk checks.planesOk list.limitOk sizeOk walk byByte inTurn onward leafWalk samplesOk allBelow fieldOf
 checked-refusals = record { only = λ i. checks-stop i .by; shown = map deblock.checked filterings; given = refl }
 
 -- ---- the sheet

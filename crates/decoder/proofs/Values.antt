@@ -60,8 +60,6 @@ use Rattle.decoder.proofs.mask_of.Kinds as mask-of-kinds
 use Rattle.decoder.proofs.mask_of.Reads as mask-of-reads
 use Rattle.decoder.proofs.line.Kinds as line-kinds
 use Rattle.decoder.proofs.line.Reads as line-reads
-use Rattle.decoder.proofs.mapped_ok.Kinds as mapped-ok-kinds
-use Rattle.decoder.proofs.mapped_ok.Reads as mapped-ok-reads
 use Rattle.decoder.proofs.entries.Kinds as entries-kinds
 use Rattle.decoder.proofs.entries.Reads as entries-reads
 use Rattle.decoder.proofs.lanes.Kinds as lanes-kinds
@@ -152,9 +150,6 @@ line-once κs a r r′ x x′ p q = p ∙ sym q
 
 pub lanes-once : Sole 0 lanes-kinds.ps lanes-kinds.r lanes-reads.Post (λ κs r x. r)
 lanes-once κs a r r′ x x′ p q = p ∙ sym q
-
-pub mapped-ok-once : Sole 1 mapped-ok-kinds.ps mapped-ok-kinds.r mapped-ok-reads.Post (λ κs r x. r)
-mapped-ok-once κs a r r′ x x′ p q = p ∙ sym q
 
 pub entries-once : Sole 3 entries-kinds.ps entries-kinds.r entries-reads.Post (λ κs r x. r)
 entries-once κs a r r′ x x′ p q = p ∙ sym q

@@ -1,9 +1,8 @@
 -- From the driver to deblocking: what the one leaves, the other accepts. The proof is `joined`, in proofs/.
 -- Assumes nothing: these are definitions.
-use Prim.Native.Nat.{ℕ, _*_, _≤_}
+use Prim.Native.Nat.{_*_}
 use mathlib.Core.Bool.{true}
 use mathlib.Core.Path.{_≡_}
-use lib.ListN.{length}
 use Rattle.def.specs.Picture.{unitCount}
 use Rattle.driver_rules.specs.Call as driver
 use Rattle.df_check.specs.Checks as deblocking
@@ -18,12 +17,11 @@ pub record Follows (i : driver.Input) (j : deblocking.Input) : Type 0 where
   pub v : j .v ≡ driver.outcome i .v
   pub words : j .words ≡ driver.outcome i .words
 
--- what deblocking asks besides: the lengths of what it alone is lent, its settings, and that no QP of 0..51 is mapped outside
+-- what deblocking asks besides: the lengths of what it alone is lent, and its settings
 pub record Lent (j : deblocking.Input) : Type 0 where
   pub motion : j .motion ≡ 4 * unitCount (j .w) (j .h)
   pub refs : j .refs ≡ 2 * unitCount (j .w) (j .h)
-  pub table0 : length (j .table0) ≡ 70
-  pub table1 : length (j .table1) ≡ 70
+  pub table0 : j .table0 ≡ 70
+  pub table1 : j .table1 ≡ 70
   pub strengths : j .strengths ≡ 208
   pub settings : deblocking.settingsOk (j .settings) ≡ true
-  pub lookups : (qp : ℕ) → qp ≤ 51 → deblocking.qpOk (j .settings) (j .table0) (j .table1) qp ≡ true

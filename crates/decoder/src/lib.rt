@@ -9,7 +9,7 @@
 //     6 residual        recon, recon_plane
 //     7 driver          reconstruct; checked_leaves, coded_y, coded_u, coded_v, mode_of, word_of
 //     8 walk            leaves, check, visiting_rank, list_edges
-//       deblocking      deblock; checked, mapped_ok, entries, mask_of, line, lanes, motion_row
+//       deblocking      deblock; checked, entries, mask_of, line, lanes, motion_row
 //     the sheet         read, listing
 pub use avail::Avail;
 pub use avail::Neighbours;
@@ -79,4 +79,3 @@ pub use split::Walked;
 pub use split::check;
 pub use split::leaves;
 pub use strength::entries;
-pub use strength::mapped_ok;

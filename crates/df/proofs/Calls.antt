@@ -1,28 +1,21 @@
 -- The call: what its checks tell of the picture, the strengths of both passes in the words of the rule, and its outcome.
 -- Assumes nothing.
-use Prim.Native.Nat.{ℕ, _*_, _/_, _<_}
-use mathlib.Core.Path.{_≡_, sym, ap, _∙_, subst}
+use Prim.Native.Nat.{ℕ, _*_, _/_, _≤_}
+use mathlib.Core.Path.{_≡_, sym, ap, _∙_}
 use mathlib.Core.List.{List, List·Memᴰ}
 use native.Mathlib.Nat.{mul-comm}
 use native.Mathlib.Omega.{arith}
-use lib.Dec.{eqb}
-use lib.ListN.{length, getD}
+use lib.ListN.{length}
 use Rattle.def.specs.Picture.{unitCount}
-use Rattle.def.specs.Word.{qpOf}
 use Rattle.def.specs.declared.Answer.{Answer}
 use Rattle.def.specs.declared.Answer.the-variants.{Done as Fine, Refused as Bad}
 use Rattle.def.specs.declared.Refusal.{Refusal}
 use Rattle.def.proofs.Sizes.{Sized, sized}
-use Rattle.laws.proofs.Flat.{flat-within}
-use Rattle.split.specs.Demand3.{Demand3}
 use Rattle.split.specs.Edges.{Pass, vertical, horizontal, Edge}
-use Rattle.split.proofs.Demand3.{demand-3}
-use Rattle.split.proofs.Roots.{some-wide}
 use Rattle.strength.specs.Entries.{entriesOf}
 use Rattle.strength.proofs.Strengths.{luma-entry, u-entry, v-entry}
 use Rattle.df_check.specs.Tables.{vTable}
 use Rattle.df_check.proofs.Passed.{Passed, passed, any-qp}
-use Rattle.df_check.proofs.Units.{UnitTold}
 use Rattle.df_rules.specs.Filter.{Planes, inY, inU, inV, filterAll}
 use Rattle.df_rules.specs.Frame.{Frame, Both}
 use Rattle.df_rules.specs.Leaves.{Accepted}
@@ -78,14 +71,6 @@ module _ (i : Input) (fine : check i ≡ Fine) where
 
   -- ---- the strengths of an edge that a pass lists, by the pass's entries and by the rule
 
-  abbrev tree : Demand3 (eqb (i .settings .limit) 5) (i .splits) (i .w / 4) (i .h / 4)
-  tree = demand-3 (eqb (i .settings .limit) 5) (i .splits) (i .w / 4) (i .h / 4) (some-wide size) (told .walk)
-
-  unit-at : (d : Pass) (e : Edge) → List·Memᴰ e (passEdges d i) → UnitTold (i .settings) (i .table0) (i .table1) (qpOf (getD (i .words) (unitQ (i .w / 4) e) 0))
-  unit-at d e m =
-      let g = tree .members d e .0 m in
-      told .unit (unitQ (i .w / 4) e) (subst (λ (n : ℕ). unitQ (i .w / 4) e < n) (sym (told .lengths .words ∙ units)) (flat-within (e .y) (e .x) (i .w / 4) (i .h / 4) (g .column) (g .row)))
-
   module _ (d : Pass) (e : Edge) (m : List·Memᴰ e (passEdges d i)) where
     abbrev q : ℕ
     q = unitQ (i .w / 4) e
@@ -93,17 +78,20 @@ module _ (i : Input) (fine : check i ≡ Fine) where
     abbrev p : ℕ
     p = unitP d (i .w / 4) e
 
+    few : qpAt (mapsOf i) q ≤ 51
+    few = any-qp told q
+
     same-y : strength (mapsOf i) (entriesIn i d) inY d (i .w / 4) e ≡ strength (mapsOf i) (i .strengths) (qpY i d) d (i .w / 4) e
     unfolding strengthOf
-    same-y = ap (λ (n : ℕ). 4 * n) (luma-entry _ _ _ _ _ (rowAt (mapsOf i) q p) (qpAt (mapsOf i) q) (row-few (mapsOf i) q p) (unit-at d e m .few))
+    same-y = ap (λ (n : ℕ). 4 * n) (luma-entry _ _ _ _ _ (rowAt (mapsOf i) q p) (qpAt (mapsOf i) q) (row-few (mapsOf i) q p) few)
 
     same-u : strength (mapsOf i) (entriesIn i d) inU d (i .w / 4) e ≡ strength (mapsOf i) (i .strengths) (qpU i d) d (i .w / 4) e
     unfolding strengthOf
-    same-u = ap (λ (n : ℕ). 4 * n) (u-entry _ _ _ _ _ (rowAt (mapsOf i) q p) (qpAt (mapsOf i) q) (row-few (mapsOf i) q p) (unit-at d e m .few) (unit-at d e m .u))
+    same-u = ap (λ (n : ℕ). 4 * n) (u-entry _ _ _ _ _ (rowAt (mapsOf i) q p) (qpAt (mapsOf i) q) (row-few (mapsOf i) q p) few)
 
     same-v : strength (mapsOf i) (entriesIn i d) inV d (i .w / 4) e ≡ strength (mapsOf i) (i .strengths) (qpV i d) d (i .w / 4) e
     unfolding strengthOf
-    same-v = ap (λ (n : ℕ). 4 * n) (v-entry _ _ _ _ _ (rowAt (mapsOf i) q p) (qpAt (mapsOf i) q) (row-few (mapsOf i) q p) (unit-at d e m .few) (unit-at d e m .v d))
+    same-v = ap (λ (n : ℕ). 4 * n) (v-entry _ _ _ _ _ (rowAt (mapsOf i) q p) (qpAt (mapsOf i) q) (row-few (mapsOf i) q p) few)
 
   -- ---- the outcome
 

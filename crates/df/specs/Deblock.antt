@@ -68,8 +68,8 @@ checked i =
       splits = i .splits;
       motion = length (i .motion);
       refs = length (i .refs);
-      table0 = i .table0;
-      table1 = i .table1;
+      table0 = length (i .table0);
+      table1 = length (i .table1);
       strengths = length (i .strengths);
       settings = i .settings;
     }

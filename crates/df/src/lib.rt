@@ -155,8 +155,8 @@ pub fn deblock(
         splits,
         motion.len(),
         refs.len(),
-        table0,
-        table1,
+        table0.len(),
+        table1.len(),
         strengths.len(),
         settings,
     );

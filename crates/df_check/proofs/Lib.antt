@@ -1,4 +1,3 @@
 pub mod Passed
 pub mod Tables
-pub mod Units
 pub mod Walked

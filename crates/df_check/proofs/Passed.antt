@@ -9,11 +9,14 @@ use mathlib.Core.Bool.{true}
 use mathlib.Core.List.{[], _∷_}
 use native.Mathlib.Decide.{decLt}
 use native.Mathlib.Omega.{arith}
-use borrow.Author.Tests.{eqb-true}
+use borrow.Author.Tests.{eqb-true, leb-true}
+use lib.Dec.{leb}
 use lib.IntN.{ℤ, pos, negsuc}
 use lib.ListN.{length, getD, List·getD-eq-default}
 use lib.Signed.{leZ}
+use Rattle.laws.specs.Bits.{fieldOf}
 use Rattle.laws.proofs.Calls.{all-at}
+use Rattle.laws.proofs.Scans.{scan-at}
 use Rattle.def.specs.Answers.{afterChecks}
 use Rattle.def.specs.Picture.{sizeOk, lumaLength, chromaLength, unitCount, rootCount}
 use Rattle.def.specs.Word.{qpOf}
@@ -24,9 +27,8 @@ use Rattle.samples.specs.Samples.{samplesOk}
 use Rattle.samples.proofs.Samples.{sample-any}
 use Rattle.split.specs.ListCall.{limitOk}
 use Rattle.split.specs.Picture.{pictureWalk}
-use Rattle.df_check.specs.Checks.{Input, lengthTests, lengthsOf, lengthsOk, offsetOk, settingsOk, planesOk, checkOf}
+use Rattle.df_check.specs.Checks.{Input, lengthTests, lengthsOf, lengthsOk, offsetOk, settingsOk, qpsOk, planesOk, checkOf}
 use Rattle.df_check.specs.declared.check.Lengths.{Lengths}
-use Rattle.df_check.proofs.Units.{UnitTold, unit-told, no-word}
 
 -- ---- 2
 
@@ -87,14 +89,13 @@ pub record Passed (i : Input) : Type 0 where
   pub u-offset : Offset (i .settings .«u_offset»)
   pub v-offset : Offset (i .settings .«v_offset»)
   pub walk : pictureWalk (i .splits) (i .w / 4) (i .h / 4) .answer ≡ Done
-  -- of each unit the QP, and what U's lookup and V's in either pass map it to
-  pub unit : (k : ℕ) → k < length (i .words) → UnitTold (i .settings) (i .table0) (i .table1) (qpOf (getD (i .words) k 0))
+  pub qp : (k : ℕ) → k < length (i .words) → qpOf (getD (i .words) k 0) ≤ 51
   pub y : (k : ℕ) → getD (i .y) k 0 ≤ 1023
   pub u : (k : ℕ) → getD (i .u) k 0 ≤ 1023
   pub v : (k : ℕ) → getD (i .v) k 0 ≤ 1023
 
 pub passed : (i : Input) → checkOf i ≡ Done → Passed i
-unfolding checkOf settingsOk planesOk
+unfolding checkOf settingsOk qpsOk planesOk
 passed i e =
     let s = i .settings in
     let size = passes _ _ _ e in
@@ -112,15 +113,20 @@ passed i e =
       u-offset = offset-told (s .«u_offset») (all-at tests 1 (settings .holds));
       v-offset = offset-told (s .«v_offset») (all-at tests 2 (settings .holds));
       walk = walk .accepted;
-      unit = unit-told s (i .table0) (i .table1) (i .words) (qps .holds);
+      qp = λ k p. leb-true _ _ (scan-at (λ (j : ℕ). leb (qpOf (getD (i .words) j 0)) 51) (length (i .words)) k p (qps .holds));
       y = λ k. sample-any (i .y) k (all-at samples 0 planes);
       u = λ k. sample-any (i .u) k (all-at samples 1 planes);
       v = λ k. sample-any (i .v) k (all-at samples 2 planes);
     }
 
+-- the QP of no word
+no-word : qpOf 0 ≤ 51
+unfolding fieldOf
+no-word = omega arith
+
 -- a QP at any place: past the words there is 0
 pub any-qp : {i : Input} → Passed i → (k : ℕ) → qpOf (getD (i .words) k 0) ≤ 51
 any-qp {i} p k = go (decLt k (length (i .words))) where
   go : Dec (k < length (i .words)) → qpOf (getD (i .words) k 0) ≤ 51
-  go (yes h) = p .unit k h .few
+  go (yes h) = p .qp k h
   go (no h) = let out : length (i .words) ≤ k = omega arith in rw (List·getD-eq-default (i .words) 0 out) no-word

@@ -16,11 +16,8 @@ use Rattle.def.specs.declared.Answer.{Answer}
 use Rattle.def.specs.declared.Answer.the-variants.{Done, Refused}
 use Rattle.def.specs.declared.Refusal.the-variants.{Size, Length, Setting, Qp, Sample}
 use Rattle.samples.specs.Samples.{samplesOk}
-use Rattle.split.specs.Edges.{vertical, horizontal}
 use Rattle.split.specs.ListCall.{limitOk}
 use Rattle.split.specs.Picture.{pictureWalk}
-use Rattle.strength.specs.ChromaQp.{mappedZ, hasEntry}
-use Rattle.df_check.specs.Tables.{vTable}
 use Rattle.df_check.specs.declared.Settings.{Settings}
 use Rattle.df_check.specs.declared.check.Lengths.{Lengths}
 
@@ -49,27 +46,15 @@ offsetOk z = leZ (negsuc 11) z && leZ z (pos 12)
 unfoldable pub settingsOk : Settings → Bool
 settingsOk s = allOf (limitOk (s .limit) ∷ offsetOk (s .«u_offset») ∷ offsetOk (s .«v_offset») ∷ [])
 
--- 6: a QP over 51, or one that a lookup which the setting may use maps outside 0..51: U's, and V's in either pass
-abbrev pub qpTests : Settings → (table0 table1 : List ℤ) → ℕ → List Bool
-qpTests s table0 table1 qp =
-    leb qp 51
-    ∷ hasEntry (mappedZ table0 (s .«u_offset») qp)
-    ∷ hasEntry (mappedZ (vTable (s .«v_edge») vertical table0 table1) (s .«v_offset») qp)
-    ∷ hasEntry (mappedZ (vTable (s .«v_edge») horizontal table0 table1) (s .«v_offset») qp)
-    ∷ []
-
-unfoldable pub qpOk : Settings → (table0 table1 : List ℤ) → ℕ → Bool
-qpOk s table0 table1 qp = allOf (qpTests s table0 table1 qp)
-
--- of every unit, on an edge or not
-unfoldable pub qpsOk : Settings → (table0 table1 : List ℤ) → (words : List ℕ) → Bool
-qpsOk s table0 table1 words = allIn 0 (λ (x : ℕ). qpOk s table0 table1 (qpOf x)) words
+-- 6: a QP over 51, of every unit, on an edge or not
+unfoldable pub qpsOk : (words : List ℕ) → Bool
+qpsOk words = allIn 0 (λ (word : ℕ). leb (qpOf word) 51) words
 
 -- 7: a sample over 1023 in a plane
 unfoldable pub planesOk : (y u v : List ℕ) → Bool
 planesOk y u v = allOf (samplesOk y ∷ samplesOk u ∷ samplesOk v ∷ [])
 
--- what is lent to a call. Of motion, references and strengths the length alone
+-- what is lent to a call. Of motion, references, tables and strengths the length alone
 pub record Input : Type 0 where
   pub w : ℕ
   pub h : ℕ
@@ -80,8 +65,8 @@ pub record Input : Type 0 where
   pub splits : List ℕ
   pub motion : ℕ
   pub refs : ℕ
-  pub table0 : List ℤ
-  pub table1 : List ℤ
+  pub table0 : ℕ
+  pub table1 : ℕ
   pub strengths : ℕ
   pub settings : Settings
 
@@ -95,8 +80,8 @@ lengthsOf i =
       splits = length (i .splits);
       motion = i .motion;
       refs = i .refs;
-      table0 = length (i .table0);
-      table1 = length (i .table1);
+      table0 = i .table0;
+      table1 = i .table1;
       strengths = i .strengths;
     }
 
@@ -107,7 +92,7 @@ checkOf i =
     (unless (lengthsOk (i .w) (i .h) (lengthsOf i)) (Refused Length)
     (unless (settingsOk (i .settings)) (Refused Setting)
     (afterChecks Refused
-    (unless (qpsOk (i .settings) (i .table0) (i .table1) (i .words)) (Refused Qp)
+    (unless (qpsOk (i .words)) (Refused Qp)
     (unless (planesOk (i .y) (i .u) (i .v)) (Refused Sample)
     Done))
     (pictureWalk (i .splits) (i .w / 4) (i .h / 4) .answer))))

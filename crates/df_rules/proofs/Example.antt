@@ -12,7 +12,7 @@ use Rattle.def.specs.Word.{flagAt}
 use Rattle.def.specs.declared.Answer.the-variants.{Done}
 use Rattle.def.specs.declared.Component.the-variants.{Chroma}
 use Rattle.laws.specs.Bits.{fieldOf}
-use Rattle.laws.specs.Clip.{maxZ, minZ, clipZ, absZ, withSign, sampleZ}
+use Rattle.laws.specs.Clip.{maxZ, minZ, clipZ, absZ, withSign, heldTo, sampleZ}
 use Rattle.laws.specs.Orders.{each, run}
 use Rattle.line.specs.Line.{stepOf, limitOf, farOf, movedBy, lineZ, lineOf}
 use Rattle.line.specs.Row.{eqZ, far, countedAs, sameRefs, anyFar, motionRow, rowOf as strengthRow}
@@ -79,7 +79,7 @@ in-one-row : (run (filtered maps strengths (plain vertical) vertical Chroma 4) (
     ≡ 100 ∷ 107 ∷ 113 ∷ 126 ∷ 134 ∷ 140 ∷ 160 ∷ 160 ∷ 100 ∷ 107 ∷ 113 ∷ 126 ∷ 134 ∷ 140 ∷ 160 ∷ 160 ∷ [])
     × (run (filtered maps strengths (plain vertical) vertical Chroma 4) (edge 2 0 ∷ edge 1 0 ∷ []) (upper ++ upper)
     ≡ 100 ∷ 106 ∷ 114 ∷ 127 ∷ 133 ∷ 140 ∷ 160 ∷ 160 ∷ 100 ∷ 106 ∷ 114 ∷ 127 ∷ 133 ∷ 140 ∷ 160 ∷ 160 ∷ [])
-unfolding maps strengths plain upper run windowAt linesAt lineAt strengthOf rowAt strengthRow motionRow sameRefs anyFar far countedAs eqZ flagAt fieldOf lineOf lineZ movedBy sampleZ farOf limitOf stepOf withSign absZ clipZ minZ maxZ
+unfolding maps strengths plain upper run windowAt linesAt lineAt strengthOf rowAt strengthRow motionRow sameRefs anyFar far countedAs eqZ flagAt fieldOf lineOf lineZ movedBy sampleZ heldTo farOf limitOf stepOf withSign absZ clipZ minZ maxZ
 in-one-row = (refl, refl)
 
 -- the finished plane, by the lists as the passes visit them and row by row
@@ -92,5 +92,5 @@ ended =
 
 planes-agree : (finished maps strengths plain Chroma 4 (edgeList vertical false bytes 4 2) (edgeList horizontal false bytes 4 2) plane ≡ ended)
     × (finished maps strengths plain Chroma 4 (rowList vertical false bytes 4 2) (rowList horizontal false bytes 4 2) plane ≡ ended)
-unfolding bytes walk leafWalk byByte onward inTurn leavesOf each visitOf stretch leafAt leafOf isEdge rowOf rowsOf maps strengths plain upper lower plane ended run windowAt linesAt lineAt strengthOf rowAt strengthRow motionRow sameRefs anyFar far countedAs eqZ flagAt fieldOf lineOf lineZ movedBy sampleZ farOf limitOf stepOf withSign absZ clipZ minZ maxZ
+unfolding bytes walk leafWalk byByte onward inTurn leavesOf each visitOf stretch leafAt leafOf isEdge rowOf rowsOf maps strengths plain upper lower plane ended run windowAt linesAt lineAt strengthOf rowAt strengthRow motionRow sameRefs anyFar far countedAs eqZ flagAt fieldOf lineOf lineZ movedBy sampleZ heldTo farOf limitOf stepOf withSign absZ clipZ minZ maxZ
 planes-agree = (refl, refl)

@@ -5,6 +5,7 @@ pub mod Counting
 pub mod Differences
 pub mod Fill
 pub mod Flat
+pub mod Held
 pub mod Orders
 pub mod Parts
 pub mod Places

@@ -8,7 +8,7 @@ use native.Mathlib.Omega.{arith}
 use lib.Dec.{T, ltb, ltb→lt, nltb→le}
 use lib.IntN.{ℤ, pos, negsuc, negℤ, negℤ-negℤ, natAbs, subℕ, _+ℤ_, _-ℤ_, _*ℤ_}
 use lib.Signed.{quotZ}
-use Rattle.laws.specs.Clip.{maxZ, minZ, clipZ, withSign, sampleZ}
+use Rattle.laws.specs.Clip.{maxZ, minZ, clipZ, withSign, heldTo, sampleZ}
 use Rattle.laws.specs.Sign.{sg, gapN}
 
 -- a test's two cases
@@ -56,7 +56,7 @@ twice-sg true zero = refl
 twice-sg true (suc m) = refl
 twice-sg false m = refl
 
-max-pos : (m : ℕ) → maxZ (pos 0) (pos m) ≡ pos m
+pub max-pos : (m : ℕ) → maxZ (pos 0) (pos m) ≡ pos m
 unfolding maxZ
 max-pos m = by-lt (λ t. cond t (pos m) (pos 0) ≡ pos m) 0 m (λ h. refl) (λ h. pos= (omega arith))
 
@@ -118,7 +118,7 @@ abbrev pub movedN : Bool → ℕ → ℕ → ℕ
 movedN s x m = min (cond s (x - m) (x + m)) 1023
 
 sample-of : (s : Bool) (m : ℕ) → sampleZ (sg s m) ≡ cond s 0 (min m 1023)
-unfolding sampleZ clipZ
+unfolding sampleZ heldTo clipZ
 sample-of true m = ap (λ (z : ℤ). natAbs (maxZ (pos 0) z)) (min-neg 1023 m) ∙ ap natAbs (max-sg true m)
 sample-of false m = ap (λ (z : ℤ). natAbs (maxZ (pos 0) z)) (min-pos 1023 m) ∙ ap natAbs (max-pos (min m 1023))
 

@@ -22,6 +22,10 @@ absZ x = pos (natAbs x)
 unfoldable pub withSign : ℤ → ℤ → ℤ
 withSign d m = cond (ltZ d (pos 0)) (negℤ m) m
 
--- the sample at a number: clip(0, 1023, x)
+-- clip(0, top, x), a number without a sign
+unfoldable pub heldTo : (top : ℕ) → ℤ → ℕ
+heldTo top x = natAbs (clipZ (pos 0) (pos top) x)
+
+-- the sample at a number
 unfoldable pub sampleZ : ℤ → ℕ
-sampleZ x = natAbs (clipZ (pos 0) (pos 1023) x)
+sampleZ x = heldTo 1023 x

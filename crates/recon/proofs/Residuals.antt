@@ -2,16 +2,14 @@
 --     held-low, held-high, held-within    the residual's clip by its comparisons
 --     held-same, held-small    what is held makes the same sample, and is small
 --     sum-fits, machine-sum    the sum of a sample and a held residual, in 16 bits
---     clip-low, clip-high, clip-within    the sample's clip: a number below 0, over 1023, and between
 -- Assumes nothing.
 use Prim.Native.Nat.{ℕ, zero, suc, _+_, _-_, _≤_, _<_, min}
 use mathlib.Core.Path.{_≡_, refl, sym, ap, _∙_}
 use mathlib.Core.Bool.{Bool, true, false, cond}
 use native.Mathlib.Omega.{arith}
-use borrow.Author.Tests.{ltb-true, ltb-false, lt-ltb, le-ltb}
-use lib.Dec.{T}
-use lib.IntN.{ℤ, pos, negsuc, negℤ, natAbs, _+ℤ_}
-use lib.Signed.{ltZ, nonNeg, mag}
+use borrow.Author.Tests.{ltb-true, ltb-false, le-ltb}
+use lib.IntN.{ℤ, pos, negsuc, negℤ, _+ℤ_}
+use lib.Signed.{ltZ, mag}
 use mir.Syntax.{w16}
 use mir.Val.{SFits, toZ, ofZ}
 use Rattle.laws.specs.Clip.{maxZ, minZ, clipZ, sampleZ}
@@ -75,29 +73,3 @@ module _ (p : ℕ) (z : ℤ) (sample : p ≤ 1023) (small : mag z ≤ 1023) wher
 
   pub machine-sum : toZ w16 (ofZ w16 (toZ w16 p +ℤ toZ w16 (ofZ w16 z))) ≡ pos p +ℤ z
   machine-sum = ap (λ (s : ℤ). toZ w16 (ofZ w16 s)) machine-terms ∙ back w16 (pos p +ℤ z) sum-fits
-
--- ---- the sample
-
-pub clip-low : (z : ℤ) → ltZ z (pos 0) ≡ true → 0 ≡ sampleZ z
-unfolding sampleZ clipZ maxZ minZ
-clip-low (pos n) e = absurd (omega (arith, ltb-true n 0 e))
-clip-low (negsuc n) e = refl
-
-pub clip-high : (z : ℤ) → ltZ (pos 1023) z ≡ true → 1023 ≡ sampleZ z
-unfolding sampleZ clipZ maxZ minZ
-clip-high (pos n) e = rw e
-clip-high (negsuc n) e = cc
-
-pub record Within (z : ℤ) : Type 0 where
-  pub some : T (nonNeg z)
-  pub most : natAbs z ≤ 1023
-  pub same : natAbs z ≡ sampleZ z
-
-same-as : (n : ℕ) → ltZ (pos 1023) (pos n) ≡ false → n ≡ sampleZ (pos n)
-unfolding sampleZ clipZ maxZ minZ
-same-as zero e = refl
-same-as (suc n) e = rw (e, lt-ltb 0 (suc n) (omega arith))
-
-pub clip-within : (z : ℤ) → ltZ z (pos 0) ≡ false → ltZ (pos 1023) z ≡ false → Within z
-clip-within (pos n) a b = record { some = tt; most = omega (arith, ltb-false 1023 n b); same = same-as n b }
-clip-within (negsuc n) a b = absurd (let z : _≡_ {A = ℕ} 0 1 = cc in omega arith)

@@ -1,24 +1,19 @@
--- A chroma QP as the code finds it: the comparisons are the clip, the sums fit, and a QP that has an entry is not below 0.
+-- A chroma QP as the code finds it: the comparisons are the clips, and the sums fit.
 --     offset-fits, sum-fits, machine-terms, machine-sum    the sum of a QP and an offset, in 16 bits
 --     index-low, index-high, index-within    its clip: a sum below -12, over 57, and between
---     entry-told    what `hasEntry` tells
 -- Assumes nothing.
 use Prim.Native.Nat.{ℕ, suc, _+_, _-_, _≤_, _<_}
 use mathlib.Core.Path.{_≡_, refl, ap, _∙_}
 use mathlib.Core.Bool.{true, false, cond}
-use mathlib.Core.List.{[], _∷_}
 use native.Mathlib.Omega.{arith}
-use borrow.Author.Tests.{leb-true, ltb-true, ltb-false, le-ltb}
-use lib.Dec.{leb}
+use borrow.Author.Tests.{ltb-true, ltb-false, le-ltb}
 use lib.IntN.{ℤ, pos, negsuc, natAbs, _+ℤ_}
 use lib.Signed.{ltZ, mag}
 use mir.Syntax.{w8, w16}
 use mir.Val.{SFits, toZ, ofZ}
 use Rattle.laws.specs.Clip.{maxZ, minZ, clipZ}
-use Rattle.laws.proofs.Calls.{all-at}
 use Rattle.laws.proofs.Signs.{by-lt}
 use Rattle.laws.proofs.Widths.{mag-add, sfits, back}
-use Rattle.strength.specs.ChromaQp.{hasEntry}
 
 -- ---- the sum of a QP and an offset
 
@@ -75,15 +70,3 @@ index-within (negsuc n) a b =
       same = by-lt (λ t. 12 - suc n ≡ natAbs (pos 12 +ℤ cond t (negsuc n) (negsuc 11))) n 11
           (λ h. rw (le-ltb 12 (suc n) (omega arith))) (λ h. (omega arith));
     }
-
--- ---- a mapped QP
-
--- one that has an entry
-pub record Entry (z : ℤ) : Type 0 where
-  pub n : ℕ
-  pub is : z ≡ pos n
-  pub few : n ≤ 51
-
-pub entry-told : (z : ℤ) → hasEntry z ≡ true → Entry z
-entry-told (pos n) e = record { n = n; is = refl; few = leb-true n 51 (all-at (leb 0 n ∷ leb n 51 ∷ []) 1 e) }
-entry-told (negsuc n) e = absurd (let z : _≡_ {A = ℕ} 0 1 = cc in omega arith)

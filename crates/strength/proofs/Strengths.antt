@@ -1,30 +1,17 @@
 -- Laws of a pass's strength entries.
---     chroma-there, chroma-none    a chroma plane's entry where the mapped QP has one, and where not
 --     at-luma, at-u, at-v    the entry at a place, by the plane that has it
 --     entries-long, luma-entry, u-entry, v-entry    what callers cite: the table's length, and the entry of each plane in a row at a QP
 -- Assumes nothing.
 use Prim.Native.Nat.{ℕ, _+_, _*_, _/_, _%_, _≤_, _<_}
 use mathlib.Core.Path.{_≡_, _∙_}
-use mathlib.Core.Bool.{true, false}
 use mathlib.Core.List.{List}
 use native.Mathlib.Omega.{arith}
 use borrow.Author.Tests.{lt-ltb, le-ltb}
 use lib.IntN.{ℤ}
 use lib.ListN.{length, getD}
 use Rattle.laws.proofs.Tabulate.{length-tabulate, getD-tabulate}
-use Rattle.strength.specs.ChromaQp.{mappedZ, mapped, hasEntry}
+use Rattle.strength.specs.ChromaQp.{mapped}
 use Rattle.strength.specs.Entries.{chromaEntry, entryAt, entriesOf}
-
--- ---- a chroma plane's entry
-
-module _ (strengths : List ℕ) (table : List ℤ) (offset : ℤ) (row qp : ℕ) where
-  pub chroma-there : hasEntry (mappedZ table offset qp) ≡ true → chromaEntry strengths table offset row qp ≡ getD strengths (52 * row + mapped table offset qp) 0
-  unfolding chromaEntry
-  chroma-there e = rw e
-
-  pub chroma-none : hasEntry (mappedZ table offset qp) ≡ false → chromaEntry strengths table offset row qp ≡ 0
-  unfolding chromaEntry
-  chroma-none e = rw e
 
 module _ (strengths : List ℕ) (tableU : List ℤ) (uOffset : ℤ) (tableV : List ℤ) (vOffset : ℤ) where
   -- ---- the entry at a place
@@ -55,16 +42,18 @@ module _ (strengths : List ℕ) (tableU : List ℤ) (uOffset : ℤ) (tableV : Li
     pub luma-entry : getD (entriesOf strengths tableU uOffset tableV vOffset) (52 * row + qp) 0 ≡ getD strengths (52 * row + qp) 0
     luma-entry = entries-at (52 * row + qp) (omega arith) ∙ at-luma (52 * row + qp) (omega arith)
 
-    pub u-entry : hasEntry (mappedZ tableU uOffset qp) ≡ true → getD (entriesOf strengths tableU uOffset tableV vOffset) (52 * row + (208 + qp)) 0 ≡ getD strengths (52 * row + mapped tableU uOffset qp) 0
-    u-entry e =
+    pub u-entry : getD (entriesOf strengths tableU uOffset tableV vOffset) (52 * row + (208 + qp)) 0 ≡ getD strengths (52 * row + mapped tableU uOffset qp) 0
+    unfolding chromaEntry
+    u-entry =
         let i = 52 * row + (208 + qp) in
         let r : i % 208 / 52 ≡ row = omega arith in
         let q : i % 52 ≡ qp = omega arith in
-        entries-at i (omega arith) ∙ at-u i (omega arith) (omega arith) ∙ rw (r, q) (chroma-there strengths tableU uOffset row qp e)
+        entries-at i (omega arith) ∙ at-u i (omega arith) (omega arith) ∙ rw (r, q)
 
-    pub v-entry : hasEntry (mappedZ tableV vOffset qp) ≡ true → getD (entriesOf strengths tableU uOffset tableV vOffset) (52 * row + (416 + qp)) 0 ≡ getD strengths (52 * row + mapped tableV vOffset qp) 0
-    v-entry e =
+    pub v-entry : getD (entriesOf strengths tableU uOffset tableV vOffset) (52 * row + (416 + qp)) 0 ≡ getD strengths (52 * row + mapped tableV vOffset qp) 0
+    unfolding chromaEntry
+    v-entry =
         let i = 52 * row + (416 + qp) in
         let r : i % 208 / 52 ≡ row = omega arith in
         let q : i % 52 ≡ qp = omega arith in
-        entries-at i (omega arith) ∙ at-v i (omega arith) ∙ rw (r, q) (chroma-there strengths tableV vOffset row qp e)
+        entries-at i (omega arith) ∙ at-v i (omega arith) ∙ rw (r, q)

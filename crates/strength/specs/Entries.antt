@@ -7,11 +7,11 @@ use lib.Dec.{ltb}
 use lib.IntN.{ℤ}
 use lib.ListN.{getD}
 use Rattle.laws.specs.Index.{pick, tabulate}
-use Rattle.strength.specs.ChromaQp.{mappedZ, mapped, hasEntry}
+use Rattle.strength.specs.ChromaQp.{mapped}
 
--- a chroma plane's, in a row at a QP: 0 where what the QP is mapped to has none
+-- a chroma plane's, in a row at a QP
 unfoldable pub chromaEntry : (strengths : List ℕ) → (table : List ℤ) → (offset : ℤ) → (row qp : ℕ) → ℕ
-chromaEntry strengths table offset row qp = pick (hasEntry (mappedZ table offset qp)) (getD strengths (52 * row + mapped table offset qp) 0) 0
+chromaEntry strengths table offset row qp = getD strengths (52 * row + mapped table offset qp) 0
 
 -- at place i: luma's below 208, U's below 416, and V's
 unfoldable pub entryAt : (strengths : List ℕ) → (tableU : List ℤ) → (uOffset : ℤ) → (tableV : List ℤ) → (vOffset : ℤ) → ℕ → ℕ

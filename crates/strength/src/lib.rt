@@ -3,7 +3,7 @@
 ghost use mathlib.Core.Path.{_≡_};
 ghost use Prim.Native.Nat.{_≤_, _<_};
 ghost use lib.ListN.{getD};
-ghost use Rattle.strength.specs.ChromaQp.{indexOf, mappedZ, hasEntry};
+ghost use Rattle.strength.specs.ChromaQp.{indexOf, mappedZ, heldQp};
 ghost use Rattle.strength.specs.Entries.{chromaEntry, entryAt, entriesOf};
 
 // ---- a chroma QP
@@ -30,18 +30,17 @@ fn mapped(table: &[i8], offset: i8, qp: u8) -> i8
     if i < table.len() { table[i] } else { 0 }
 }
 
-// Whether a mapped QP has an entry in a row: 0..51.
-fn has_entry(qp: i8) -> bool
-    ensures { λ r. ⌜ r ≡ hasEntry qp ⌝ }
+// A mapped QP at the nearest end of 0..51.
+fn held_qp(qp: i8) -> usize
+    ensures { λ r. ⌜ (r ≡ heldQp qp) × (r ≤ 51) ⌝ }
 {
-    (0 <= qp) & (qp <= 51)
-}
-
-// Whether the QP that the table maps a QP to has one: the test of number 6.
-pub fn mapped_ok(table: &[i8], offset: i8, qp: u8) -> bool
-    ensures { λ r. ⌜ r ≡ hasEntry (mappedZ (now (table .entry)) offset qp) ⌝ }
-{
-    has_entry(mapped(table, offset, qp))
+    if qp < 0 {
+        0
+    } else if 51 < qp {
+        51
+    } else {
+        qp as usize
+    }
 }
 
 // ---- the entries
@@ -58,12 +57,7 @@ fn chroma_entry(strengths: &[u8], table: &[i8], offset: i8, row: usize, qp: u8) 
     requires { ⌜ row ≤ 3 ⌝ }
     ensures { λ r. ⌜ r ≡ chromaEntry (now (strengths .entry)) (now (table .entry)) offset row qp ⌝ }
 {
-    let to = mapped(table, offset, qp);
-    if has_entry(to) {
-        lent_at(strengths, 52 * row + to as usize)
-    } else {
-        0
-    }
+    lent_at(strengths, 52 * row + held_qp(mapped(table, offset, qp)))
 }
 
 // The entry at place i of the three planes'.

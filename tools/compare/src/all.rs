@@ -37,8 +37,9 @@ pub const CALLS: [Call; 12] = [
 ];
 
 /// The calls over whole pictures: each has all of a run's pictures.
-pub const PICTURES: [Call; 2] = [
+pub const PICTURES: [Call; 3] = [
     call("deblock", deblock_cases::draw, deblock_cases::damaged, 1000),
+    call("deblock_quiet", deblock_cases::draw_quiet, deblock_cases::damaged_quiet, 1000),
     call("driver", driver_cases::draw, driver_cases::damaged, 1000),
 ];
 

@@ -8,8 +8,9 @@ use lib.Signed.{mag}
 use mir.Syntax.{w16}
 use mir.Val.{toZ, ofZ}
 use Rattle.laws.specs.Clip.{sampleZ}
+use Rattle.laws.proofs.Held.{held-low, held-high, Within, held-within}
 use Rattle.laws.proofs.Widths.{back}
-use Rattle.recon.proofs.Residuals.{heldZ, held-same, held-small, sum-fits, machine-terms, machine-sum, clip-low, clip-high, Within, clip-within}
+use Rattle.recon.proofs.Residuals.{heldZ, held-same, held-small, sum-fits, machine-terms, machine-sum}
 use Rattle.recon.proofs.reconstructed.Statement.{statement}
 use Rattle.recon.proofs.reconstructed.Tie as tie
 
@@ -33,19 +34,22 @@ same c = ap (λ (z : ℤ). sampleZ (pos (c .before .args .p) +ℤ z)) (held-at c
 add-t : tie.Need-add-t
 add-t c = rw (machine-terms _ (c .held .result) (c .before .pre) (small c)) (sum-fits _ (c .held .result) (c .before .pre) (small c))
 
-within : (c : tie.Else2) → Within (sum (c .before .before))
-within c = clip-within (sum (c .before .before)) (rw (sum-at (c .before .before)) at (c .before .if1 .left)) (rw (sum-at (c .before .before)) at (c .if2 .left))
+within : (c : tie.Else2) → Within 1023 (sum (c .before .before))
+within c = held-within 1023 (sum (c .before .before)) (rw (sum-at (c .before .before)) at (c .before .if1 .left)) (rw (sum-at (c .before .before)) at (c .if2 .left))
 
 cast-result : tie.Need-cast-result
 cast-result c = rw (sum-at (c .before .before)) (within c .some, record { fits = omega (arith, within c .most) })
 
 returns : tie.Need-returns
-returns c = clip-low (sum (c .before)) (rw (sum-at (c .before)) at (c .if1 .taken)) ∙ same (c .before)
+unfolding sampleZ
+returns c = held-low 1023 (sum (c .before)) (rw (sum-at (c .before)) at (c .if1 .taken)) ∙ same (c .before)
 
 returns-2 : tie.Need-returns-2
-returns-2 c = clip-high (sum (c .before .before)) (rw (sum-at (c .before .before)) at (c .if2 .taken)) ∙ same (c .before .before)
+unfolding sampleZ
+returns-2 c = held-high 1023 (sum (c .before .before)) (rw (sum-at (c .before .before)) at (c .if2 .taken)) ∙ same (c .before .before)
 
 returns-3 : tie.Need-returns-3
+unfolding sampleZ
 returns-3 c = ap natAbs (sum-at (c .before .before)) ∙ within c .same ∙ same (c .before .before)
 
 pub reconstructed-spec : {M : Type 1} → statement M

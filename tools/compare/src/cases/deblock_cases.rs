@@ -270,6 +270,35 @@ pub fn draw(rng: &mut Rng) -> Box<dyn Case> {
     Box::new(varied(rng, size, i))
 }
 
+/// A picture whose chroma QPs are mapped below 0 and above 51 too: QPs near an end, offsets of 12 to that side, and tables
+/// that map to anything that a derived one can hold.
+fn quiet(rng: &mut Rng) -> Picture {
+    let most = rng.pick(&[8, 16, 36, 72]);
+    let size = square(rng, most);
+    let mut case = varied(rng, size, 1);
+    let (low, offset) = rng.pick(&[(0, -12), (0, -1), (44, 12), (44, 1)]);
+    case.words.iter_mut().for_each(|word| *word = *word & !(127 << 16) | (low + rng.below(8) as u32) << 16);
+    case.offsets = [offset, rng.pick(&[offset, 0])];
+    for table in &mut case.tables {
+        let shift = rng.range(-12, 40);
+        for (at, value) in table.iter_mut().enumerate() {
+            *value = (at as i64 - 12 + shift + rng.range(-2, 2)).clamp(-12, 91) as i8;
+        }
+    }
+    Picture { own: rng.one_in(2), ..case }
+}
+
+pub fn draw_quiet(rng: &mut Rng) -> Box<dyn Case> {
+    Box::new(quiet(rng))
+}
+
+pub fn damaged_quiet(rng: &mut Rng) -> Box<dyn Case> {
+    let mut case = quiet(rng);
+    let at = rng.below(case.words.len());
+    case.words[at] |= rng.pick(&[127, 64, 52]) << 16;
+    Box::new(case)
+}
+
 pub fn damaged(rng: &mut Rng) -> Box<dyn Case> {
     let size = square(rng, 24);
     let mut case = varied(rng, size, 1);

@@ -104,7 +104,7 @@ fn qps(tape: &mut Tape, rng: &mut Rng) {
     }
 }
 
-/// 6: a mapped chroma QP outside 0..51, in each lookup that the setting uses; in the others it does not matter.
+/// A mapped chroma QP outside 0..51, in each lookup: accepted, and read at the nearest end.
 fn mapped(tape: &mut Tape, rng: &mut Rng) {
     for (qp, offsets) in [(30, [-5, 7]), (51, [12, 12]), (0, [-12, -12]), (51, [0, 12])] {
         for own in [false, true] {

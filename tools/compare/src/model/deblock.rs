@@ -53,7 +53,7 @@ fn check(given: &Given, planes: [&[u16]; 3], words: &[u32]) -> Result<Vec<Leaf>,
         return Err(SETTING);
     }
     let leaves = walk::leaves(given.w, given.h, walk::cut_by(given.splits, given.w))?;
-    if !words.iter().all(|&word| qp_ok(given, word)) {
+    if !words.iter().all(|&word| qp_of(word) <= 51) {
         return Err(QP);
     }
     if !planes.iter().all(|plane| samples_ok(plane)) {
@@ -85,12 +85,11 @@ fn mapped(given: &Given, table: usize, offset: usize, qp: i64) -> i64 {
     given.tables[table][(12 + at) as usize] as i64
 }
 
-/// QP at most 51, and every lookup that its setting may use inside 0..51: V's may be of either table in `source`.
-fn qp_ok(given: &Given, word: u32) -> bool {
-    let qp = qp_of(word);
+/// Whether every lookup that the setting may use lies inside 0..51, where the Rust has entries: V's may be of either
+/// table in `source`.
+fn lookups_fit(given: &Given, word: u32) -> bool {
     let lookups: &[(usize, usize)] = if given.own { &[(0, 0), (1, 1)] } else { &[(0, 0), (0, 1), (1, 1)] };
-    let mapped_ok = |&(table, offset): &(usize, usize)| (0..=51).contains(&mapped(given, table, offset, qp));
-    qp <= 51 && lookups.iter().all(mapped_ok)
+    lookups.iter().all(|&(table, offset)| (0..=51).contains(&mapped(given, table, offset, qp_of(word))))
 }
 
 /// One unit edge: Q is the current unit, P the one left or above.
@@ -109,10 +108,10 @@ impl<'a> Edge<'a> {
         Edge { given, row: row(given, words, q, p), qp: qp_of(words[q]), along }
     }
 
-    /// The strength entry, for luma or for a chroma table and offset.
+    /// The strength entry, for luma or for a chroma table and offset: that of the nearest end where the mapped QP has none.
     fn entry(&self, chroma: Option<(usize, usize)>) -> i64 {
         let qp = chroma.map_or(self.qp, |(table, offset)| mapped(self.given, table, offset, self.qp));
-        self.given.strengths[52 * self.row + qp as usize] as i64
+        self.given.strengths[52 * self.row + qp.clamp(0, 51) as usize] as i64
     }
 
     /// Filters the edge's lines in one plane, the first of Q's samples being at (x, y).
@@ -168,8 +167,9 @@ fn differences(given: &Given, q: usize, p: usize) -> Option<[i64; 4]> {
     Some([0, 1, 2, 3].map(difference))
 }
 
-/// Whether an accepted picture lies in the Rust's domain as to its size and motion: at most 65,536 units, and
-/// the differences that it takes, up to the first of 4 or more at each visited edge, inside -32767..32767.
+/// Whether an accepted picture lies in the Rust's domain as to its size, its chroma QPs and its motion: at most 65,536
+/// units, every lookup inside 0..51, and the differences that it takes, up to the first of 4 or more at each visited
+/// edge, inside -32767..32767.
 pub fn fits(given: &Given, words: &[u32]) -> bool {
     let wide = given.w / 4;
     let leaves = walk::leaves(given.w, given.h, walk::cut_by(given.splits, given.w)).unwrap();
@@ -178,7 +178,9 @@ pub fn fits(given: &Given, words: &[u32]) -> bool {
     let unit = |(x, y): (usize, usize)| (y / 4) * wide + x / 4;
     let mut pairs = vertical.iter().map(|&edge| (unit(edge), unit(edge) - 1)).collect::<Vec<_>>();
     pairs.extend(horizontal.iter().map(|&edge| (unit(edge), unit(edge) - wide)));
-    words.len() <= 65536 && pairs.iter().all(|&(q, p)| taken_fit(given, words, q, p))
+    words.len() <= 65536
+        && words.iter().all(|&word| lookups_fit(given, word))
+        && pairs.iter().all(|&(q, p)| taken_fit(given, words, q, p))
 }
 
 fn taken_fit(given: &Given, words: &[u32], q: usize, p: usize) -> bool {

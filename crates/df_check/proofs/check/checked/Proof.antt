@@ -35,8 +35,8 @@ of p =
       splits = now (a .splits);
       motion = a .motion;
       refs = a .refs;
-      table0 = now (a .table0);
-      table1 = now (a .table1);
+      table0 = a .table0;
+      table1 = a .table1;
       strengths = a .strengths;
       settings = a .settings;
     }
@@ -46,7 +46,7 @@ abbrev rest5 : Input → Answer
 rest5 i = unless (planesOk (i .y) (i .u) (i .v)) (Refused Sample) Done
 
 abbrev rest4 : Input → Answer
-rest4 i = unless (qpsOk (i .settings) (i .table0) (i .table1) (i .words)) (Refused Qp) (rest5 i)
+rest4 i = unless (qpsOk (i .words)) (Refused Qp) (rest5 i)
 
 abbrev rest3 : Input → Answer
 rest3 i = afterChecks Refused (rest4 i) (pictureWalk (i .splits) (i .w / 4) (i .h / 4) .answer)

@@ -1,19 +1,41 @@
--- `df_check::check::qps_ok` meets its contract: the scan by the flags is the rule's. Assumes nothing.
-use mathlib.Core.Path.{sym, _∙_}
+-- `df_check::check::qps_ok` meets its contract: after i turns the flag is the test of the first i words. Assumes nothing.
+use Prim.Native.Nat.{ℕ, _-_, _≤_}
+use mathlib.Core.Path.{_≡_, sym, _∙_}
+use native.Mathlib.Omega.{arith}
 use borrow.Author.Needs.{needs}
 use denote.Ref.{now}
-use Rattle.df_check.proofs.Units.{scanned, led}
+use lib.Dec.{leb}
+use lib.ListN.{length, getD}
+use Rattle.laws.specs.Scan.{allBelow}
+use Rattle.laws.proofs.Scans.{scan-none}
+use Rattle.laws.proofs.ScanAll.{scan-step}
+use Rattle.def.specs.Word.{qpOf}
+use Rattle.df_check.specs.Checks.{qpsOk}
 use Rattle.df_check.proofs.check.qps_ok.Statement.{statement}
 use Rattle.df_check.proofs.check.qps_ok.Tie as tie
 
--- every QP lies before the first that is not good
-returns : tie.Need-returns
-returns c =
-    let w = c .before in
-    sym (led (w .before .before .before .good-qps .result) (now (w .before .before .before .before .before .args .words)) (w .before .leading .result) (w .before .leading .ensures) (sym (w .words-below .ensures) ∙ c .if1 .taken)) ∙ scanned _ _ _ _ _ (w .before .before .before .good-qps .ensures)
+abbrev Inv-loop : tie.InvT-loop
+Inv-loop words ok₀ i₀ ok i = (i ≤ length words) × (ok ≡ allBelow (λ (k : ℕ). leb (qpOf (getD words k 0)) 51) i)
 
-returns-2 : tie.Need-returns-2
-returns-2 c = c .words-ok .ensures ∙ scanned _ _ _ _ _ (c .before .before .before .before .before .before .good-qps .ensures)
+abbrev μ-loop : tie.MeasureT-loop
+μ-loop words ok₀ i₀ ok i = length words - i
+
+loop-holds : tie.Need-loop-holds Inv-loop μ-loop
+loop-holds c = (omega arith, sym (scan-none _))
+
+loop-again : tie.Need-loop-again Inv-loop μ-loop
+loop-again c =
+    let h = c .before .before .before .loop in
+    (search needs, rw (h .inv .1, c .get-qp .ensures .0) (sym (scan-step _ _)))
+
+returns : tie.Need-returns Inv-loop μ-loop
+unfolding qpsOk
+returns c =
+    let e : c .before .loop .i ≡ length (now (c .before .before .before .args .words)) = omega arith in
+    c .before .loop .inv .1 ∙ rw e
 
 pub qps-ok-spec : {M : Type 1} → statement M
-qps-ok-spec = tie.close (tie.spec (λ c κs. search needs) (λ c κs. search needs) (λ c κs. search needs) returns (λ c κs. search needs) returns-2)
+qps-ok-spec =
+    tie.close
+    (tie.spec Inv-loop μ-loop loop-holds (λ c. search needs) (λ c. search needs) (λ c κs. search needs) (λ c. search needs)
+    (λ c. search needs) (λ c. search needs) loop-again returns)
