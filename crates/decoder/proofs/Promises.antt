@@ -4,12 +4,13 @@
 -- The answer is determined, and not its reading alone, because each reading tells all answers apart: `answer-apart` (def), `reading-apart` (avail, df,
 -- sheet_lines, sheet), `rank-apart` (rank), `leaves-apart`, `list-apart` (split), and `number-apart` (def) of the refusals.
 -- Assumes nothing.
-use Prim.Native.Nat.{ℕ, _*_, _/_}
+use Prim.Native.Nat.{ℕ, _+_, _*_, _/_}
+use mathlib.Core.Logic.{inl, inr}
 use mathlib.Core.Path.{refl, sym, _∙_}
 use mathlib.Core.Bool.{true, false, _||_}
 use mathlib.Core.List.{List, [], _∷_, _++_, map}
 use denote.Ref.{now, ptr}
-use lib.Dec.{ltb, eqb}
+use lib.Dec.{ltb, leb, eqb}
 use lib.IntN.{ℤ, pos}
 use lib.ListN.{length, replicate}
 use Rattle.laws.proofs.Calls.{one-outcome}
@@ -52,6 +53,7 @@ use Rattle.split.specs.CheckCall as check
 use Rattle.split.specs.LeavesCall as leaves
 use Rattle.split.specs.ListCall as list
 use Rattle.split.specs.Picture.{leavesOf}
+use Rattle.split.specs.RootCall as root-list
 use Rattle.split.specs.Walk.{onward, inTurn, leafWalk, byByte, walk}
 use Rattle.split.proofs.Apart.{leaves-apart, list-apart}
 use Rattle.df_check.specs.Checks as checks
@@ -69,7 +71,7 @@ use Rattle.sheet.specs.Words.{newline}
 use Rattle.sheet.proofs.Outcomes.{reading-apart as printed-apart}
 use Rattle.decoder.specs.Promise.{ended, Sole, Refuses, refusalIn}
 use Rattle.decoder.proofs.Settled.{told, settled}
-use Rattle.decoder.proofs.Refusing.{Stops, last, rung, walk-rung, by-checks, root-stops, picture-stops, line-said, sheet-rung, digits-said}
+use Rattle.decoder.proofs.Refusing.{Stops, last, rung, again, walk-rung, by-checks, root-stops, picture-stops, line-said, sheet-rung, digits-said}
 use Rattle.decoder.proofs.checked_points.Kinds as checked-points-kinds
 use Rattle.decoder.proofs.checked_points.Reads as checked-points-reads
 use Rattle.decoder.proofs.derived_chroma_qp_mapping_tables.Kinds as tables-kinds
@@ -100,6 +102,8 @@ use Rattle.decoder.proofs.visiting_rank.Kinds as visiting-rank-kinds
 use Rattle.decoder.proofs.visiting_rank.Reads as visiting-rank-reads
 use Rattle.decoder.proofs.list_edges.Kinds as list-edges-kinds
 use Rattle.decoder.proofs.list_edges.Reads as list-edges-reads
+use Rattle.decoder.proofs.root_list.Kinds as root-list-kinds
+use Rattle.decoder.proofs.root_list.Reads as root-list-reads
 use Rattle.decoder.proofs.deblock.Kinds as deblock-kinds
 use Rattle.decoder.proofs.deblock.Reads as deblock-reads
 use Rattle.decoder.proofs.checked_leaves.Kinds as checked-leaves-kinds
@@ -349,6 +353,9 @@ visiting-rank-once κs a r r′ x x′ p q = told rank.outcome (λ o. o .reading
 pub list-edges-once : Sole 3 list-edges-kinds.ps list-edges-kinds.r list-edges-reads.Post (λ κs r x. ended r (now (x .1 .1 .1 .1 .0) ∷ now (x .1 .1 .1 .1 .1 .0) ∷ []))
 list-edges-once κs a r r′ x x′ p q = settled list.outcome (λ o. o .reading) (λ o. o .vertical ∷ o .horizontal ∷ []) p q (list-apart r r′)
 
+pub root-list-once : Sole 2 root-list-kinds.ps root-list-kinds.r root-list-reads.Post (λ κs r x. ended r (now (x .1 .1 .1 .1 .1 .1 .1 .1 .0) ∷ []))
+root-list-once κs a r r′ x x′ p q = settled root-list.outcome (λ o. o .reading) (λ o. o .out ∷ []) p q (leaves-apart r r′)
+
 -- the split bytes of a root, all of them b. In a picture of one unit a block of 64 reaches past the picture
 abbrev root : ℕ → List ℕ
 root b = replicate 1024 b
@@ -410,6 +417,26 @@ list-edges-refusals =
           (rung (list.limitOk (i .limit)) Setting _
           (picture-stops (i .splits) (i .w / 4) (i .h / 4)))));
       shown = edges 0 [] 5 ∷ edges 4 [] 5 ∷ edges 4 (root 2) 7 ∷ edges 4 (root 2) 5 ∷ edges 4 (root 0) 5 ∷ [];
+      given = refl;
+    }
+
+abbrev rooted : ℕ → List ℕ → ℕ → root-list.Input
+rooted w splits x = record { w = w; h = 4; splits = splits; x = x; y = 0; horizontal = false; short = false; top = 0; out = replicate 512 0 }
+
+pub root-list-refusals : Refuses root-list.outcome (λ o. o .reading .number) (Size ∷ Length ∷ Block ∷ Split ∷ Leaf ∷ [])
+unfolding root-list.outcome root-list.checkOf leaves.checkOf leaves.lengthsOk leaves.rootOk sizeOk walk byByte inTurn onward leafWalk
+root-list-refusals =
+    record {
+      only = λ i.
+          by-checks (λ o. o .reading .number) (root-list.refused i) (root-list.done i) (Size ∷ Length ∷ Block ∷ Split ∷ Leaf ∷ []) (root-list.check i) (λ r. refl) refl
+          (again (sizeOk (i .w) (i .h)) Size _ (inl refl)
+          (again (leb (i .top + i .h / 4) 1024) Size _ (inl refl)
+          (again (eqb (length (i .out)) 512) Length _ (inr (inl refl))
+          (rung (sizeOk (i .w) (i .h)) Size _
+          (rung (leaves.lengthsOk (i .w) (i .h) (length (i .splits)) 768) Length _
+          (rung (leaves.rootOk (i .w) (i .h) (i .x) (i .y)) Block _
+          (root-stops (i .splits) (i .w / 4) (i .h / 4) (leaves.rootIndex (i .w) (i .x) (i .y)))))))));
+      shown = rooted 0 [] 0 ∷ rooted 4 [] 0 ∷ rooted 4 (root 2) 1 ∷ rooted 4 (root 2) 0 ∷ rooted 4 (root 0) 0 ∷ [];
       given = refl;
     }
 

@@ -1,5 +1,5 @@
 -- Laws of the refusals that a call gives: by the rungs of its ladder, and by its walk.
---     last, rung, by-checks
+--     last, rung, again, by-checks
 --     root-stops, picture-stops    a walk is refused for a split byte or a leaf
 --     sheet-stops    by the digits of a sheet, for the sheet or a leaf: 4 never comes from a sheet
 --     walk-rung    a walk among the rungs: its refusals, above those of what comes after it
@@ -48,6 +48,11 @@ last = record { by = refl }
 pub rung : {rs : List Refusal} (t : Bool) (r : Refusal) (k : Answer) → Stops rs k → Stops (r ∷ rs) (unless t (Refused r) k)
 rung true r k p = record { by = inr (p .by) }
 rung false r k p = record { by = inl refl }
+
+-- one whose refusal is among those of the rest
+pub again : {rs : List Refusal} (t : Bool) (r : Refusal) (k : Answer) → OneOf rs (numberOf r) → Stops rs k → Stops rs (unless t (Refused r) k)
+again true r k m p = p
+again false r k m p = record { by = m }
 
 -- the number of an outcome is that of the answer of the checks
 pub by-checks : {O : Type 0} (number : O → ℕ) (stop : Refusal → O) (done : O) (rs : List Refusal) (a : Answer) → ((r : Refusal) → number (stop r) ≡ numberOf r) → number done ≡ 0 → Stops rs a → OneOf rs (number (afterChecks stop done a))

@@ -8,7 +8,7 @@
 //     5 five modes      ipred_b
 //     6 residual        recon, recon_plane
 //     7 driver          reconstruct; checked_leaves, coded_y, coded_u, coded_v, mode_of, word_of
-//     8 walk            leaves, check, visiting_rank, list_edges
+//     8 walk            leaves, check, visiting_rank, list_edges, root_list
 //       deblocking      deblock; checked, entries, mask_of, line, lanes, motion_row
 //     the sheet         read, listing
 pub use avail::Avail;
@@ -54,6 +54,7 @@ pub use driver_check::coded_y;
 pub use driver_check::mode_of;
 pub use driver_check::word_of;
 pub use edges::list_edges;
+pub use edges::root_list;
 pub use ipred::ipred_b;
 pub use lanes::lanes;
 pub use line::Mask;

@@ -10,7 +10,7 @@ use lib.ListN.{getD}
 use Rattle.def.specs.Answers.{answerNumber, afterChecks}
 use Rattle.def.specs.Refusals.{numberOf}
 use Rattle.def.specs.declared.Refusal.{Refusal}
-use Rattle.def.specs.declared.Refusal.the-variants.{Size, Length, Setting, Split, Leaf, Qp, Sample, Block, Mode, Points, Pivot, Sheet, Record}
+use Rattle.def.specs.declared.Refusal.the-variants.{Size, Length, Setting, Split, Leaf, Qp, Sample, Block, Mode, Points, Pivot, Sheet, Record, Band}
 use Rattle.def.specs.declared.Answer.{Answer}
 use Rattle.def.specs.declared.Answer.the-variants.{Done, Refused}
 
@@ -31,6 +31,7 @@ answers =
     ∷ Refused Pivot
     ∷ Refused Sheet
     ∷ Refused Record
+    ∷ Refused Band
     ∷ []
 
 abbrev answerOf : ℕ → Answer
@@ -50,6 +51,7 @@ refusal-back Points = refl
 refusal-back Pivot = refl
 refusal-back Sheet = refl
 refusal-back Record = refl
+refusal-back Band = refl
 
 back : (a : Answer) → answerOf (answerNumber a) ≡ a
 back Done = refl
@@ -76,6 +78,7 @@ number-some Points = omega arith
 number-some Pivot = omega arith
 number-some Sheet = omega arith
 number-some Record = omega arith
+number-some Band = omega arith
 
 -- ---- a call's outcome. a is what the checks answered, and k what the rule's checks find
 

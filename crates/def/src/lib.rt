@@ -179,6 +179,8 @@ pub enum Refusal {
     Sheet,
     // 13: the leaf list, the residual list, a mask or a spare byte
     Record,
+    // 14: a band that is not the position's next, or past the last
+    Band,
 }
 
 // The number of a refusal.
@@ -199,6 +201,7 @@ pub fn refusal_number(r: Refusal) -> u8
         Refusal::Pivot => 11,
         Refusal::Sheet => 12,
         Refusal::Record => 13,
+        Refusal::Band => 14,
     }
 }
 

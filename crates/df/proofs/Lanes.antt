@@ -1,18 +1,13 @@
 -- The lanes of a unit's edge.
 --     line-inside    a line lies no further than the last
 --     gather-none, gather-more    lines of a plane become lanes, one after the other
---     quiet-unit    a unit's edge at no strength
---     lanes-filtered, filtered-unit    and by its lanes, filtered and written back
+--     luma-done, chroma-done    a unit's edge by its lanes, filtered and written back
 -- Assumes nothing.
 use Prim.Native.Nat.{ℕ, zero, suc, _+_, _-_, _*_, _≤_, _<_}
 use mathlib.Core.Path.{_≡_, refl, sym, ap, _∙_}
-use mathlib.Core.Bool.{Bool, true}
 use mathlib.Core.List.{List, [], _∷_}
-use borrow.Author.Tests.{eqb-true}
-use lib.Dec.{eqb}
+use Rattle.def.specs.declared.Component.{Component}
 use Rattle.def.specs.declared.Component.the-variants.{Luma, Chroma}
-use Rattle.laws.specs.Call.{allOf}
-use Rattle.laws.proofs.Calls.{all-at}
 use Rattle.line.specs.Line.{maskOf}
 use native.Mathlib.Decide.{decLt}
 use native.Mathlib.Nat.{mul-le-mul-right}
@@ -22,12 +17,10 @@ use Rattle.line.specs.declared.Quad.{Quad}
 use Rattle.lanes.specs.Lanes.{laneOf, heldLine, lanesOf}
 use Rattle.lanes.proofs.ByLane.{laid, own-lane, other-lane, lane-of, on-samples}
 use Rattle.df_rules.specs.Lanes.{samplesAt, putLines}
-use Rattle.df_rules.specs.Window.{quadAt}
+use Rattle.df_rules.specs.Window.{quadAt, windowAt}
 use Rattle.df_rules.proofs.Lanes.{window-put}
-use Rattle.df_rules.proofs.Windows.{untouched}
 use Rattle.df.specs.declared.window.Place.{Place}
-use Rattle.df.specs.declared.window.Strengths.{Strengths}
-use Rattle.df.specs.Edges.{Inside, Lying, Gathered, Filtered, Windowed}
+use Rattle.df.specs.Edges.{Inside, Lying, Gathered}
 
 pub line-inside : (p : Place) (n k : ℕ) (xs : List ℕ) → Inside p (n - 1) xs → k < n → Inside p k xs
 line-inside p n k xs h l = let m : k * p .next ≤ (n - 1) * p .next = mul-le-mul-right (p .next) (omega arith) in omega arith
@@ -63,58 +56,48 @@ became p st first n xs t sts r g h held strong e k l =
 
 -- ---- a unit's edge
 
-pub quiet-unit : (luma chroma : Place) (st : Strengths) (y u v : List ℕ) (b : Bool) → b ≡ allOf (eqb (st .y) 0 ∷ eqb (st .u) 0 ∷ eqb (st .v) 0 ∷ []) → b ≡ true
-    → Windowed luma chroma st y u v y u v
-quiet-unit luma chroma st y u v b e t = record {
-  y = untouched _ _ _ _ _ _ y (at 0 (st .y) refl);
-  u = untouched _ _ _ _ _ _ u (at 1 (st .u) refl);
-  v = untouched _ _ _ _ _ _ v (at 2 (st .v) refl);
-}
-  where
-    tests : List Bool
-    tests = eqb (st .y) 0 ∷ eqb (st .u) 0 ∷ eqb (st .v) 0 ∷ []
+-- and were written back
+written : (c : Component) (p : Place) (st first n : ℕ) (xs xs₁ t sts r : List ℕ) → Lying p n xs → first + n ≤ 8
+    → ((k : ℕ) → k < n → laneOf t (first + k) ≡ samplesAt (p .step) (p .at + k * p .next) xs)
+    → ((k : ℕ) → k < n → getD sts (first + k) 0 ≡ st) → r ≡ lanesOf t sts
+    → xs₁ ≡ putLines (maskOf c) (λ (k : ℕ). laneOf r (first + k)) (p .step) (p .next) (p .at) n xs
+    → xs₁ ≡ windowAt (maskOf c) st (p .step) (p .next) (p .at) n xs
+written c p st first n xs xs₁ t sts r g h held strong e w =
+    w ∙ window-put (maskOf c) (λ (k : ℕ). laneOf r (first + k)) st (p .step) (p .next) (p .at) n xs (g .apart) (g .all) (became p st first n xs t sts r g h held strong e)
 
-    at : (i x : ℕ) → getD tests i true ≡ eqb x 0 → x ≡ 0
-    at i x d = eqb-true x 0 (sym d ∙ all-at tests i (sym e ∙ t))
+-- the strengths of the lanes: luma's, and those of U and V
+abbrev lumaSts : ℕ → List ℕ
+lumaSts st = st ∷ st ∷ st ∷ st ∷ 0 ∷ 0 ∷ 0 ∷ 0 ∷ []
 
--- the strengths of the lanes
-abbrev pub strengthsOf : Strengths → List ℕ
-strengthsOf st = st .y ∷ st .y ∷ st .y ∷ st .y ∷ st .u ∷ st .u ∷ st .v ∷ st .v ∷ []
+abbrev chromaSts : ℕ → ℕ → List ℕ
+chromaSts su sv = su ∷ su ∷ sv ∷ sv ∷ 0 ∷ 0 ∷ 0 ∷ 0 ∷ []
 
-each-y : (st : Strengths) (k : ℕ) → k < 4 → getD (strengthsOf st) (0 + k) 0 ≡ st .y
+each-y : (st k : ℕ) → k < 4 → getD (lumaSts st) (0 + k) 0 ≡ st
 each-y st zero h = refl
 each-y st (suc zero) h = refl
 each-y st (suc (suc zero)) h = refl
 each-y st (suc (suc (suc zero))) h = refl
 each-y st (suc (suc (suc (suc k)))) h = absurd (omega arith)
 
-each-u : (st : Strengths) (k : ℕ) → k < 2 → getD (strengthsOf st) (4 + k) 0 ≡ st .u
-each-u st zero h = refl
-each-u st (suc zero) h = refl
-each-u st (suc (suc k)) h = absurd (omega arith)
+each-u : (su sv k : ℕ) → k < 2 → getD (chromaSts su sv) (0 + k) 0 ≡ su
+each-u su sv zero h = refl
+each-u su sv (suc zero) h = refl
+each-u su sv (suc (suc k)) h = absurd (omega arith)
 
-each-v : (st : Strengths) (k : ℕ) → k < 2 → getD (strengthsOf st) (6 + k) 0 ≡ st .v
-each-v st zero h = refl
-each-v st (suc zero) h = refl
-each-v st (suc (suc k)) h = absurd (omega arith)
+each-v : (su sv k : ℕ) → k < 2 → getD (chromaSts su sv) (2 + k) 0 ≡ sv
+each-v su sv zero h = refl
+each-v su sv (suc zero) h = refl
+each-v su sv (suc (suc k)) h = absurd (omega arith)
 
--- y, u and v gathered one after the other into t, and filtered
-pub lanes-filtered : (luma chroma : Place) (st : Strengths) (y u v o ty tu t r : List ℕ) → Lying luma 4 y → Lying chroma 2 u → Lying chroma 2 v
-    → Gathered luma y o 0 4 ty → Gathered chroma u ty 4 2 tu → Gathered chroma v tu 6 2 t → r ≡ lanesOf t (strengthsOf st) → Filtered luma chroma st y u v r
-lanes-filtered luma chroma st y u v o ty tu t r ly lu lv gy gu gv e = record {
-  y = became luma (st .y) 0 4 y t (strengthsOf st) r ly (omega arith) (λ k h. gv .before (0 + k) (omega arith) ∙ gu .before (0 + k) (omega arith) ∙ gy .lines k h) (each-y st) e;
-  u = became chroma (st .u) 4 2 u t (strengthsOf st) r lu (omega arith) (λ k h. gv .before (4 + k) (omega arith) ∙ gu .lines k h) (each-u st) e;
-  v = became chroma (st .v) 6 2 v t (strengthsOf st) r lv (omega arith) (gv .lines) (each-v st) e;
-}
+pub luma-done : (p : Place) (st : ℕ) (o t r y y₁ : List ℕ) → Lying p 4 y → Gathered p y o 0 4 t → r ≡ lanesOf t (lumaSts st)
+    → y₁ ≡ putLines (maskOf Luma) (λ (k : ℕ). laneOf r (0 + k)) (p .step) (p .next) (p .at) 4 y → y₁ ≡ windowAt (maskOf Luma) st (p .step) (p .next) (p .at) 4 y
+luma-done p st o t r y y₁ l g e w = written Luma p st 0 4 y y₁ t (lumaSts st) r l (omega arith) (g .lines) (each-y st) e w
 
--- and written back
-pub filtered-unit : (luma chroma : Place) (st : Strengths) (y u v y₁ u₁ v₁ r : List ℕ) → Lying luma 4 y → Lying chroma 2 u → Lying chroma 2 v → Filtered luma chroma st y u v r
-    → y₁ ≡ putLines (maskOf Luma) (λ (k : ℕ). laneOf r (0 + k)) (luma .step) (luma .next) (luma .at) 4 y
-    → u₁ ≡ putLines (maskOf Chroma) (λ (k : ℕ). laneOf r (4 + k)) (chroma .step) (chroma .next) (chroma .at) 2 u
-    → v₁ ≡ putLines (maskOf Chroma) (λ (k : ℕ). laneOf r (6 + k)) (chroma .step) (chroma .next) (chroma .at) 2 v
-    → Windowed luma chroma st y u v y₁ u₁ v₁
-filtered-unit luma chroma st y u v y₁ u₁ v₁ r ly lu lv f py pu pv = record {
-  y = py ∙ window-put (maskOf Luma) (λ (k : ℕ). laneOf r (0 + k)) (st .y) (luma .step) (luma .next) (luma .at) 4 y (ly .apart) (ly .all) (f .y);
-  u = pu ∙ window-put (maskOf Chroma) (λ (k : ℕ). laneOf r (4 + k)) (st .u) (chroma .step) (chroma .next) (chroma .at) 2 u (lu .apart) (lu .all) (f .u);
-  v = pv ∙ window-put (maskOf Chroma) (λ (k : ℕ). laneOf r (6 + k)) (st .v) (chroma .step) (chroma .next) (chroma .at) 2 v (lv .apart) (lv .all) (f .v);
-}
+pub chroma-done : (p : Place) (su sv : ℕ) (o tu t r u v u₁ v₁ : List ℕ) → Lying p 2 u → Lying p 2 v → Gathered p u o 0 2 tu → Gathered p v tu 2 2 t → r ≡ lanesOf t (chromaSts su sv)
+    → u₁ ≡ putLines (maskOf Chroma) (λ (k : ℕ). laneOf r (0 + k)) (p .step) (p .next) (p .at) 2 u
+    → v₁ ≡ putLines (maskOf Chroma) (λ (k : ℕ). laneOf r (2 + k)) (p .step) (p .next) (p .at) 2 v
+    → (u₁ ≡ windowAt (maskOf Chroma) su (p .step) (p .next) (p .at) 2 u) × (v₁ ≡ windowAt (maskOf Chroma) sv (p .step) (p .next) (p .at) 2 v)
+chroma-done p su sv o tu t r u v u₁ v₁ lu lv gu gv e wu wv = (
+  written Chroma p su 0 2 u u₁ t (chromaSts su sv) r lu (omega arith) (λ k h. gv .before (0 + k) (omega arith) ∙ gu .lines k h) (each-u su sv) e wu,
+  written Chroma p sv 2 2 v v₁ t (chromaSts su sv) r lv (omega arith) (gv .lines) (each-v su sv) e wv,
+)

@@ -1,6 +1,13 @@
 pub mod Apart
+pub mod BandCalls
 pub mod Calls
 pub mod Demand3
 pub mod Edges
+pub mod Fronts
+pub mod Joined
 pub mod Lanes
+pub mod Listed
+pub mod Plans
+pub mod Room
 pub mod Rows
+pub mod Turns

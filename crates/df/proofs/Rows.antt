@@ -2,8 +2,8 @@
 --     row-none, row-more    a loop that writes a row
 --     rows-lines     four rows, written one after the other, are their lines
 --     rows-copied    so are four rows that are copied
---     rows-filtered    a unit's edge, filtered by its rows
---     beside-pass    in which pass a unit's lines lie side by side
+--     gathered    rows of a plane as lanes
+--     beside-luma, beside-chroma    in which pass a unit's lines lie side by side
 -- Assumes nothing.
 use Prim.Native.Nat.{ℕ, zero, suc, _+_, _*_, _≤_, _<_}
 use mathlib.Core.Path.{_≡_, refl, sym, ap, _∙_, subst}
@@ -18,16 +18,14 @@ use Rattle.def.specs.declared.Component.the-variants.{Luma}
 use Rattle.line.specs.declared.Mask.{Mask}
 use Rattle.line.specs.declared.Quad.{Quad}
 use Rattle.line.specs.Line.{maskOf}
-use Rattle.lanes.specs.Lanes.{lanesOf}
 use Rattle.split.specs.Edges.{Pass, vertical, horizontal}
 use Rattle.df_rules.specs.Frame.{unitsAlong}
 use Rattle.df_rules.specs.Lanes.{samplesAt, putLine, putLines}
 use Rattle.df_rules.specs.Window.{putIf}
 use Rattle.df.specs.declared.window.Place.{Place}
-use Rattle.df.specs.declared.window.Strengths.{Strengths}
-use Rattle.df.specs.Edges.{placeOf, Beside, Lying, Gathered, Filtered}
+use Rattle.df.specs.Edges.{placeOf, Beside, Gathered}
 use Rattle.df.specs.Rows.{putRow, putRowIf}
-use Rattle.df.proofs.Lanes.{gather-none, gather-more, strengthsOf, lanes-filtered}
+use Rattle.df.proofs.Lanes.{gather-none, gather-more}
 
 -- ---- a row
 
@@ -113,7 +111,7 @@ put-long : (w : Bool) (i v : ℕ) (xs : List ℕ) → length (putIf w i v xs) �
 put-long true i v xs = length-set xs i v
 put-long false i v xs = refl
 
-lines-long : (m : Mask) (q : ℕ → Quad) (step next at n : ℕ) (xs : List ℕ) → length (putLines m q step next at n xs) ≡ length xs
+pub lines-long : (m : Mask) (q : ℕ → Quad) (step next at n : ℕ) (xs : List ℕ) → length (putLines m q step next at n xs) ≡ length xs
 unfolding putLines
 lines-long m q step next at zero xs = refl
 lines-long m q step next at (suc n) xs = simp put-long (lines-long m q step next at n xs)
@@ -147,33 +145,20 @@ rows-copied m to apart from step n s xs x₁ x₂ x₃ x₄ h ea eb ec ed =
 
 -- ---- a unit's edge, by rows
 
-gathered : (all : Mask) (p : Place) (xs t r : List ℕ) (first n : ℕ) → all ≡ maskOf Luma → p .next ≡ 1 → first + n ≤ 8 → length t ≡ 32
+pub gathered : (all : Mask) (p : Place) (xs t r : List ℕ) (first n : ℕ) → all ≡ maskOf Luma → p .next ≡ 1 → first + n ≤ 8 → length t ≡ 32
     → r ≡ putLines all (λ (k : ℕ). samplesAt (p .step) (p .at + k) xs) 8 1 first n t → Gathered p xs t first n r
 gathered all p xs t r first n m e h l w =
     subst (Gathered p xs t first n) (sym (w ∙ ap (λ (a : Mask). putLines a (λ (k : ℕ). samplesAt (p .step) (p .at + k) xs) 8 1 first n t) m)) (lanes-put p xs t first n e h l)
 
--- y, u and v copied by their rows into t, and filtered
-pub rows-filtered : (luma chroma : Place) (st : Strengths) (all : Mask) (y u v o ty tu t r : List ℕ)
-    → Beside luma 4 → Beside chroma 2 → Lying luma 4 y → Lying chroma 2 u → Lying chroma 2 v → all ≡ maskOf Luma → length o ≡ 32
-    → ty ≡ putLines all (λ (k : ℕ). samplesAt (luma .step) (luma .at + k) y) 8 1 0 4 o
-    → tu ≡ putLines all (λ (k : ℕ). samplesAt (chroma .step) (chroma .at + k) u) 8 1 4 2 ty
-    → t ≡ putLines all (λ (k : ℕ). samplesAt (chroma .step) (chroma .at + k) v) 8 1 6 2 tu
-    → r ≡ lanesOf t (strengthsOf st) → Filtered luma chroma st y u v r
-rows-filtered luma chroma st all y u v o ty tu t r by bc ly lu lv ea l gy gu gv e =
-    let ly₁ : length ty ≡ 32 = ap length gy ∙ lines-long all _ 8 1 0 4 o ∙ l in
-    let lu₁ : length tu ≡ 32 = ap length gu ∙ lines-long all _ 8 1 4 2 ty ∙ ly₁ in
-    lanes-filtered luma chroma st y u v o ty tu t r ly lu lv
-    (gathered all luma y o ty 0 4 ea (by .beside) (omega arith) l gy)
-    (gathered all chroma u ty tu 4 2 ea (bc .beside) (omega arith) ly₁ gu)
-    (gathered all chroma v tu t 6 2 ea (bc .beside) (omega arith) lu₁ gv) e
-
 -- only the horizontal pass has lines side by side: in the vertical the next one lies a row further on, which is an even number of samples
-pub beside-pass : (d : Pass) (w h c a : ℕ) (luma chroma : Place) → a < unitsAlong d w h → luma ≡ placeOf d (4 * w) (4 * c) (4 * a) → chroma ≡ placeOf d (2 * w) (2 * c) (2 * a)
-    → luma .next ≡ 1 → Beside luma 4 × Beside chroma 2
-beside-pass vertical w h c a luma chroma l el ec n = absurd (odd (sym (ap (λ (p : Place). p .next) el) ∙ n)) where
+pub beside-luma : (d : Pass) (w h c a : ℕ) (p : Place) → a < unitsAlong d w h → p ≡ placeOf d (4 * w) (4 * c) (4 * a) → p .next ≡ 1 → Beside p 4
+beside-luma vertical w h c a p l e n = absurd (odd (sym (ap (λ (q : Place). q .next) e) ∙ n)) where
   odd : 4 * w ≡ 1 → ⊥
   odd e = omega arith
-beside-pass horizontal w h c a luma chroma l el ec n = (
-  subst (λ (p : Place). Beside p 4) (sym el) (record { beside = refl; room = omega arith }),
-  subst (λ (p : Place). Beside p 2) (sym ec) (record { beside = refl; room = omega arith }),
-)
+beside-luma horizontal w h c a p l e n = subst (λ (q : Place). Beside q 4) (sym e) (record { beside = refl; room = omega arith })
+
+pub beside-chroma : (d : Pass) (w h c a : ℕ) (p : Place) → a < unitsAlong d w h → p ≡ placeOf d (2 * w) (2 * c) (2 * a) → p .next ≡ 1 → Beside p 2
+beside-chroma vertical w h c a p l e n = absurd (odd (sym (ap (λ (q : Place). q .next) e) ∙ n)) where
+  odd : 2 * w ≡ 1 → ⊥
+  odd e = omega arith
+beside-chroma horizontal w h c a p l e n = subst (λ (q : Place). Beside q 2) (sym e) (record { beside = refl; room = omega arith })

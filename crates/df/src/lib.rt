@@ -1,28 +1,34 @@
 // Deblocking: which edges are filtered, in which order, and with which strength. How lines are filtered is the matter of `line` and `lanes`.
 // The Rust beside it: df.rs.
 ghost use mathlib.Core.Path.{_≡_};
-ghost use Prim.Native.Nat.{_/_};
+ghost use Prim.Native.Nat.{_+_, _/_};
 ghost use lib.ListN.{length};
 ghost use Rattle.laws.specs.Call.{Gives};
-ghost use Rattle.split.specs.Edges.{vertical, horizontal, edgeList};
+ghost use Rattle.split.specs.Edges.{vertical, horizontal};
+ghost use Rattle.bands_rules.specs.Bands.{listFrom, Both};
 ghost use Rattle.strength.specs.Entries.{entriesOf};
 ghost use Rattle.df_check.specs.Tables.{vTable};
-ghost use Rattle.df_rules.specs.Frame.{Frame, Both};
+ghost use Rattle.df_rules.specs.Frame.{Frame};
 ghost use Rattle.df_rules.specs.Leaves.{Accepted};
+ghost use Rattle.df_rules.specs.Visit.{allDone};
 ghost use Rattle.df.specs.Deblock as Deblock;
 ghost use Rattle.df.specs.Edges.{passOf};
-use crate::edge::Pass;
 use crate::pass::deblock_pass;
+use crate::place::Pass;
 use def::Answer;
 use def::Refusal;
+use def::set_cod;
 use df_check::Settings;
 use df_check::VEdge;
 use df_check::checked;
 use strength::entries;
 
 mod window; // window.rt: a unit's edge in all three planes, by eight lanes
-mod edge; // edge.rt: a unit's edge, its strengths, and the edges of a block's side
-mod pass; // pass.rt: done bits, and the edges of a leaf or half, of a root and of the picture
+mod place; // place.rt: the passes, and where an edge's lines lie
+mod plan; // plan.rt: the place of each edge's strength; no plane
+mod filter; // filter.rt: the edges of a list, filtered; no map
+mod pass; // pass.rt: a root's edges, and a pass over the picture
+mod band; // band.rt: both passes over a band, on what its call is lent
 
 // How many edges each pass filtered, or why nothing was written.
 pub enum Deblocked {
@@ -50,17 +56,29 @@ fn pass_entries(
     }
 }
 
-// How many edges the passes filtered.
-struct Counts {
-    vertical: usize,
-    horizontal: usize,
+// Sets done in every unit.
+fn all_done(words: &mut [u32])
+    ensures { λ _. ⌜ now (words .exit) ≡ allDone (now (words .entry)) ⌝ }
+{
+    let n = words.len();
+    for k in 0..n {
+        words[k] = set_cod(words[k]);
+    }
 }
 
-// Both passes, by the entries of each: the vertical pass covers the whole picture first.
-fn both_passes(
+// How many edges the passes filtered.
+pub(crate) struct Counts {
+    pub(crate) vertical: usize,
+    pub(crate) horizontal: usize,
+}
+
+// Both passes over h rows of samples, below `top` rows of units, by the entries of each: the vertical pass covers all of them first. Then every unit of
+// theirs is done.
+pub(crate) fn both_passes(
     short: bool,
     w: usize,
     h: usize,
+    top: usize,
     y: &mut [u16],
     u: &mut [u16],
     v: &mut [u16],
@@ -71,9 +89,9 @@ fn both_passes(
     ver: &[u8],
     hor: &[u8],
 ) -> Counts
-    requires { ⌜ Frame (w / 4) (h / 4) (now y) (now u) (now v) (now words) (now motion) (now refs) (now ver) × (length (now hor) ≡ 624) × Accepted w h (now splits) ⌝ }
+    requires { ⌜ Frame (w / 4) (top + h / 4) (now y) (now u) (now v) (now words) (now motion) (now refs) (now ver) × (length (now hor) ≡ 624) × Accepted w h (now splits) ⌝ }
     ensures { λ r. ⌜ Both (record { words = now (words .entry); motion = now (motion .entry); refs = now (refs .entry) }) (now (ver .entry)) (now (hor .entry))
-        (w / 4) (edgeList vertical short (now (splits .entry)) (w / 4) (h / 4)) (edgeList horizontal short (now (splits .entry)) (w / 4) (h / 4))
+        (w / 4) top (listFrom vertical short top (now (splits .entry)) (w / 4) (h / 4)) (listFrom horizontal short top (now (splits .entry)) (w / 4) (h / 4))
         (record { y = now (y .entry); u = now (u .entry); v = now (v .entry) }) (record { y = now (y .exit); u = now (u .exit); v = now (v .exit) })
         (now (words .exit)) (r .vertical) (r .horizontal) ⌝ }
 {
@@ -82,10 +100,11 @@ fn both_passes(
         short,
         w,
         h,
+        top,
         &mut *y,
         &mut *u,
         &mut *v,
-        &mut *words,
+        &*words,
         splits,
         motion,
         refs,
@@ -96,15 +115,18 @@ fn both_passes(
         short,
         w,
         h,
+        top,
         &mut *y,
         &mut *u,
         &mut *v,
-        &mut *words,
+        &*words,
         splits,
         motion,
         refs,
         hor,
     );
+    let from = top * (w / 4);
+    all_done(&mut words[from..]);
     Counts {
         vertical: m,
         horizontal: n,
@@ -169,6 +191,7 @@ pub fn deblock(
         settings.limit == 5,
         w,
         h,
+        0,
         y,
         u,
         v,

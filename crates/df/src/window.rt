@@ -1,4 +1,4 @@
-// The lines of a unit's edge in all three planes: gathered into eight lanes, filtered side by side, and written back. Luma and chroma, both directions:
+// The lines of a unit's edge: gathered into eight lanes, filtered side by side, and written back. Luma and chroma, both directions:
 // line by line, or row by row where the lines lie side by side.
 // The Rust beside it: df.rs, deblock_scu_hor_luma, deblock_scu_hor_chroma, deblock_scu_ver_luma, deblock_scu_ver_chroma.
 ghost use mathlib.Core.Path.{_≡_};
@@ -8,9 +8,9 @@ ghost use lib.ListN.{length, getD};
 ghost use Rattle.def.specs.declared.Component.the-variants.{Luma, Chroma};
 ghost use Rattle.line.specs.Line.{maskOf};
 ghost use Rattle.lanes.specs.Lanes.{laneOf};
-ghost use Rattle.df_rules.specs.Window.{putIf};
+ghost use Rattle.df_rules.specs.Window.{putIf, windowAt};
 ghost use Rattle.df_rules.specs.Lanes.{samplesAt, putLine, putLines};
-ghost use Rattle.df.specs.Edges.{Inside, Beside, Lying, Gathered, Filtered};
+ghost use Rattle.df.specs.Edges.{Inside, Beside, Lying, Gathered};
 ghost use Rattle.df.specs.Rows.{putRow, putRowIf};
 use def::Component;
 use line::Mask;
@@ -21,13 +21,6 @@ pub(crate) struct Place {
     pub(crate) at: usize,
     pub(crate) step: usize,
     pub(crate) next: usize,
-}
-
-// The strength of one edge in each plane.
-pub(crate) struct Strengths {
-    pub(crate) y: u16,
-    pub(crate) u: u16,
-    pub(crate) v: u16,
 }
 
 // ---- from a plane to lanes
@@ -157,73 +150,44 @@ fn copy_rows(
 
 // ---- a unit's edge
 
-// What the lanes become where the lines lie side by side. A row has 4 samples in luma and 2 in chroma, numbers that stand here for the compiler to
-// see: it copies such a row at once.
-fn filter_rows(
-    y: &[u16],
-    u: &[u16],
-    v: &[u16],
-    luma: Place,
-    chroma: Place,
-    st: Strengths,
-) -> [u16; 32]
-    requires { ⌜ Beside luma 4 × Beside chroma 2 ⌝ }
-    requires { ⌜ Lying luma 4 (now y) × Lying chroma 2 (now u) × Lying chroma 2 (now v) ⌝ }
-    ensures { λ r. ⌜ Filtered luma chroma st (now (y .entry)) (now (u .entry)) (now (v .entry)) r ⌝ }
-{
-    let all = line::mask_of(Component::Luma);
-    let mut t = [0u16; 32];
-    copy_rows(&mut t, all, 0, 8, y, luma.at, luma.step, 4);
-    copy_rows(&mut t, all, 4, 8, u, chroma.at, chroma.step, 2);
-    copy_rows(&mut t, all, 6, 8, v, chroma.at, chroma.step, 2);
-    lanes::lanes(t, [st.y, st.y, st.y, st.y, st.u, st.u, st.v, st.v])
-}
-
-// The same in either pass: four lines of luma, two of each chroma plane.
-pub(crate) fn filter(
-    rows: bool,
-    y: &[u16],
-    u: &[u16],
-    v: &[u16],
-    luma: Place,
-    chroma: Place,
-    st: Strengths,
-) -> [u16; 32]
-    requires { ⌜ (rows ≡ true → Beside luma 4 × Beside chroma 2) ⌝ }
-    requires { ⌜ Lying luma 4 (now y) × Lying chroma 2 (now u) × Lying chroma 2 (now v) ⌝ }
-    ensures { λ r. ⌜ Filtered luma chroma st (now (y .entry)) (now (u .entry)) (now (v .entry)) r ⌝ }
-{
-    if rows {
-        return filter_rows(y, u, v, luma, chroma, st);
-    }
-    let ty = gather([0; 32], y, 0, 4, luma);
-    let tu = gather(ty, u, 4, 2, chroma);
-    let t = gather(tu, v, 6, 2, chroma);
-    lanes::lanes(t, [st.y, st.y, st.y, st.y, st.u, st.u, st.v, st.v])
-}
-
-// The lanes back into luma.
-pub(crate) fn put_luma(rows: bool, y: &mut [u16], t: &[u16; 32], p: Place)
-    requires { ⌜ (rows ≡ true → Beside p 4) × Inside p 3 (now y) ⌝ }
-    ensures { λ _. ⌜ now (y .exit) ≡ putLines (maskOf Luma) (λ k. laneOf (now (t .entry)) (0 + k)) (p .step) (p .next) (p .at) 4 (now (y .entry)) ⌝ }
+// Four lines of luma: gathered, filtered side by side and written back. Where they lie side by side a row has 4 samples, and in chroma 2, numbers that
+// stand here for the compiler to see: it copies such a row at once.
+pub(crate) fn luma(rows: bool, y: &mut [u16], p: Place, st: u16)
+    requires { ⌜ (rows ≡ true → Beside p 4) × Lying p 4 (now y) ⌝ }
+    ensures { λ _. ⌜ now (y .exit) ≡ windowAt (maskOf Luma) st (p .step) (p .next) (p .at) 4 (now (y .entry)) ⌝ }
 {
     let all = line::mask_of(Component::Luma);
     if rows {
-        copy_rows(y, all, p.at, p.step, t, 0, 8, 4);
+        let mut t = [0u16; 32];
+        copy_rows(&mut t, all, 0, 8, &*y, p.at, p.step, 4);
+        let r = lanes::lanes(t, [st, st, st, st, 0, 0, 0, 0]);
+        copy_rows(y, all, p.at, p.step, &r, 0, 8, 4);
         return;
     }
-    scatter(y, all, t, 0, 4, p);
+    let t = gather([0; 32], &*y, 0, 4, p);
+    let r = lanes::lanes(t, [st, st, st, st, 0, 0, 0, 0]);
+    scatter(y, all, &r, 0, 4, p);
 }
 
-// And into a chroma plane, whose two start at `first`.
-pub(crate) fn put_chroma(rows: bool, u: &mut [u16], t: &[u16; 32], first: usize, p: Place)
-    requires { ⌜ (rows ≡ true → Beside p 2) × Inside p 1 (now u) × (first ≤ 6) ⌝ }
-    ensures { λ _. ⌜ now (u .exit) ≡ putLines (maskOf Chroma) (λ k. laneOf (now (t .entry)) (first + k)) (p .step) (p .next) (p .at) 2 (now (u .entry)) ⌝ }
+// Two lines of each chroma plane.
+pub(crate) fn chroma(rows: bool, u: &mut [u16], v: &mut [u16], p: Place, su: u16, sv: u16)
+    requires { ⌜ (rows ≡ true → Beside p 2) × Lying p 2 (now u) × Lying p 2 (now v) ⌝ }
+    ensures { λ _. ⌜ (now (u .exit) ≡ windowAt (maskOf Chroma) su (p .step) (p .next) (p .at) 2 (now (u .entry))) × (now (v .exit) ≡ windowAt (maskOf Chroma) sv (p .step) (p .next) (p .at) 2 (now (v .entry))) ⌝ }
 {
+    let all = line::mask_of(Component::Luma);
     let inner = line::mask_of(Component::Chroma);
     if rows {
-        copy_rows(u, inner, p.at, p.step, t, first, 8, 2);
+        let mut t = [0u16; 32];
+        copy_rows(&mut t, all, 0, 8, &*u, p.at, p.step, 2);
+        copy_rows(&mut t, all, 2, 8, &*v, p.at, p.step, 2);
+        let r = lanes::lanes(t, [su, su, sv, sv, 0, 0, 0, 0]);
+        copy_rows(u, inner, p.at, p.step, &r, 0, 8, 2);
+        copy_rows(v, inner, p.at, p.step, &r, 2, 8, 2);
         return;
     }
-    scatter(u, inner, t, first, 2, p);
+    let tu = gather([0; 32], &*u, 0, 2, p);
+    let t = gather(tu, &*v, 2, 2, p);
+    let r = lanes::lanes(t, [su, su, sv, sv, 0, 0, 0, 0]);
+    scatter(u, inner, &r, 0, 2, p);
+    scatter(v, inner, &r, 2, 2, p);
 }

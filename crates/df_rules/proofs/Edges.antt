@@ -16,7 +16,7 @@ use Rattle.laws.proofs.Orders.{run-append}
 use Rattle.laws.proofs.Flat.{flat-within}
 use Rattle.split.specs.Edges.{Pass, vertical, horizontal, Edge, edgeAt, stretch}
 use Rattle.split.specs.Rows.{crossOf, alongOf}
-use Rattle.df_rules.specs.Frame.{Unit, Frame, unitsAcross, unitsAlong, AtUnit, Gone}
+use Rattle.df_rules.specs.Frame.{Unit, Frame, unitsAcross, unitsAlong, AtUnit}
 use Rattle.df_rules.specs.Filter.{Planes, filterOne, filterAll}
 use Rattle.df_rules.specs.Places.{stepAcross, stepAlong, lineStart, unitQ, unitP}
 use Rattle.df_rules.specs.Strength.{Maps}
@@ -117,60 +117,3 @@ spot d w h x z p q a =
       chroma-x = omega arith;
       chroma-z = omega arith;
     }
-
--- ---- a stretch, one edge more at a time
-
-stretch-more : (d : Pass) (c a n : ℕ) → stretch d c a (n + 1) ≡ stretch d c a n ++ (edgeAt d c (a + n) ∷ [])
-unfolding stretch
-stretch-more d c a zero = ap (λ (k : ℕ). edgeAt d c k ∷ []) (sym (add-zero a))
-stretch-more d c a (suc n) =
-    let e : suc a + n ≡ a + suc n = omega arith in
-    rw suc-add (ap (λ (l : List Edge). edgeAt d c a ∷ l) (stretch-more d c (suc a) n ∙ ap (λ (k : ℕ). stretch d c (suc a) n ++ (edgeAt d c k ∷ [])) e))
-
-module _ (m : Maps) (t : List ℕ) (d : Pass) (w : ℕ) where
-  pub filter-none : (c a : ℕ) (p : Planes) → p ≡ filterAll m t d w (stretch d c a 0) p
-  unfolding run stretch
-  filter-none c a p = refl
-
-  pub filter-more : (c a k b : ℕ) (p p₁ p₂ : Planes) → p₁ ≡ filterAll m t d w (stretch d c a k) p → p₂ ≡ filterAll m t d w (edgeAt d c b ∷ []) p₁ → b ≡ a + k
-      → p₂ ≡ filterAll m t d w (stretch d c a (k + 1)) p
-  filter-more c a k b p p₁ p₂ g h e =
-      h ∙ ap (filterAll m t d w (edgeAt d c b ∷ [])) g ∙ sym (run-append (filterOne m t d w) (stretch d c a k) (edgeAt d c b ∷ []) p)
-      ∙ ap (λ (l : List Edge). filterAll m t d w l p) (ap (λ (n : ℕ). stretch d c a k ++ (edgeAt d c n ∷ [])) e ∙ sym (stretch-more d c a k))
-
--- how many they are
-pub stretch-long : (d : Pass) (c a n : ℕ) → length (stretch d c a n) ≡ n
-unfolding stretch
-stretch-long d c a zero = refl
-stretch-long d c a (suc n) = ap suc (stretch-long d c (suc a) n)
-
--- ---- the edges of a side, where there is one to filter
-
--- a loop that stopped after k of n
-pub side-gone : (m : Maps) (t : List ℕ) (d : Pass) (w c a n k count : ℕ) (p q : Planes) (go : Bool) → n ≤ 16 → k ≤ n → (go ≡ false → k ≡ 0) → (go && ltb k n) ≡ false
-    → q ≡ filterAll m t d w (stretch d c a k) p → Gone m t d w (pick go (stretch d c a n) []) 16 count p q (count + k)
-unfolding stretch
-side-gone m t d w c a n k count p q true few h z e g =
-    let l = ltb-false k n e in
-    let f : k ≡ n = omega arith in
-    rw (← f) (record { planes = g; counted = ap (λ (j : ℕ). count + j) (sym (stretch-long d c a k)); few = omega arith })
-side-gone m t d w c a n k count p q false few h z e g =
-    let f = z refl in
-    record { planes = rw f at g; counted = omega arith; few = omega arith }
-
--- one list after another
-pub gone-then : (m : Maps) (t : List ℕ) (d : Pass) (w : ℕ) (k l : List Edge) (count : ℕ) (p q s : Planes) (r r₁ : ℕ)
-    → Gone m t d w k 16 count p q r → Gone m t d w l 16 r q s r₁ → Gone m t d w (k ++ l) 32 count p s r₁
-gone-then m t d w k l count p q s r r₁ g h = record {
-  planes = h .planes ∙ ap (filterAll m t d w l) (g .planes) ∙ sym (run-append (filterOne m t d w) k l p);
-  counted = omega (arith, g .counted, h .counted, length-append k l);
-  few = omega (arith, g .few, h .few);
-}
-
--- the same of an equal list
-pub gone-as : {m : Maps} {t : List ℕ} {d : Pass} {w : ℕ} {k l : List Edge} {most count : ℕ} {p q : Planes} {r : ℕ} → Gone m t d w k most count p q r → k ≡ l → Gone m t d w l most count p q r
-gone-as {m} {t} {d} {w} {most = most} {count} {p} {q} {r} g e = subst (λ (j : List Edge). Gone m t d w j most count p q r) e g
-
--- nothing after it
-pub gone-alone : {m : Maps} {t : List ℕ} {d : Pass} {w : ℕ} {k l : List Edge} {count : ℕ} {p q : Planes} {r : ℕ} → Gone m t d w k 16 count p q r → l ≡ [] → Gone m t d w (k ++ l) 32 count p q r
-gone-alone {k = k} g e = gone-as (record { planes = g .planes; counted = g .counted; few = omega (arith, g .few) }) (sym (append-nil k) ∙ ap (λ (j : List Edge). k ++ j) (sym e))

@@ -1,17 +1,14 @@
--- A picture's frame after its edges were filtered, and after visits: the planes keep their lengths and their samples' bound, the words all but done.
+-- A picture's frame after its edges were filtered: the planes keep their lengths and their samples' bound.
 -- Assumes nothing.
 use Prim.Native.Nat.{ℕ}
-use mathlib.Core.Path.{_≡_, refl, sym, _∙_, subst}
-use mathlib.Core.List.{List, [], _∷_}
+use mathlib.Core.Path.{_≡_, sym, _∙_, subst}
+use mathlib.Core.List.{List}
 use lib.IntN.{ℤ}
 use lib.ListN.{length}
-use Rattle.laws.specs.Orders.{run}
-use Rattle.split.specs.Edges.{Pass, Visit, Edge}
+use Rattle.split.specs.Edges.{Pass, Edge}
 use Rattle.df_rules.specs.Filter.{Planes, filterAll}
 use Rattle.df_rules.specs.Frame.{Frame}
 use Rattle.df_rules.specs.Strength.{Maps}
-use Rattle.df_rules.specs.Visit.{cleared, State, visited, visitedAll, Visited, visitEdges}
-use Rattle.df_rules.proofs.Marks.{frame-alike, marked-alike, cleared-alikes}
 use Rattle.df_rules.proofs.Planes.{filter-long, filter-small}
 
 -- the frame of a picture's planes
@@ -39,22 +36,6 @@ frame-filtered {w} {h} {motion} {refs} {entries} {words} m t d w₁ l {p} e f =
       all-u = s .u;
       all-v = s .v;
     })
-
-module _ {w h : ℕ} {motion refs : List ℤ} {t : List ℕ} where
-  after : (d : Pass) (l : List Visit) (s : State) → Framed w h motion refs t (s .planes) (s .words)
-      → let r = visitedAll motion refs t d w l s in Framed w h motion refs t (r .planes) (r .words)
-  unfolding run
-  after d [] s f = f
-  after d (p ∷ l) s f =
-      after d l (visited motion refs t d w p s)
-      (frame-alike (marked-alike w p (s .words)) (frame-filtered (record { words = s .words; motion = motion; refs = refs }) t d w (visitEdges d w (s .words) p) refl f))
-
-  pub frame-visited : {d : Pass} {l : List Visit} {n : ℕ} {a b : State} → Visited motion refs t d w l n a b
-      → Framed w h motion refs t (a .planes) (a .words) → Framed w h motion refs t (b .planes) (b .words)
-  frame-visited {d} {l} {a = a} g f = subst (λ (s : State). Framed w h motion refs t (s .planes) (s .words)) (sym (g .state)) (after d l a f)
-
-  pub frame-cleared : {p : Planes} {words : List ℕ} → Framed w h motion refs t p words → Framed w h motion refs t p (cleared words)
-  frame-cleared {words = words} f = frame-alike (cleared-alikes words) f
 
 -- by other entries
 pub frame-entries : {w h : ℕ} {motion refs : List ℤ} {t t₁ : List ℕ} {p : Planes} {words : List ℕ} → length t₁ ≡ 624 → Framed w h motion refs t p words → Framed w h motion refs t₁ p words

@@ -1,15 +1,11 @@
-pub mod Both
+pub mod Alikes
 pub mod Edges
 pub mod Example
 pub mod Finished
 pub mod Frames
 pub mod Lanes
-pub mod Leaves
 pub mod Local
-pub mod Marks
-pub mod Passes
 pub mod Planes
 pub mod Rows
 pub mod Strengths
-pub mod Visits
 pub mod Windows

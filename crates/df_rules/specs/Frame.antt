@@ -52,17 +52,6 @@ pub record AtUnit (d : Pass) (w h c a : ℕ) : Type 0 where
   pub across : c < 4 * unitsAcross d w h
   pub along : a < 4 * unitsAlong d w h
 
--- and n units from there on along the edge
-pub record AtUnits (d : Pass) (w h c a n : ℕ) : Type 0 where
-  pub first : AtUnit d w h c a
-  pub last : a + 4 * n ≤ 4 * unitsAlong d w h
-
--- the edges of a list were filtered and counted
-pub record Gone (m : Maps) (entries : List ℕ) (d : Pass) (w : ℕ) (l : List Edge) (most count : ℕ) (p q : Planes) (r : ℕ) : Type 0 where
-  pub planes : q ≡ filterAll m entries d w l p
-  pub counted : r ≡ count + length l
-  pub few : r ≤ count + most
-
 -- both passes' lists were filtered, one after the other, and counted, and every unit is done. t, t₁: the entries of the vertical pass, and of the horizontal
 pub record Both (m : Maps) (t t₁ : List ℕ) (w : ℕ) (ups levels : List Edge) (p q : Planes) (words : List ℕ) (ver hor : ℕ) : Type 0 where
   pub planes : q ≡ filterAll m t₁ horizontal w levels (filterAll m t vertical w ups p)

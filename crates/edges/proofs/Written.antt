@@ -1,9 +1,9 @@
 -- A pass's edges of a list of leaves, as they are written: a leaf more, a root more, and the room that they take.
 -- Assumes nothing.
 use mathlib.Core.Bool.{Bool, true, false, _&&_}
-use mathlib.Core.List.{List, [], _∷_, _++_, append-nil, List·Memᴰ, List·Memᴰ·not-nil, List·Memᴰ·append-cases, List·Memᴰ·eq-of-singleton}
+use mathlib.Core.List.{List, [], _∷_, _++_, map, append-nil, List·Memᴰ, List·Memᴰ·not-nil, List·Memᴰ·append-cases, List·Memᴰ·eq-of-singleton}
 use mathlib.Core.Logic.{⊎-elim}
-use mathlib.Core.Path.{_≡_, refl, sym, ap, ap₂, _∙_}
+use mathlib.Core.Path.{_≡_, refl, sym, ap, ap₂, _∙_, subst}
 use Prim.Native.Nat.{ℕ, zero, suc, _+_, _-_, _*_, _/_, _%_, _≤_, _<_}
 use native.Mathlib.Nat.{add-zero, add-suc, le-refl}
 use native.Mathlib.Numerals.{add-one}
@@ -21,7 +21,7 @@ use Rattle.laws.proofs.Orders.{each-append, each-each}
 use Rattle.split.specs.Edges.{Pass, Visit, passOf, stretch, nearEdge, visitOf, edgesOf, edgeNumbers}
 use Rattle.split.specs.LeavesCall.{leavesAt}
 use Rattle.split.specs.Picture.{roots, rootWalk, rootLeaves, leavesOf, allLeaves, pictureWalk}
-use Rattle.split.specs.Stored.{area, leafFrom, leavesFrom, LeafAt, Ready}
+use Rattle.split.specs.Stored.{area, leafFrom, leavesFrom, LeafAt}
 use Rattle.split.specs.Walk.{Leaf, leaf as leaf′}
 use Rattle.split.proofs.Area.{area-append, edges-length, whole-area}
 use Rattle.split.proofs.Callers.{index-back}
@@ -30,7 +30,8 @@ use Rattle.split.proofs.Passes.{visit-edges}
 use Rattle.split.proofs.Places.{leaves-mem, sound-at}
 use Rattle.split.proofs.Sides.{X, Y, leafEdges}
 use Rattle.split.proofs.Walks.{each-done}
-use Rattle.edges.specs.Put.{Put, Starts, leafEdgeNumbers}
+use Rattle.split.specs.RootCall.{leafDown}
+use Rattle.edges.specs.Put.{Put, Starts, ReadyAt, leafEdgeNumbers}
 use Rattle.edges.proofs.Puts.{put-none, put-then, put-as}
 
 -- ---- one leaf's edges
@@ -106,14 +107,35 @@ module _ (d : Pass) (short : Bool) where
   numbers-long l f =
       omega (arith, edges-twice (edgesOf d short l), ap length (each-each (nearEdge d) (visitOf d short) (leafEdges d short) (visit-edges d short) l), edges-length d short l f)
 
-module _ {list : List ℕ} {n : ℕ} (r : Ready list n) where
-  some-sides : (j : ℕ) → j ≤ n → (p : Leaf) → List·Memᴰ p (leavesFrom list j) → 1 ≤ p .side
+pub map-append : {A B : Type 0} (f : A → B) (l m : List A) → map f (l ++ m) ≡ map f l ++ map f m
+map-append f [] m = refl
+map-append {B = B} f (a ∷ l) m = ap (λ (r : List B). f a ∷ r) (map-append f l m)
+
+-- nothing above
+pub down-zero : (l : List Leaf) → map (leafDown 0) l ≡ l
+down-zero [] = refl
+down-zero (p ∷ l) = λ i. record { x = p .x; y = add-zero (p .y) i; side = p .side } ∷ down-zero l i
+
+-- the first j leaves of a list, `top` rows of units further down
+abbrev pub leavesDown : ℕ → List ℕ → ℕ → List Leaf
+leavesDown top list j = map (leafDown top) (leavesFrom list j)
+
+down-more : (top : ℕ) (list : List ℕ) (j : ℕ) → leavesDown top list (suc j) ≡ leavesDown top list j ++ (leafDown top (leafFrom list j) ∷ [])
+unfolding leavesFrom
+down-more top list j = map-append (leafDown top) (leavesFrom list j) (leafFrom list j ∷ [])
+
+pub area-down : (top : ℕ) (l : List Leaf) → area (map (leafDown top) l) ≡ area l
+area-down top [] = refl
+area-down top (p ∷ l) = ap (λ (n : ℕ). p .side * p .side + n) (area-down top l)
+
+module _ {top : ℕ} {list : List ℕ} {n : ℕ} (r : ReadyAt top list n) where
+  some-sides : (j : ℕ) → j ≤ n → (p : Leaf) → List·Memᴰ p (leavesDown top list j) → 1 ≤ p .side
   unfolding leavesFrom
   some-sides zero h p m = absurd (List·Memᴰ·not-nil m)
   some-sides (suc j) h p m =
       ⊎-elim (λ i. some-sides j (omega arith) p i)
       (λ i. let e = ap (λ (q : Leaf). q .side) (List·Memᴰ·eq-of-singleton i) in let k = r .leaves j h in omega (arith, k .some, k .units))
-      (List·Memᴰ·append-cases (leavesFrom list j) m)
+      (List·Memᴰ·append-cases (leavesDown top list j) (subst (List·Memᴰ p) (down-more top list j) m))
 
 -- a list's leaves, one more
 area-more : (list : List ℕ) (j : ℕ) → let q = getD list (3 * j + 2) 0 / 4 in area (leavesFrom list (suc j)) ≡ area (leavesFrom list j) + q * q
@@ -127,21 +149,21 @@ area-rises list j (suc m) = rw add-suc (omega (arith, area-rises list j m, area-
 -- ---- the loop over a list's leaves
 
 -- the edges of j leaves are written
-pub record Written (b short : Bool) (list : List ℕ) (out₀ : List ℕ) (at : ℕ) (out : List ℕ) (j k : ℕ) : Type 0 where
-  pub written : Put (numbersOf (passOf b) short (leavesFrom list j)) out₀ at out k
+pub record Written (b short : Bool) (top : ℕ) (list : List ℕ) (out₀ : List ℕ) (at : ℕ) (out : List ℕ) (j k : ℕ) : Type 0 where
+  pub written : Put (numbersOf (passOf b) short (leavesDown top list j)) out₀ at out k
 
-pub none-written : (b short : Bool) (list out : List ℕ) (at : ℕ) → Written b short list out at out 0 at
+pub none-written : (b short : Bool) (top : ℕ) (list out : List ℕ) (at : ℕ) → Written b short top list out at out 0 at
 unfolding leavesFrom
-none-written b short list out at = record { written = put-as (sym (numbers-none (passOf b) short)) (put-none out at) }
+none-written b short top list out at = record { written = put-as (sym (numbers-none (passOf b) short)) (put-none out at) }
 
-pub all-written : {b short : Bool} {list out₀ : List ℕ} {at : ℕ} {out : List ℕ} {j k n : ℕ} → Written b short list out₀ at out j k → n ≤ j → j ≤ n
-    → Put (numbersOf (passOf b) short (leavesFrom list n)) out₀ at out k
-all-written {b} {short} {list} {out₀} {at} {out} {j} {k} {n} z p q =
+pub all-written : {b short : Bool} {top : ℕ} {list out₀ : List ℕ} {at : ℕ} {out : List ℕ} {j k n : ℕ} → Written b short top list out₀ at out j k → n ≤ j → j ≤ n
+    → Put (numbersOf (passOf b) short (leavesDown top list n)) out₀ at out k
+all-written {b} {short} {top} {list} {out₀} {at} {out} {j} {k} {n} z p q =
     let e : j ≡ n = omega arith in
-    put-as (ap (λ (i : ℕ). numbersOf (passOf b) short (leavesFrom list i)) e) (z .written)
+    put-as (ap (λ (i : ℕ). numbersOf (passOf b) short (leavesDown top list i)) e) (z .written)
 
-module _ {b short : Bool} {list : List ℕ} {n : ℕ} (r : Ready list n) {out₀ : List ℕ} {at : ℕ} {out : List ℕ} {j k : ℕ} (z : Written b short list out₀ at out j k) (h : j < n)
-    {x y side cross along : ℕ} (ex : x ≡ getD list (3 * j) 0) (ey : y ≡ getD list (3 * j + 1) 0) (es : side ≡ getD list (3 * j + 2) 0) (ec : cross ≡ pick b y x) (ea : along ≡ pick b x y) where
+module _ {b short : Bool} {top : ℕ} {list : List ℕ} {n : ℕ} (r : ReadyAt top list n) {out₀ : List ℕ} {at : ℕ} {out : List ℕ} {j k : ℕ} (z : Written b short top list out₀ at out j k) (h : j < n)
+    {x y side cross along : ℕ} (ex : x ≡ getD list (3 * j) 0) (ey : y ≡ getD list (3 * j + 1) 0 + 4 * top) (es : side ≡ getD list (3 * j + 2) 0) (ec : cross ≡ pick b y x) (ea : along ≡ pick b x y) where
   leaf : LeafAt x y side
   leaf = rw (ex, ey, es) (r .leaves j h)
 
@@ -152,7 +174,8 @@ module _ {b short : Bool} {list : List ℕ} {n : ℕ} (r : Ready list n) {out₀
       (omega (
         arith,
         z .written .count,
-        numbers-long (passOf b) short (leavesFrom list j) (some-sides r j (omega arith)),
+        numbers-long (passOf b) short (leavesDown top list j) (some-sides r j (omega arith)),
+        area-down top (leavesFrom list j),
         area-more list j,
         area-rises list (suc j) (n - suc j),
         ap (λ (i : ℕ). area (leavesFrom list i)) e,
@@ -162,15 +185,15 @@ module _ {b short : Bool} {list : List ℕ} {n : ℕ} (r : Ready list n) {out₀
   pub leaf-asks : (m : ℕ) → at + 2 * area (leavesFrom list n) ≤ m → Starts cross along (side / 4) × (cross ≤ 4096) × (4 ≤ side) × (k + 2 * (side / 4 * (side / 4)) ≤ m)
   leaf-asks m g = let q = leaf-starts b short leaf cross along ec ea in (q .0, q .1, q .2, room m g)
 
-  pub one-written : (out₁ : List ℕ) (k₁ : ℕ) → Put (leafEdgeNumbers b short cross along side) out k out₁ k₁ → Written b short list out₀ at out₁ (j + 1) k₁
-  unfolding leavesFrom
+  pub one-written : (out₁ : List ℕ) (k₁ : ℕ) → Put (leafEdgeNumbers b short cross along side) out k out₁ k₁ → Written b short top list out₀ at out₁ (j + 1) k₁
   one-written out₁ k₁ g =
-      let e : each edgeNumbers (each (nearEdge (passOf b)) (visitOf (passOf b) short (leaf′ (x / 4) (y / 4) (side / 4)))) ≡ numbersOf (passOf b) short (leafFrom list j ∷ [])
-      = rw (ex, ey, es) (sym (numbers-one (passOf b) short (leafFrom list j))) in
+      let lower : y / 4 ≡ getD list (3 * j + 1) 0 / 4 + top = omega arith in
+      let e : each edgeNumbers (each (nearEdge (passOf b)) (visitOf (passOf b) short (leaf′ (x / 4) (y / 4) (side / 4)))) ≡ numbersOf (passOf b) short (leafDown top (leafFrom list j) ∷ [])
+      = rw (ex, lower, es) (sym (numbers-one (passOf b) short (leafDown top (leafFrom list j)))) in
       record {
         written =
             rw (add-one j)
-            (put-as (sym (numbers-append (passOf b) short (leavesFrom list j) (leafFrom list j ∷ [])))
+            (put-as (sym (ap (numbersOf (passOf b) short) (down-more top list j) ∙ numbers-append (passOf b) short (leavesDown top list j) (leafDown top (leafFrom list j) ∷ [])))
             (put-then (z .written) (put-as (leaf-numbers b short leaf cross along ec ea ∙ e) g)));
       }
 

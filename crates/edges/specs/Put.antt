@@ -3,13 +3,14 @@
 use mathlib.Core.Bool.{Bool, _&&_}
 use mathlib.Core.List.{List, [], _++_}
 use mathlib.Core.Path.{_≡_}
-use Prim.Native.Nat.{ℕ, _+_, _*_, _/_, _%_, _≤_}
+use Prim.Native.Nat.{ℕ, _+_, _*_, _/_, _%_, _≤_, _<_}
 use lib.Dec.{ltb, eqb}
-use lib.ListN.{length}
+use lib.ListN.{length, getD}
 use lib.Seq.{sets}
 use Rattle.laws.specs.Index.{pick}
 use Rattle.laws.specs.Orders.{each}
 use Rattle.split.specs.Edges.{passOf, stretch, edgeNumbers}
+use Rattle.split.specs.Stored.{LeafAt}
 
 -- numbers written to a list from a place on, and the next place
 pub record Put (vs : List ℕ) (out : List ℕ) (at : ℕ) (out′ : List ℕ) (next : ℕ) : Type 0 where
@@ -34,3 +35,8 @@ pub record Starts (cross along n : ℕ) : Type 0 where
   pub down : along % 4 ≡ 0
   pub near : cross ≤ 8192
   pub far : along + 4 * n ≤ 8192
+
+-- n leaves stand in the list, and `top` rows of units further down each lies in a picture
+pub record ReadyAt (top : ℕ) (list : List ℕ) (n : ℕ) : Type 0 where
+  pub long : 3 * n ≤ length list
+  pub leaves : (j : ℕ) → j < n → LeafAt (getD list (3 * j) 0) (getD list (3 * j + 1) 0 + 4 * top) (getD list (3 * j + 2) 0)

@@ -1,5 +1,6 @@
 // Both passes' lists of edges, written into lent buffers: the edges that evc_deblock_cu_ver and evc_deblock_cu_hor of df.rs visit.
 ghost use mathlib.Core.Bool.{true};
+ghost use mathlib.Core.List.{map};
 ghost use mathlib.Core.Path.{_≡_};
 ghost use Prim.Native.Nat.{_+_, _*_, _/_, _%_, _≤_, _<_};
 ghost use lib.ListN.{length, getD};
@@ -13,8 +14,10 @@ ghost use Rattle.split.specs.Edges.{edgeAt, edgeList, edgeNumbers, edgesOf, pas
 ghost use Rattle.split.specs.LeavesCall as LeavesCall;
 ghost use Rattle.split.specs.ListCall as ListCall;
 ghost use Rattle.split.specs.Picture.{pictureWalk};
-ghost use Rattle.split.specs.Stored.{area, leavesFrom, Ready};
-ghost use Rattle.edges.specs.Put.{Put, Starts, stretchNumbers, nearNumbers, leafEdgeNumbers};
+ghost use Rattle.split.specs.RootCall as RootCall;
+ghost use Rattle.split.specs.RootCall.{leafDown};
+ghost use Rattle.split.specs.Stored.{area, leavesFrom};
+ghost use Rattle.edges.specs.Put.{Put, Starts, ReadyAt, stretchNumbers, nearNumbers, leafEdgeNumbers};
 use def::Answer;
 use def::Pel;
 use def::Refusal;
@@ -111,23 +114,24 @@ fn across(horizontal: bool, x: usize, y: usize) -> Pel
     if horizontal { Pel(y) } else { Pel(x) }
 }
 
-// A pass's edges of the first n leaves of a list.
+// A pass's edges of the first n leaves of a list: they lie `top` rows of units further down than the list says.
 fn leaves_edges(
     list: &[u16],
     n: usize,
     horizontal: bool,
     short: bool,
+    top: usize,
     out: &mut [u16],
     at: usize,
 ) -> usize
-    requires { ⌜ Ready (now list) n × (at + 2 * area (leavesFrom (now list) n) ≤ length (now out)) ⌝ }
-    ensures { λ r. ⌜ Put (each edgeNumbers (edgesOf (passOf horizontal) short (leavesFrom (now (list .entry)) n))) (now (out .entry)) at (now (out .exit)) r ⌝ }
+    requires { ⌜ ReadyAt top (now list) n × (at + 2 * area (leavesFrom (now list) n) ≤ length (now out)) ⌝ }
+    ensures { λ r. ⌜ Put (each edgeNumbers (edgesOf (passOf horizontal) short (map (leafDown top) (leavesFrom (now (list .entry)) n)))) (now (out .entry)) at (now (out .exit)) r ⌝ }
 {
     let mut k = at;
     let mut j = 0;
     while j < n {
         let x = number_at(list, 3 * j);
-        let y = number_at(list, 3 * j + 1);
+        let y = number_at(list, 3 * j + 1) + 4 * top;
         let side = number_at(list, 3 * j + 2);
         let cross = across(horizontal, x, y);
         let along = across(horizontal, y, x);
@@ -156,7 +160,7 @@ fn root_edges(
     let Walked::Done(n) = split::leaves(w, h, splits, x, y, &mut list) else {
         return at;
     };
-    leaves_edges(&list, n, horizontal, short, out, at)
+    leaves_edges(&list, n, horizontal, short, 0, out, at)
 }
 
 // A pass's list of a picture whose walk is not refused: where it ends in the buffer.
@@ -246,6 +250,41 @@ pub fn list_edges(
                 vertical: vertical_end / 2,
                 horizontal: horizontal_end / 2,
             }
+        }
+    }
+}
+
+// A pass's edges of the root at (x, y), as `list_edges` writes them, `top` rows of units further down: a band's top edge is one where something lies above.
+pub fn root_list(
+    w: usize,
+    h: usize,
+    splits: &[u8],
+    x: Pel,
+    y: Pel,
+    horizontal: bool,
+    short: bool,
+    top: usize,
+    out: &mut [u16],
+) -> Walked
+    ensures { λ r. ⌜ Gives RootCall.outcome
+        (record { w = w; h = h; splits = now (splits .entry); x = x .0; y = y .0; horizontal = horizontal; short = short; top = top; out = now (out .entry) })
+        (LeavesCall.after r (now (out .exit))) ⌝ }
+{
+    if !size_ok(w, h) {
+        return Walked::Refused(Refusal::Size);
+    }
+    if 1024 - h / 4 < top {
+        return Walked::Refused(Refusal::Size);
+    }
+    if out.len() != 512 {
+        return Walked::Refused(Refusal::Length);
+    }
+    let mut list = [0u16; 768];
+    match split::leaves(w, h, splits, x, y, &mut list) {
+        Walked::Refused(r) => Walked::Refused(r),
+        Walked::Done(n) => {
+            let k = leaves_edges(&list, n, horizontal, short, top, out, 0);
+            Walked::Done(k / 2)
         }
     }
 }

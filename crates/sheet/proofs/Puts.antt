@@ -19,7 +19,7 @@ use lib.Seq.{length-sets, take-suc}
 use Rattle.laws.specs.Index.{pick}
 use Rattle.def.specs.Refusals.{numberOf}
 use Rattle.def.specs.declared.Refusal.{Refusal}
-use Rattle.def.specs.declared.Refusal.the-variants.{Size, Length, Setting, Split, Leaf, Qp, Sample, Block, Mode, Points, Pivot, Sheet, Record}
+use Rattle.def.specs.declared.Refusal.the-variants.{Size, Length, Setting, Split, Leaf, Qp, Sample, Block, Mode, Points, Pivot, Sheet, Record, Band}
 use Rattle.edges.specs.Put.{Put}
 use Rattle.edges.proofs.Puts.{put-none, put-then, put-as}
 use Rattle.sheet.specs.Puts.{Starts, placesText, numbersText}
@@ -145,6 +145,7 @@ number-small Points = omega arith
 number-small Pivot = omega arith
 number-small Sheet = omega arith
 number-small Record = omega arith
+number-small Band = omega arith
 
 -- ---- the places of a list
 

@@ -140,7 +140,7 @@ pub record RootTold (w h : ℕ) (s : List ℕ) (i : ℕ) (list : List ℕ) (n : 
   pub few : n ≤ 256
   pub leaves : (j : ℕ) → j < n → Leafed (w / 4) (h / 4) list j
 
-from-in : (list : List ℕ) (n j : ℕ) → j < n → List·Memᴰ (leafFrom list j) (leavesFrom list n)
+pub from-in : (list : List ℕ) (n j : ℕ) → j < n → List·Memᴰ (leafFrom list j) (leavesFrom list n)
 unfolding leavesFrom
 from-in list zero j l = absurd (omega arith)
 from-in list (suc n) j l =

@@ -6,6 +6,7 @@ pub mod ListCall
 pub mod Order
 pub mod Passes
 pub mod Picture
+pub mod RootCall
 pub mod Rows
 pub mod Stored
 pub mod Tiling

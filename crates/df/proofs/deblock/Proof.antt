@@ -6,6 +6,7 @@ use lib.ListN.{length}
 use Rattle.def.specs.declared.Answer.the-variants.{Done}
 use Rattle.strength.proofs.Strengths.{entries-long}
 use Rattle.df.specs.Deblock.{Input, check}
+use Rattle.bands_rules.proofs.Whole.{both-zero, frame-zero}
 use Rattle.df.proofs.Calls.{accepted, framed, deblock-done, deblock-refused}
 use Rattle.df.proofs.deblock.Statement.{statement}
 use Rattle.df.proofs.deblock.Tie as tie
@@ -42,12 +43,12 @@ unfolding inputOf
 both-passes-requires c κs =
     let i = inputOf (c .before .before .before .before .before .before .before .before .before .before .before .before .before .before .before .before .before .before .before .before .before .before) in
     let e = fine (c .before .before .before .before .before .before .before .before .before) in
-    (framed i e _ (ap length (c .before .before .before .before .before .before .before .before .pass-entries .ensures) ∙ entries-long _ _ _ _ _), ap length (c .before .before .before .before .before .before .before .pass-entries2 .ensures) ∙ entries-long _ _ _ _ _, accepted i e)
+    (frame-zero (framed i e _ (ap length (c .before .before .before .before .before .before .before .before .pass-entries .ensures) ∙ entries-long _ _ _ _ _)), ap length (c .before .before .before .before .before .before .before .pass-entries2 .ensures) ∙ entries-long _ _ _ _ _, accepted i e)
 
 returns-2 : tie.Need-returns-2
 unfolding inputOf
 returns-2 c =
-    deblock-done (inputOf (c .before .before .before .before .before .before .before .before .before .before .before .before .before .before .before .before .before .before .before .before .before .before .before .before .before .before .before .before .before .before .before)) (fine (c .before .before .before .before .before .before .before .before .before .before .before .before .before .before .before .before .before .before)) _ _ _ _ _ _ _ _ (c .before .before .before .before .before .before .before .before .before .before .before .before .before .before .before .before .before .pass-entries .ensures) (c .before .before .before .before .before .before .before .before .before .before .before .before .before .before .before .before .pass-entries2 .ensures) (c .before .before .before .before .before .before .before .before .both-passes .ensures)
+    deblock-done (inputOf (c .before .before .before .before .before .before .before .before .before .before .before .before .before .before .before .before .before .before .before .before .before .before .before .before .before .before .before .before .before .before .before)) (fine (c .before .before .before .before .before .before .before .before .before .before .before .before .before .before .before .before .before .before)) _ _ _ _ _ _ _ _ (c .before .before .before .before .before .before .before .before .before .before .before .before .before .before .before .before .before .pass-entries .ensures) (c .before .before .before .before .before .before .before .before .before .before .before .before .before .before .before .before .pass-entries2 .ensures) (both-zero _ _ _ (c .before .before .before .before .before .before .before .before .both-passes .ensures))
 
 pub deblock-spec : {M : Type 1} → statement M
 deblock-spec =

@@ -1,6 +1,6 @@
 -- `edges::leaves_edges` meets its contract: after j turns the edges of the first j leaves are written. Assumes nothing.
-use mathlib.Core.Path.{_≡_, refl, _∙_}
-use Prim.Native.Nat.{_-_, _*_, _≤_}
+use mathlib.Core.Path.{_≡_, refl, ap, _∙_}
+use Prim.Native.Nat.{ℕ, _+_, _-_, _*_, _≤_}
 use native.Mathlib.Omega.{arith}
 use borrow.Author.Needs.{needs}
 use lib.ListN.{length}
@@ -9,17 +9,24 @@ use Rattle.edges.proofs.leaves_edges.Statement.{statement}
 use Rattle.edges.proofs.leaves_edges.Tie as tie
 
 abbrev Inv-loop : tie.InvT-loop
-Inv-loop list n horizontal short out₀ at k₀ j₀ out k j =
-    (j ≤ n) × (length out ≡ length out₀) × (3 * n ≤ length list) × Written horizontal short list out₀ at out j k
+Inv-loop list n horizontal short top out₀ at k₀ j₀ out k j =
+    (j ≤ n) × (length out ≡ length out₀) × (3 * n ≤ length list) × Written horizontal short top list out₀ at out j k
 
 abbrev μ-loop : tie.MeasureT-loop
-μ-loop list n horizontal short out₀ at k₀ j₀ out k j = n - j
+μ-loop list n horizontal short top out₀ at k₀ j₀ out k j = n - j
+
+-- a leaf's row, as it lies in what is lent
+mul-y : tie.Need-mul-y Inv-loop μ-loop
+mul-y c = omega (arith, c .before .before .before .before .before .before .pre .0 .leaves (c .before .before .before .loop .j) (c .before .before .loop-test .taken) .bottom)
+
+add-y : tie.Need-add-y Inv-loop μ-loop
+add-y c = omega (arith, c .before .before .before .before .before .before .pre .0 .leaves (c .before .before .before .loop .j) (c .before .before .loop-test .taken) .bottom, c .number-at2 .ensures)
 
 leaf-edges-requires : tie.Need-leaf-edges-requires Inv-loop μ-loop
 leaf-edges-requires c κs =
     let l = c .before .before .before .before .before .before .before .loop in
     let p = c .before .before .before .before .before .before .before .before .before .before .pre in
-    leaf-asks (p .0) (l .inv .3) (c .before .before .before .before .before .before .loop-test .taken) (c .before .before .before .before .before .number-at .ensures) (c .before .before .before .before .number-at2 .ensures) (c .before .before .before .number-at3 .ensures)
+    leaf-asks (p .0) (l .inv .3) (c .before .before .before .before .before .before .loop-test .taken) (c .before .before .before .before .before .number-at .ensures) (ap (λ (m : ℕ). m + 4 * c .before .before .before .before .before .before .before .before .before .before .args .top) (c .before .before .before .before .number-at2 .ensures)) (c .before .before .before .number-at3 .ensures)
     (c .before .before .across .ensures) (c .before .across2 .ensures) _ (omega (arith, p .1, l .inv .1))
 
 loop-again : tie.Need-loop-again Inv-loop μ-loop
@@ -29,7 +36,7 @@ loop-again c =
       omega arith,
       e .kept .1 .1 .1 .1 .1 .0 ∙ l .inv .1,
       l .inv .2,
-      one-written (c .before .before .before .before .before .before .before .before .before .before .before .before .before .pre .0) (l .inv .3) (c .before .before .before .before .before .before .before .before .before .loop-test .taken) (c .before .before .before .before .before .before .before .before .number-at .ensures) (c .before .before .before .before .before .before .before .number-at2 .ensures) (c .before .before .before .before .before .before .number-at3 .ensures)
+      one-written (c .before .before .before .before .before .before .before .before .before .before .before .before .before .pre .0) (l .inv .3) (c .before .before .before .before .before .before .before .before .before .loop-test .taken) (c .before .before .before .before .before .before .before .before .number-at .ensures) (ap (λ (m : ℕ). m + 4 * c .before .before .before .before .before .before .before .before .before .before .before .before .before .args .top) (c .before .before .before .before .before .before .before .number-at2 .ensures)) (c .before .before .before .before .before .before .number-at3 .ensures)
           (c .before .before .before .before .before .across .ensures) (c .before .before .before .before .across2 .ensures) _ _ (e .ensures),
     )
 
@@ -42,12 +49,14 @@ leaves-edges-spec =
     (tie.spec
     Inv-loop
     μ-loop
-    (λ c. (omega arith, refl, c .before .before .pre .0 .long, none-written _ _ _ _ _))
+    (λ c. (omega arith, refl, c .before .before .pre .0 .long, none-written _ _ _ _ _ _))
     (λ c. omega arith)
     (λ c κs. omega arith)
     (λ c. omega arith)
     (λ c. omega arith)
     (λ c κs. omega arith)
+    mul-y
+    add-y
     (λ c. omega arith)
     (λ c. omega arith)
     (λ c κs. omega arith)

@@ -14,6 +14,8 @@ use Rattle.split.specs.declared.Walked.{Walked}
 use Rattle.split.specs.declared.Walked.the-variants.{Done as Counted}
 use Rattle.split.proofs.Callers.{Told, leaves-told, leaves-met}
 use Rattle.edges.proofs.Puts.{put-as}
+use Rattle.edges.proofs.RootLists.{ready-zero}
+use Rattle.edges.proofs.Written.{down-zero}
 use Rattle.edges.proofs.root_edges.Statement.{statement}
 use Rattle.edges.proofs.root_edges.Tie as tie
 
@@ -29,13 +31,13 @@ leaves-edges-requires c κs =
     let s = c .before .before .before .before .before .before .before .before .before .before in
     let a = s .args in
     let t = told _ _ _ _ (c .before .before .before .before .before .before .leaves .ensures) (c .before .before .before .n .given .1) in
-    (t .leaves, subst (λ (l : List Leaf). a .at + 2 * area l ≤ length (a .out .now)) (sym (t .back)) (s .pre .1))
+    (ready-zero (t .leaves), subst (λ (l : List Leaf). a .at + 2 * area l ≤ length (a .out .now)) (sym (t .back)) (s .pre .1))
 
 returns-2 : tie.Need-returns-2
 returns-2 c =
     let a = c .before .before .before .before .before .before .before .before .before .before .before .before .before .args in
     let t = told _ _ _ _ (c .before .before .before .before .before .before .before .before .before .leaves .ensures) (c .before .before .before .before .before .before .n .given .1) in
-    put-as (ap (λ (l : List Leaf). each edgeNumbers (edgesOf (passOf (a .horizontal)) (a .short) l)) (t .back)) (c .before .before .leaves-edges .ensures)
+    put-as (ap (λ (l : List Leaf). each edgeNumbers (edgesOf (passOf (a .horizontal)) (a .short) l)) (down-zero _ ∙ t .back)) (c .before .before .leaves-edges .ensures)
 
 pub root-edges-spec : {M : Type 1} → statement M
 root-edges-spec =

@@ -1,26 +1,26 @@
--- `df::pass::deblock_pass` meets its contract: after i turns the state is that of the first i roots. Assumes nothing.
+-- `df::pass::deblock_pass` meets its contract: after i turns the edges of the first i roots are filtered. Assumes nothing.
 use Prim.Native.Nat.{_+_, _-_, _*_, _/_, _≤_}
 use mathlib.Core.Path.{_≡_, refl, sym, _∙_}
 use native.Mathlib.Omega.{arith}
 use borrow.Author.Needs.{needs}
 use lib.ListN.{length}
-use Rattle.def.specs.Picture.{rootCount}
 use Rattle.def.proofs.Sizes.{Sized, sized}
 use Rattle.split.proofs.Roots.{few-roots, roots-units}
+use Rattle.df_rules.proofs.Frames.{Framed, frame-filtered}
 use Rattle.df.specs.Edges.{passOf}
-use Rattle.df_rules.proofs.Frames.{Framed, frame-cleared}
-use Rattle.df_rules.proofs.Leaves.{Roots, roots-none, roots-more, roots-few, roots-frame, roots-all}
+use Rattle.df.proofs.Plans.{known, plan-few}
+use Rattle.df.proofs.Turns.{Roots, roots-none, roots-more, roots-all, luma-plane, u-plane, v-plane}
 use Rattle.df.proofs.pass.deblock_pass.Statement.{statement}
 use Rattle.df.proofs.pass.deblock_pass.Tie as tie
 
 abbrev Inv-loop : tie.InvT-loop
-Inv-loop pass short w h y₀ u₀ v₀ words₀ splits motion refs entries size roots list₀ count₀ i₀ y u v words list count i =
-    (i ≤ roots) × (length y ≡ length y₀) × (length u ≡ length u₀) × (length v ≡ length v₀) × (length words ≡ length words₀) × (length list ≡ 768)
-    × Roots motion refs entries (passOf pass) short splits (w / 4) (h / 4) i
-    (record { planes = record { y = y₀; u = u₀; v = v₀ }; words = words₀; count = 0 }) (record { planes = record { y = y; u = u; v = v }; words = words; count = count })
+Inv-loop pass short w h top y₀ u₀ v₀ words splits motion refs entries size roots list₀ at₀ count₀ i₀ y u v list at count i =
+    (i ≤ roots) × (length y ≡ length y₀) × (length u ≡ length u₀) × (length v ≡ length v₀) × (length list ≡ 512) × (length at ≡ 256)
+    × Roots (record { words = words; motion = motion; refs = refs }) entries (passOf pass) short top splits (w / 4) (h / 4) i
+    (record { y = y₀; u = u₀; v = v₀ }) (record { y = y; u = u; v = v }) count
 
 abbrev μ-loop : tie.MeasureT-loop
-μ-loop pass short w h y₀ u₀ v₀ words₀ splits motion refs entries size roots list₀ count₀ i₀ y u v words list count i = roots - i
+μ-loop pass short w h top y₀ u₀ v₀ words splits motion refs entries size roots list₀ at₀ count₀ i₀ y u v list at count i = roots - i
 
 size : (s : tie.Start Inv-loop μ-loop) → Sized (s .args .w) (s .args .h)
 size s = sized _ _ (s .pre .1 .sides)
@@ -28,54 +28,101 @@ size s = sized _ _ (s .pre .1 .sides)
 few : (s : tie.Start Inv-loop μ-loop) → (s .args .w + 63) / 64 * ((s .args .h + 63) / 64) ≤ 4096
 few s = few-roots (s .args .w) (s .args .h) (size s .wide) (size s .high)
 
+add-roots : tie.Need-add-roots Inv-loop μ-loop
+add-roots c = omega (arith, c .before .before .before .before .before .before .pre .0 .high)
+
+add-roots-2 : tie.Need-add-roots-2 Inv-loop μ-loop
+add-roots-2 c = omega (arith, size (c .before .before .before .before .before .before) .wide)
+
+add-roots-3 : tie.Need-add-roots-3 Inv-loop μ-loop
+add-roots-3 c = omega (arith, size (c .before .before .before .before .before .before) .high)
+
+mul-roots : tie.Need-mul-roots Inv-loop μ-loop
+mul-roots c = omega (arith, few (c .before .before .before .before .before .before))
+
 loop-holds : tie.Need-loop-holds Inv-loop μ-loop
-loop-holds c = (omega arith, refl, refl, refl, refl, refl, roots-none _ _ _ (passOf (c .before .before .before .before .before .before .before .before .before .before .args .pass)) _ _ _ _ _)
+loop-holds c = (omega arith, refl, refl, refl, refl, refl, roots-none _ _ (passOf (c .before .before .before .before .before .before .args .pass)) _ _ _ _ _ _)
 
-root-leaves-requires : tie.Need-root-leaves-requires Inv-loop μ-loop
-root-leaves-requires c κs = let s = c .before .before .before .before .before .before .before .before .before .before .before .before .before in (s .pre .1, c .before .loop-test .taken, c .before .before .loop .inv .5)
+root-edges-requires : tie.Need-root-edges-requires Inv-loop μ-loop
+root-edges-requires c κs = (c .before .before .before .before .before .before .before .before .before .pre .1, c .before .loop-test .taken, c .before .before .loop .inv .4, c .before .before .before .before .before .before .before .before .before .pre .0 .high)
 
--- the picture, by the words at a turn
-current : (c : tie.At-loop Inv-loop μ-loop) → let s = c .before .before .before .before .before .before .before .before .before .before .before in
-    Framed (s .args .w / 4) (s .args .h / 4) (s .args .motion .now) (s .args .refs .now) (s .args .entries .now) (record { y = c .loop .y; u = c .loop .u; v = c .loop .v }) (c .loop .words)
-current c =
-    let s = c .before .before .before .before .before .before .before .before .before .before .before in
-    roots-frame _ _ _ (passOf (s .args .pass)) _ _ _ _ (c .loop .i) _ _ (c .loop .inv .6) (rw (c .before .before .before .clear .ensures) (frame-cleared (s .pre .0)))
+places-requires : tie.Need-places-requires Inv-loop μ-loop
+places-requires c κs =
+    let s = c .before .before .before .before .before .before .before .before .before .before .before .before .before in
+    let r = c .before .before .before .root-edges .ensures in
+    record { long = omega (arith, r .long, r .few); fits = omega (arith, r .few, c .before .before .before .before .before .before .loop .inv .5); edges = λ k g. known (passOf (s .args .pass)) _ _ (s .pre .0) (r .units k g) }
 
-deblock-leaves-requires : tie.Need-deblock-leaves-requires Inv-loop μ-loop
-deblock-leaves-requires c κs =
-    let s = c .before .before .before .before .before .before .before .before .before .before .before .before .before .before .before .before .before .before .before .before in
-    let i = c .before .before .before .before .before .before .before .before .before .loop .inv in
-    let k = c .before .before .before .before .before .before .root-leaves .ensures in (
-      current (c .before .before .before .before .before .before .before .before .before),
-      (k .leaves, omega (arith, few s, i .0, roots-few _ _ _ (passOf (s .args .pass)) _ _ _ _ _ _ _ (i .6))),
+-- the picture, at a turn
+current : (c : tie.At-loop Inv-loop μ-loop) → let a = c .before .before .before .before .before .before .before .args in
+    Framed (a .w / 4) (a .top + a .h / 4) (a .motion .now) (a .refs .now) (a .entries .now) (record { y = c .loop .y; u = c .loop .u; v = c .loop .v }) (a .words .now)
+current c = let s = c .before .before .before .before .before .before .before in frame-filtered _ _ (passOf (s .args .pass)) _ _ (c .loop .inv .6 .planes) (s .pre .0)
+
+filter-luma-requires : tie.Need-filter-luma-requires Inv-loop μ-loop
+filter-luma-requires c κs =
+    let s = c .before .before .before .before .before .before .before .before .before .before .before .before .before .before .before .before .before .before in
+    let r = c .before .before .before .before .before .before .before .before .root-edges .ensures in
+    let p = c .before .before .before .before .places in (
+      luma-plane (current (c .before .before .before .before .before .before .before .before .before .before .before)),
+      record {
+        long = omega (arith, r .long, r .few);
+        fits = omega (arith, r .few, c .before .before .before .before .before .before .before .before .before .before .before .loop .inv .5, p .kept .1 .1 .1 .1 .1 .1 .1 .0);
+        units = r .units;
+        few = λ k g. plan-few (record { words = s .args .words .now; motion = s .args .motion .now; refs = s .args .refs .now }) (passOf (s .args .pass)) _ _ _ _ (p .ensures) (s .pre .0 .qps) k g;
+      },
+      s .pre .0 .long-entries,
     )
+
+filter-chroma-requires : tie.Need-filter-chroma-requires Inv-loop μ-loop
+filter-chroma-requires c κs =
+    let s = c .before .before .before .before .before .before .before .before .before .before .before .before .before .before .before .before .before .before .before .before .before .before .before .before .before in
+    let r = c .before .before .before .before .before .before .before .before .before .before .before .before .before .before .before .root-edges .ensures in
+    let p = c .before .before .before .before .before .before .before .before .before .before .before .places in (
+      u-plane (current (c .before .before .before .before .before .before .before .before .before .before .before .before .before .before .before .before .before .before)),
+      v-plane (current (c .before .before .before .before .before .before .before .before .before .before .before .before .before .before .before .before .before .before)),
+      record {
+        long = omega (arith, r .long, r .few);
+        fits = omega (arith, r .few, c .before .before .before .before .before .before .before .before .before .before .before .before .before .before .before .before .before .before .loop .inv .5, p .kept .1 .1 .1 .1 .1 .1 .1 .0);
+        units = r .units;
+        few = λ k g. plan-few (record { words = s .args .words .now; motion = s .args .motion .now; refs = s .args .refs .now }) (passOf (s .args .pass)) _ _ _ _ (p .ensures) (s .pre .0 .qps) k g;
+      },
+      s .pre .0 .long-entries,
+    )
+
+add-count : tie.Need-add-count Inv-loop μ-loop
+add-count c = omega (arith, few (c .before .before .before .before .before .before .before .before .before .before .before .before .before .before .before .before .before .before .before .before .before .before .before .before .before .before .before .before .before .before), c .before .before .before .before .before .before .before .before .before .before .before .before .before .before .before .before .before .before .before .before .before .before .before .loop .inv .6 .few, c .before .before .before .before .before .before .before .before .before .before .before .before .before .before .before .before .before .before .before .before .before .before .before .loop .inv .0, c .before .before .before .before .before .before .before .before .before .before .before .before .before .before .before .before .before .before .before .before .root-edges .ensures .few)
+
+add-i : tie.Need-add-i Inv-loop μ-loop
+add-i c = omega (arith, few (c .before .before .before .before .before .before .before .before .before .before .before .before .before .before .before .before .before .before .before .before .before .before .before .before .before .before .before .before .before .before), c .before .before .before .before .before .before .before .before .before .before .before .before .before .before .before .before .before .before .before .before .before .before .loop-test .taken)
+
+loop-less : tie.Need-loop-less Inv-loop μ-loop
+loop-less c = omega (arith, c .before .before .before .before .before .before .before .before .before .before .before .before .before .before .before .before .before .before .before .before .before .before .loop-test .taken)
 
 loop-again : tie.Need-loop-again Inv-loop μ-loop
 loop-again c =
-    let s = c .before .before .before .before .before .before .before .before .before .before .before .before .before .before .before .before .before .before .before .before .before .before .before .before .before .before .before .before .before in
-    let l = c .before .before .before .before .before .before .before .before .before .before .before .before .before .before .before .before .before .before .loop in
-    let k = c .before .before .before .before .before .before .before .before .deblock-leaves .kept in
-    let r = c .before .before .before .before .before .before .before .before .before .before .before .before .before .before .before .root-leaves in (
-      omega (arith, c .before .before .before .before .before .before .before .before .before .before .before .before .before .before .before .before .before .loop-test .taken),
-      k .1 .1 .1 .0 ∙ l .inv .1,
-      k .1 .1 .1 .1 .0 ∙ l .inv .2,
-      k .1 .1 .1 .1 .1 .0 ∙ l .inv .3,
-      k .1 .1 .1 .1 .1 .1 .0 ∙ l .inv .4,
-      r .ensures .leaves .long,
-      roots-more _ _ _ (passOf (s .args .pass)) _ _ _ _ (l .i) _ _ _ _ _ (r .ensures .leaves .few) (r .ensures .same) (l .inv .6) (c .before .before .before .before .before .before .before .before .deblock-leaves .ensures),
+    let s = c .before .before .before .before .before .before .before .before .before .before .before .before .before .before .before .before .before .before .before .before .before .before .before .before .before .before .before .before .before .before in
+    let l = c .before .before .before .before .before .before .before .before .before .before .before .before .before .before .before .before .before .before .before .before .before .before .before .loop in
+    let ky = c .before .before .before .before .before .before .before .before .before .before .before .filter-luma .kept in
+    let k = c .before .before .before .before .filter-chroma .kept in
+    let r = c .before .before .before .before .before .before .before .before .before .before .before .before .before .before .before .before .before .before .before .before .root-edges .ensures in
+    let p = c .before .before .before .before .before .before .before .before .before .before .before .before .before .before .before .before .places in
+    let f = c .before .before .before .before .filter-chroma .ensures in (
+      omega (arith, c .before .before .before .before .before .before .before .before .before .before .before .before .before .before .before .before .before .before .before .before .before .before .loop-test .taken),
+      ky .1 .1 .0 ∙ l .inv .1,
+      k .1 .1 .0 ∙ l .inv .2,
+      k .1 .1 .1 .0 ∙ l .inv .3,
+      r .long,
+      p .kept .1 .1 .1 .1 .1 .1 .1 .0 ∙ l .inv .5,
+      roots-more _ _ (passOf (s .args .pass)) _ _ _ _ _ (l .i) _ _ _ _ _ _ _ _ _ (r .few) (r .same) (p .ensures) (l .inv .6) (c .before .before .before .before .before .before .before .before .before .before .before .filter-luma .ensures) (f .0) (f .1),
     )
 
 returns : tie.Need-returns Inv-loop μ-loop
 returns c =
-    let s = c .before .before .before .before .before .before .before .before .before .before .before .before in
-    let z = size s in
+    let s = c .before .before .before .before .before .before .before .before in
     let l = c .before .loop in
-    let e : l .i ≡ rootCount (s .args .w) (s .args .h) = omega (arith, l .inv .0, c .loop-test .left) in
-    let all = roots-all _ _ _ (passOf (s .args .pass)) _ _ _ _ (l .i) _ _ (e ∙ sym (roots-units z)) (omega (arith, few s, l .inv .0)) (l .inv .6) in
-    rw (c .before .before .before .before .clear .ensures) at all
+    roots-all _ _ (passOf (s .args .pass)) _ _ _ _ _ (l .i) _ _ _ (omega (arith, l .inv .0, c .loop-test .left, roots-units (size s))) (l .inv .6)
 
 pub deblock-pass-spec : {M : Type 1} → statement M
 deblock-pass-spec =
     tie.close
-    (tie.spec Inv-loop μ-loop (λ c κs. search needs) (λ c. omega (arith, size (c .before .before .before .before .before .before .before .before .before .before) .wide)) (λ c. omega (arith, size (c .before .before .before .before .before .before .before .before .before .before) .high)) (λ c. omega (arith, few (c .before .before .before .before .before .before .before .before .before .before))) loop-holds (λ c. search needs) root-leaves-requires (λ c. search needs) deblock-leaves-requires
-    (λ c. omega (arith, c .before .before .before .before .before .before .before .before .before .before .before .before .before .before .before .before .before .loop-test .taken, few (c .before .before .before .before .before .before .before .before .before .before .before .before .before .before .before .before .before .before .before .before .before .before .before .before .before .before .before .before .before))) (λ c. omega (arith, c .before .before .before .before .before .before .before .before .before .before .before .before .before .before .before .before .before .loop-test .taken)) loop-again (λ c. c .before .loop .inv .1) (λ c. c .before .loop .inv .2) (λ c. c .before .loop .inv .3) (λ c. c .before .loop .inv .4 ∙ c .before .before .before .before .clear .kept .0) returns)
+    (tie.spec Inv-loop μ-loop add-roots add-roots-2 add-roots-3 mul-roots loop-holds (λ c. search needs) root-edges-requires (λ c. search needs) (λ c. search needs) places-requires (λ c. search needs) (λ c. search needs) filter-luma-requires
+    (λ c. search needs) (λ c. search needs) filter-chroma-requires add-count add-i loop-less loop-again (λ c. c .before .loop .inv .1) (λ c. c .before .loop .inv .2) (λ c. c .before .loop .inv .3) returns)

@@ -1,0 +1,40 @@
+-- A band with nothing above it is a picture.
+-- Assumes nothing.
+use mathlib.Core.Bool.{Bool}
+use mathlib.Core.Path.{_≡_, refl, sym, ap, ap₂, _∙_, subst}
+use mathlib.Core.List.{List, [], _∷_, _++_, map}
+use Prim.Native.Nat.{ℕ, _+_, _*_}
+use native.Mathlib.Nat.{zero-mul, zero-add, add-zero}
+use lib.IntN.{ℤ}
+use lib.ListN.{length, take, drop}
+use Rattle.split.specs.Edges.{Pass, vertical, horizontal, Edge, edgesOf, edgeList}
+use Rattle.split.specs.Picture.{allLeaves}
+use Rattle.split.specs.Walk.{Leaf}
+use Rattle.df_rules.specs.Filter.{Planes, filterAll}
+use Rattle.df_rules.specs.Frame as Frame
+use Rattle.df_rules.specs.Strength.{Maps}
+use Rattle.split.specs.RootCall.{leafDown}
+use Rattle.bands_rules.specs.Bands.{listFrom, doneFrom, Both}
+
+down-zero : (l : List Leaf) → map (leafDown 0) l ≡ l
+down-zero [] = refl
+down-zero (p ∷ l) = λ i. record { x = p .x; y = add-zero (p .y) i; side = p .side } ∷ down-zero l i
+
+pub list-zero : (d : Pass) (short : Bool) (s : List ℕ) (w n : ℕ) → listFrom d short 0 s w n ≡ edgeList d short s w n
+list-zero d short s w n = ap (edgesOf d short) (down-zero (allLeaves s w n))
+
+pub both-zero : {m : Maps} {t t₁ : List ℕ} {w : ℕ} (short : Bool) (s : List ℕ) (n : ℕ) {p q : Planes} {words : List ℕ} {ver hor : ℕ}
+    → Both m t t₁ w 0 (listFrom vertical short 0 s w n) (listFrom horizontal short 0 s w n) p q words ver hor
+    → Frame.Both m t t₁ w (edgeList vertical short s w n) (edgeList horizontal short s w n) p q words ver hor
+both-zero {m} {t} {t₁} {w} short s n {p} b =
+    let u = list-zero vertical short s w n in
+    let l = list-zero horizontal short s w n in
+    record {
+      planes = b .planes ∙ ap₂ (λ (k j : List Edge). filterAll m t₁ horizontal w j (filterAll m t vertical w k p)) u l;
+      ups-counted = b .ups-counted ∙ ap length u;
+      levels-counted = b .levels-counted ∙ ap length l;
+      marks = b .marks ∙ ap (λ (k : ℕ). doneFrom k (m .words)) (zero-mul w);
+    }
+
+pub frame-zero : {w h : ℕ} {y u v words : List ℕ} {motion refs : List ℤ} {t : List ℕ} → Frame.Frame w h y u v words motion refs t → Frame.Frame w (0 + h) y u v words motion refs t
+frame-zero {w} {h} {y} {u} {v} {words} {motion} {refs} {t} f = subst (λ (k : ℕ). Frame.Frame w k y u v words motion refs t) (sym (zero-add h)) f

@@ -1,0 +1,168 @@
+-- Plans: a list of edges read back, places that are its strengths, and that filtering by a plan is filtering its edges.
+--     read-back, read-units    a written list holds its edges, at their luma samples
+--     plan-filters    filtering a plane by a plan is filtering its edges there, where its places are those of the maps
+--     plan-stays    a plane stays a plane
+-- Assumes nothing.
+use Prim.Native.Nat.{ℕ, zero, suc, _+_, _*_, _/_, _%_, _≤_, _<_}
+use mathlib.Core.Bool.{Bool}
+use mathlib.Core.Path.{_≡_, refl, sym, ap, ap₂, _∙_, subst}
+use mathlib.Core.List.{List, [], _∷_, _++_, List·Memᴰ, List·Memᴰ·head, List·Memᴰ·tail}
+use native.Mathlib.Nat.{zero-add, le-of-suc-le-suc, not-suc-le-zero, mul-le-mul-right}
+use native.Mathlib.Numerals.{add-one}
+use native.Mathlib.Omega.{arith}
+use lib.IntN.{ℤ}
+use lib.ListN.{length, getD, take, List·getD-append}
+use lib.Seq.{sets, sets-eq, length-sets, take-suc, take-all}
+use Rattle.def.specs.declared.Component.{Component}
+use Rattle.laws.specs.Orders.{run, each}
+use Rattle.laws.proofs.Orders.{run-append}
+use Rattle.split.specs.Edges.{Pass, vertical, horizontal, Edge, edge, edgeAt, edgeNumbers}
+use Rattle.split.specs.Rows.{crossOf, alongOf}
+use Rattle.split.proofs.Demand3.{edges-twice}
+use Rattle.df_rules.specs.Filter.{window, filtered}
+use Rattle.df_rules.specs.Frame.{Frame, Unit, AtUnit}
+use Rattle.df_rules.specs.Places.{stepAcross, unitQ, unitP}
+use Rattle.df_rules.specs.Strength.{Maps, rowAt, qpAt, strengthOf, strength}
+use Rattle.df_rules.proofs.Edges.{Spot, spot, unit-q, unit-p, p-before}
+use Rattle.df_rules.proofs.Planes.{window-long, window-small}
+use Rattle.df_rules.proofs.Strengths.{row-few}
+use Rattle.bands_rules.proofs.Lists.{Lies}
+use Rattle.df.specs.Plan.{edgeFrom, edgesFrom, placeAt, Placed, filterIn, Known, PlaneOf, At}
+use Rattle.edges.specs.Put.{Put}
+
+-- ---- a list read back
+
+none : Edge
+none = edge 0 0
+
+mem-at : (l : List Edge) (j : ℕ) → j < length l → List·Memᴰ (getD l j none) l
+mem-at [] j h = absurd (not-suc-le-zero h)
+mem-at (p ∷ l) zero h = List·Memᴰ·head refl
+mem-at (p ∷ l) (suc j) h = List·Memᴰ·tail (mem-at l j (le-of-suc-le-suc h))
+
+record Reads (e : Edge) (x y : ℕ) : Type 0 where
+  column : x ≡ 4 * e .x
+  row : y ≡ 4 * e .y
+
+numbers-at : (l : List Edge) (j : ℕ) → j < length l → let vs = each edgeNumbers l in Reads (getD l j none) (getD vs (2 * j) 0) (getD vs (2 * j + 1) 0)
+unfolding each
+numbers-at [] j h = absurd (not-suc-le-zero h)
+numbers-at (p ∷ l) zero h = record { column = refl; row = refl }
+numbers-at (p ∷ l) (suc j) h =
+    let i = numbers-at l j (le-of-suc-le-suc h) in
+    let a : 2 * suc j ≡ suc (suc (2 * j)) = omega arith in
+    let b : suc (suc (2 * j)) + 1 ≡ suc (suc (2 * j + 1)) = omega arith in
+    rw (a, b) i
+
+-- an edge's first luma sample
+at-edge : (d : Pass) (w top h : ℕ) (e : Edge) (x y : ℕ) → Lies d w top h e → Reads e x y → At d w h x y
+at-edge vertical w top h e x y g r = record { whole-c = omega (arith, r .column); whole-a = omega (arith, r .row); inner = omega (arith, r .column, g .inner); across = omega (arith, r .column, g .column); along = omega (arith, r .row, g .below) }
+at-edge horizontal w top h e x y g r = record { whole-c = omega (arith, r .row); whole-a = omega (arith, r .column); inner = omega (arith, r .row, g .inner); across = omega (arith, r .row, g .below); along = omega (arith, r .column, g .column) }
+
+module _ (l : List Edge) (few : length l ≤ 256) {out list : List ℕ} {r : ℕ} (long : length out ≡ 512) (z : Put (each edgeNumbers l) out 0 list r) where
+  pub count : r / 2 ≡ length l
+  count = omega (arith, z .count, edges-twice l)
+
+  pub list-long : length list ≡ 512
+  list-long = ap length (z .put) ∙ length-sets out 0 (each edgeNumbers l) ∙ long
+
+  number : (k : ℕ) → k < 2 * length l → getD list k 0 ≡ getD (each edgeNumbers l) k 0
+  number k g =
+      let t = edges-twice l in
+      ap (λ (v : List ℕ). getD v k 0) (z .put ∙ sets-eq (each edgeNumbers l) out 0 (omega arith)) ∙ List·getD-append (each edgeNumbers l) _ 0 k (omega arith)
+
+  reads : (j : ℕ) → j < length l → Reads (getD l j none) (getD list (2 * j) 0) (getD list (2 * j + 1) 0)
+  reads j g = rw (number (2 * j) (omega arith), number (2 * j + 1) (omega arith)) (numbers-at l j g)
+
+  up-to : (m : ℕ) → m ≤ length l → edgesFrom list m ≡ take m l
+  unfolding edgesFrom
+  up-to zero g = refl
+  up-to (suc m) g =
+      let q = reads m g in
+      let a : getD list (2 * m) 0 / 4 ≡ getD l m none .x = omega (arith, q .column) in
+      let b : getD list (2 * m + 1) 0 / 4 ≡ getD l m none .y = omega (arith, q .row) in
+      sym (take-suc l m none g ∙ ap₂ (λ (k : List Edge) (p : Edge). k ++ (p ∷ [])) (sym (up-to m (omega arith))) (sym (λ t. edge (a t) (b t))))
+
+  pub read-back : edgesFrom list (r / 2) ≡ l
+  read-back = up-to (r / 2) (omega (arith, count)) ∙ take-all (r / 2) l (omega (arith, count))
+
+  pub read-units : (d : Pass) (w top h : ℕ) → ((e : Edge) → List·Memᴰ e l → Lies d w top h e)
+      → (k : ℕ) → k < r / 2 → At d w h (getD list (2 * k) 0) (getD list (2 * k + 1) 0)
+  read-units d w top h f k g =
+      let g′ : k < length l = omega (arith, count) in
+      at-edge d w top h (getD l k none) _ _ (f (getD l k none) (mem-at l k g′)) (reads k g′)
+
+-- ---- an edge's units lie in the maps
+
+pub known : (d : Pass) {w h : ℕ} {y u v words : List ℕ} {motion refs : List ℤ} {t : List ℕ} (a b : ℕ) → Frame w h y u v words motion refs t → At d w h a b → Known d w words motion refs a b
+known vertical {w} {h} a b f g =
+    let k = spot vertical w h a b (f .wide) (f .high) g in
+    record { wide = f .wide; few-x = k .few-x; few-y = k .few-z; before = p-before w h vertical (a / 4) (b / 4) (k .inner); q = unit-q w h f vertical (a / 4) (b / 4) (k .across) (k .along); p = unit-p w h f vertical (a / 4) (b / 4) (k .across) (k .along) }
+known horizontal {w} {h} a b f g =
+    let k = spot horizontal w h b a (f .wide) (f .high) g in
+    record { wide = f .wide; few-x = k .few-z; few-y = k .few-x; before = p-before w h horizontal (b / 4) (a / 4) (k .inner); q = unit-q w h f horizontal (b / 4) (a / 4) (k .across) (k .along); p = unit-p w h f horizontal (b / 4) (a / 4) (k .across) (k .along) }
+
+-- a place is one of 208
+pub place-few : (m : Maps) (d : Pass) (w : ℕ) (e : Edge) → qpAt m (unitQ w e) ≤ 51 → placeAt m d w e ≤ 207
+place-few m d w e h = omega (arith, row-few m (unitQ w e) (unitP d w e))
+
+-- across and along, and back
+pub at-cross : (d : Pass) (x y : ℕ) → edgeAt d (crossOf d (edge x y) / 4) (alongOf d (edge x y) / 4) ≡ edge (x / 4) (y / 4)
+at-cross vertical x y = refl
+at-cross horizontal x y = refl
+
+-- ---- a plane, filtered by a plan
+
+module _ (t : List ℕ) (first : ℕ) (c : Component) (d : Pass) (w : ℕ) where
+  -- the strength at an edge's place is its own
+  strong : (m : Maps) (at : ℕ → ℕ) → ((r q : ℕ) → first + (r + q) ≡ r + at q) → (e : Edge) (k : ℕ) → k ≡ placeAt m d w e → 4 * getD t (first + k) 0 ≡ strength m t at d w e
+  unfolding strengthOf
+  strong m at f e k q = ap (λ (j : ℕ). 4 * getD t j 0) (ap (λ (j : ℕ). first + j) q ∙ f _ _)
+
+  -- so filtering by a plan is filtering its edges
+  pub plan-filters : (m : Maps) (at : ℕ → ℕ) → ((r q : ℕ) → first + (r + q) ≡ r + at q) → (l places : List ℕ) (n : ℕ) (xs : List ℕ) → Placed m d w l n places
+      → filterIn t first c d w l places n xs ≡ run (filtered m t at d c w) (edgesFrom l n) xs
+  unfolding filterIn edgesFrom run
+  plan-filters m at f l places zero xs g = refl
+  plan-filters m at f l places (suc n) xs g =
+      let e = edgeFrom l n in
+      ap (window d c w (4 * getD t (first + getD places n 0) 0) e) (plan-filters m at f l places n xs (record { at = λ k h. g .at k (omega arith) }))
+      ∙ ap (λ (st : ℕ). window d c w st e (run (filtered m t at d c w) (edgesFrom l n) xs)) (strong m at f e (getD places n 0) (g .at n (omega arith)))
+      ∙ sym (run-append (filtered m t at d c w) (edgesFrom l n) (e ∷ []) xs)
+
+  pub plan-none : (l places xs : List ℕ) → xs ≡ filterIn t first c d w l places 0 xs
+  unfolding filterIn
+  plan-none l places xs = refl
+
+  pub plan-more : (l places : List ℕ) (n j : ℕ) (e : Edge) (xs ys zs : List ℕ) → ys ≡ filterIn t first c d w l places n xs → j ≡ first + getD places n 0 → e ≡ edgeFrom l n
+      → zs ≡ window d c w (4 * getD t j 0) e ys → zs ≡ filterIn t first c d w l places (n + 1) xs
+  unfolding filterIn
+  plan-more l places n j e xs ys zs a b g f =
+      f ∙ (λ i. window d c w (4 * getD t (b i) 0) (g i) (a i)) ∙ ap (λ (k : ℕ). filterIn t first c d w l places k xs) (sym (add-one n))
+
+  -- a plane stays a plane
+  stays : (m h : ℕ) (l places : List ℕ) (n : ℕ) (xs : List ℕ) → PlaneOf m w h xs → PlaneOf m w h (filterIn t first c d w l places n xs)
+  unfolding filterIn
+  stays m h l places zero xs f = f
+  stays m h l places (suc n) xs f =
+      let g = stays m h l places n xs f in
+      record { wide = g .wide; high = g .high; long = window-long _ _ _ _ _ _ _ ∙ g .long; all = window-small _ _ _ _ _ _ _ (g .all) }
+
+  pub plan-stays : {m h : ℕ} (l places : List ℕ) (n : ℕ) (xs ys : List ℕ) → ys ≡ filterIn t first c d w l places n xs → PlaneOf m w h xs → PlaneOf m w h ys
+  plan-stays {m} {h} l places n xs ys e f = subst (PlaneOf m w h) (sym e) (stays m h l places n xs f)
+
+-- ---- by numbers that were read
+
+pub known-given : {d : Pass} {w : ℕ} {words : List ℕ} {motion refs : List ℤ} {x y a b : ℕ} → x ≡ a → y ≡ b → Known d w words motion refs a b → Known d w words motion refs x y
+known-given e f k = rw (e, f) k
+
+module _ (d : Pass) {x y a b c e : ℕ} (p : x ≡ a) (q : y ≡ b) (r : c ≡ crossOf d (edge x y)) (s : e ≡ alongOf d (edge x y)) where
+  pub at-given : {w h : ℕ} → At d w h a b → AtUnit d w h c e
+  at-given g = rw (r, s, p, q) g
+
+  pub edge-given : edgeAt d (c / 4) (e / 4) ≡ edge (a / 4) (b / 4)
+  edge-given = rw (r, s, p, q) (at-cross d a b)
+
+-- the places that the maps give are places
+pub plan-few : (m : Maps) (d : Pass) (w : ℕ) (l : List ℕ) (n : ℕ) (places : List ℕ) → Placed m d w l n places → ((k : ℕ) → qpAt m k ≤ 51) → (k : ℕ) → k < n → getD places k 0 ≤ 207
+plan-few m d w l n places z q k g = omega (arith, z .at k g, place-few m d w (edgeFrom l k) (q _))

@@ -1,0 +1,91 @@
+-- A root's plan: its edges as listing writes them, and the place of each one's strength; and what filtering by a plan leaves of the planes.
+-- Assumes nothing: these are definitions.
+use Prim.Native.Nat.{ℕ, zero, suc, _+_, _*_, _/_, _≤_, _<_}
+use mathlib.Core.Bool.{Bool}
+use mathlib.Core.List.{List, [], _∷_, _++_, map}
+use mathlib.Core.Path.{_≡_}
+use lib.IntN.{ℤ}
+use lib.ListN.{length, getD}
+use Rattle.def.specs.declared.Component.{Component}
+use Rattle.split.specs.Edges.{Pass, Edge, edge, edgesOf}
+use Rattle.split.specs.Picture.{rootLeaves}
+use Rattle.split.specs.Rows.{crossOf, alongOf}
+use Rattle.df_rules.specs.Filter.{window, Planes, filterAll}
+use Rattle.df_rules.specs.Frame.{Unit, AtUnit}
+use Rattle.df_rules.specs.Places.{stepAcross, unitQ, unitP}
+use Rattle.df_rules.specs.Strength.{Maps, rowAt, qpAt}
+use Rattle.df_rules.specs.Window.{Samples}
+use Rattle.split.specs.RootCall.{leafDown}
+
+-- edge k of a list: its two numbers are Q's first luma sample
+abbrev pub edgeFrom : List ℕ → ℕ → Edge
+edgeFrom l k = edge (getD l (2 * k) 0 / 4) (getD l (2 * k + 1) 0 / 4)
+
+-- the first n
+unfoldable pub edgesFrom : List ℕ → ℕ → List Edge
+edgesFrom l zero = []
+edgesFrom l (suc n) = edgesFrom l n ++ (edgeFrom l n ∷ [])
+
+-- ---- the place of an edge's strength, by the maps
+
+-- in a plane's 208 entries
+abbrev pub placeAt : Maps → Pass → (w : ℕ) → Edge → ℕ
+placeAt m d w e = 52 * rowAt m (unitQ w e) (unitP d w e) + qpAt m (unitQ w e)
+
+-- the places of a list's first n
+pub record Placed (m : Maps) (d : Pass) (w : ℕ) (l : List ℕ) (n : ℕ) (places : List ℕ) : Type 0 where
+  pub at : (k : ℕ) → k < n → getD places k 0 ≡ placeAt m d w (edgeFrom l k)
+
+-- ---- a plane filtered by a plan
+
+-- the first n edges of a plan, one after the other. first: where the plane's entries start
+unfoldable pub filterIn : (t : List ℕ) → (first : ℕ) → Component → Pass → (w : ℕ) → (l places : List ℕ) → ℕ → List ℕ → List ℕ
+filterIn t first c d w l places zero xs = xs
+filterIn t first c d w l places (suc n) xs = window d c w (4 * getD t (first + getD places n 0) 0) (edgeFrom l n) (filterIn t first c d w l places n xs)
+
+-- ---- what the functions ask for and give
+
+-- the two units of an edge lie in the maps
+pub record Known (d : Pass) (w : ℕ) (words : List ℕ) (motion refs : List ℤ) (x y : ℕ) : Type 0 where
+  pub wide : w ≤ 1024
+  pub few-x : x ≤ 4096
+  pub few-y : y ≤ 4096
+  pub before : stepAcross d w ≤ unitQ w (edge (x / 4) (y / 4))
+  pub q : Unit words motion refs (unitQ w (edge (x / 4) (y / 4)))
+  pub p : Unit words motion refs (unitP d w (edge (x / 4) (y / 4)))
+
+-- those of a list's first n edges, and there is room for their places
+pub record Knowns (d : Pass) (w : ℕ) (words : List ℕ) (motion refs : List ℤ) (l : List ℕ) (n room : ℕ) : Type 0 where
+  pub long : 2 * n ≤ length l
+  pub fits : n ≤ room
+  pub edges : (k : ℕ) → k < n → Known d w words motion refs (getD l (2 * k) 0) (getD l (2 * k + 1) 0)
+
+-- a plane of a picture of w by h units, m samples a unit's side
+pub record PlaneOf (m w h : ℕ) (xs : List ℕ) : Type 0 where
+  pub wide : w ≤ 1024
+  pub high : h ≤ 1024
+  pub long : length xs ≡ m * h * (m * w)
+  pub all : Samples xs
+
+-- (x, y) is the first luma sample of a unit that has one before it
+abbrev pub At : Pass → (w h x y : ℕ) → Type 0
+At d w h x y = AtUnit d w h (crossOf d (edge x y)) (alongOf d (edge x y))
+
+-- a plan of n edges, in such a picture
+pub record Plan (d : Pass) (w h : ℕ) (l places : List ℕ) (n : ℕ) : Type 0 where
+  pub long : 2 * n ≤ length l
+  pub fits : n ≤ length places
+  pub units : (k : ℕ) → k < n → At d w h (getD l (2 * k) 0) (getD l (2 * k + 1) 0)
+  pub few : (k : ℕ) → k < n → getD places k 0 ≤ 207
+
+-- the list of a pass's edges of root i, `top` rows of units further down, r of them. w and h are in luma samples
+pub record ListedRoot (w h : ℕ) (s : List ℕ) (d : Pass) (short : Bool) (top i : ℕ) (l : List ℕ) (r : ℕ) : Type 0 where
+  pub long : length l ≡ 512
+  pub few : r ≤ 256
+  pub same : edgesFrom l r ≡ edgesOf d short (map (leafDown top) (rootLeaves s (w / 4) (h / 4) i))
+  pub units : (k : ℕ) → k < r → At d (w / 4) (top + h / 4) (getD l (2 * k) 0) (getD l (2 * k + 1) 0)
+
+-- the edges of a list were filtered, r of them
+pub record PassDone (m : Maps) (t : List ℕ) (d : Pass) (w : ℕ) (l : List Edge) (p q : Planes) (r : ℕ) : Type 0 where
+  pub planes : q ≡ filterAll m t d w l p
+  pub counted : r ≡ length l

@@ -1,0 +1,117 @@
+// A list's edges, filtered by the places of their strengths: in luma, and in both chroma planes. No map is looked at.
+// The Rust beside it: df.rs, the loops of evc_deblock_cu_hor and evc_deblock_cu_ver.
+ghost use mathlib.Core.Path.{_≡_};
+ghost use Prim.Native.Nat.{_+_, _*_, _/_, _≤_, _<_};
+ghost use lib.ListN.{length, getD};
+ghost use Rattle.split.specs.Edges.{edgeAt};
+ghost use Rattle.def.specs.declared.Component.the-variants.{Luma, Chroma};
+ghost use Rattle.df_rules.specs.Filter.{window};
+ghost use Rattle.df_rules.specs.Frame.{AtUnit};
+ghost use Rattle.df.specs.Edges.{passOf};
+ghost use Rattle.df.specs.Plan.{filterIn, PlaneOf, Plan};
+use crate::place::Pass;
+use crate::place::along_of;
+use crate::place::cross_of;
+use crate::place::place;
+use crate::plan::number_at;
+use crate::window::chroma;
+use crate::window::luma;
+
+fn strength_at(entries: &[u8], i: usize) -> u16
+    requires { ⌜ i < length (now entries) ⌝ }
+    ensures { λ r. ⌜ r ≡ 4 * getD (now (entries .entry)) i 0 ⌝ }
+{
+    4 * entries[i] as u16
+}
+
+// The picture's sides in units.
+pub(crate) struct Size {
+    pub(crate) columns: usize,
+    pub(crate) rows: usize,
+}
+
+// One unit's edge in luma, by the place of its strength: x and z are where Q's first luma sample lies across the edge and along it. Strength 0 leaves a
+// window untouched. In the horizontal pass the lines lie side by side.
+fn edge_luma(pass: Pass, size: Size, y: &mut [u16], entries: &[u8], k: usize, x: usize, z: usize)
+    requires { ⌜ PlaneOf 4 (size .columns) (size .rows) (now y) × AtUnit (passOf pass) (size .columns) (size .rows) x z × (k ≤ 207) × (length (now entries) ≡ 624) ⌝ }
+    ensures { λ _. ⌜ now (y .exit) ≡ window (passOf pass) Luma (size .columns) (4 * getD (now (entries .entry)) k 0) (edgeAt (passOf pass) (x / 4) (z / 4)) (now (y .entry)) ⌝ }
+{
+    let st = strength_at(entries, k);
+    if st == 0 {
+        return;
+    }
+    let p = place(pass, 4 * size.columns, x, z);
+    luma(p.next == 1, y, p, st);
+}
+
+// And in both chroma planes: a plane has 208 entries; luma's come first, then U's and V's. Filtering samples at 0 leaves them as they were, too.
+fn edge_chroma(
+    pass: Pass,
+    size: Size,
+    u: &mut [u16],
+    v: &mut [u16],
+    entries: &[u8],
+    k: usize,
+    x: usize,
+    z: usize,
+)
+    requires { ⌜ PlaneOf 2 (size .columns) (size .rows) (now u) × PlaneOf 2 (size .columns) (size .rows) (now v) × AtUnit (passOf pass) (size .columns) (size .rows) x z × (k ≤ 207) × (length (now entries) ≡ 624) ⌝ }
+    ensures { λ _. ⌜ (now (u .exit) ≡ window (passOf pass) Chroma (size .columns) (4 * getD (now (entries .entry)) (208 + k) 0) (edgeAt (passOf pass) (x / 4) (z / 4)) (now (u .entry)))
+        × (now (v .exit) ≡ window (passOf pass) Chroma (size .columns) (4 * getD (now (entries .entry)) (416 + k) 0) (edgeAt (passOf pass) (x / 4) (z / 4)) (now (v .entry))) ⌝ }
+{
+    let su = strength_at(entries, 208 + k);
+    let sv = strength_at(entries, 416 + k);
+    if (su == 0) & (sv == 0) {
+        return;
+    }
+    let p = place(pass, 2 * size.columns, x / 2, z / 2);
+    chroma(p.next == 1, u, v, p, su, sv);
+}
+
+// The first n edges of a list in luma, one after the other.
+pub(crate) fn filter_luma(
+    pass: Pass,
+    size: Size,
+    y: &mut [u16],
+    entries: &[u8],
+    list: &[u16],
+    places: &[u8],
+    n: usize,
+)
+    requires { ⌜ PlaneOf 4 (size .columns) (size .rows) (now y) × Plan (passOf pass) (size .columns) (size .rows) (now list) (now places) n × (length (now entries) ≡ 624) ⌝ }
+    ensures { λ _. ⌜ now (y .exit) ≡ filterIn (now (entries .entry)) 0 Luma (passOf pass) (size .columns) (now (list .entry)) (now (places .entry)) n (now (y .entry)) ⌝ }
+{
+    for i in 0..n {
+        let k = places[i] as usize;
+        let a = number_at(list, 2 * i);
+        let b = number_at(list, 2 * i + 1);
+        let x = cross_of(pass, a, b);
+        let z = along_of(pass, a, b);
+        edge_luma(pass, size, &mut *y, entries, k, x, z);
+    }
+}
+
+// And in chroma.
+pub(crate) fn filter_chroma(
+    pass: Pass,
+    size: Size,
+    u: &mut [u16],
+    v: &mut [u16],
+    entries: &[u8],
+    list: &[u16],
+    places: &[u8],
+    n: usize,
+)
+    requires { ⌜ PlaneOf 2 (size .columns) (size .rows) (now u) × PlaneOf 2 (size .columns) (size .rows) (now v) × Plan (passOf pass) (size .columns) (size .rows) (now list) (now places) n × (length (now entries) ≡ 624) ⌝ }
+    ensures { λ _. ⌜ (now (u .exit) ≡ filterIn (now (entries .entry)) 208 Chroma (passOf pass) (size .columns) (now (list .entry)) (now (places .entry)) n (now (u .entry)))
+        × (now (v .exit) ≡ filterIn (now (entries .entry)) 416 Chroma (passOf pass) (size .columns) (now (list .entry)) (now (places .entry)) n (now (v .entry))) ⌝ }
+{
+    for i in 0..n {
+        let k = places[i] as usize;
+        let a = number_at(list, 2 * i);
+        let b = number_at(list, 2 * i + 1);
+        let x = cross_of(pass, a, b);
+        let z = along_of(pass, a, b);
+        edge_chroma(pass, size, &mut *u, &mut *v, entries, k, x, z);
+    }
+}
