@@ -34,7 +34,8 @@ enum {
     LOMSAKEUN_POINTS = 10,  /* the count of chroma points outside 1..58, or an a below 0 among them */
     LOMSAKEUN_PIVOT = 11,   /* a pivot outside -12..57 */
     LOMSAKEUN_SHEET = 12,   /* a malformed sheet */
-    LOMSAKEUN_RECORD = 13   /* the leaf or residual list's length, a mask or a spare byte */
+    LOMSAKEUN_RECORD = 13,  /* the leaf or residual list's length, a mask or a spare byte */
+    LOMSAKEUN_OLD = 20      /* a sheet of the time when V read table0 on vertical edges; the listing's text has it */
 };
 
 /* The bits of availability's answer. RIGHT_UP is the unit above the block's last column. */
@@ -130,14 +131,14 @@ uint8_t lomsakeun_reconstruct(
     uint32_t *map_scu, size_t map_scu_len, uint8_t *modes, size_t modes_len);
 
 /* Deblocks a picture (df): its planes are filtered and done is set in every word; how many edges each pass visited.
- * own: V's vertical edges read table1, and not table0 as the Rust does. */
+ * U's QP is mapped by table0, V's by table1. */
 uint8_t lomsakeun_deblock(
     size_t w, size_t h, uint16_t *y, size_t y_len, uint16_t *u, size_t u_len, uint16_t *v, size_t v_len,
     uint32_t *words, size_t words_len, const uint8_t *splits, size_t splits_len,
     const int16_t *motion, size_t motion_len, const int8_t *refs, size_t refs_len,
     const int8_t *table0, size_t table0_len, const int8_t *table1, size_t table1_len,
     const uint8_t *strengths, size_t strengths_len,
-    uint8_t limit, bool own, int8_t u_offset, int8_t v_offset, size_t *vertical_count, size_t *horizontal_count);
+    uint8_t limit, int8_t u_offset, int8_t v_offset, size_t *vertical_count, size_t *horizontal_count);
 
 /* The text that `edgelist` prints for a sheet (sheet), and its length. */
 uint8_t lomsakeun_listing(const uint8_t *input, size_t input_len, uint8_t *out, size_t out_len, size_t *length);

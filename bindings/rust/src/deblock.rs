@@ -12,7 +12,7 @@ pub struct Maps<'a> {
     pub motion: &'a [i16],
     /// Two a unit.
     pub refs: &'a [i8],
-    /// The chroma QP tables, 70 entries each.
+    /// The chroma QP tables, U's and V's, 70 entries each.
     pub tables: [&'a [i8]; 2],
     /// The strengths: four rows of 52.
     pub strengths: &'a [u8],
@@ -23,8 +23,6 @@ pub struct Maps<'a> {
 pub struct Settings {
     /// The transform limit, 5 or 6.
     pub limit: u8,
-    /// Whether V's vertical edges read V's own table.
-    pub own: bool,
     /// U's offset, -12 to 12.
     pub u_offset: i8,
     /// V's offset, -12 to 12.
@@ -64,7 +62,6 @@ pub fn deblock(picture: Picture, maps: Maps, settings: Settings) -> Result<(usiz
             strengths.as_ptr(),
             strengths.len(),
             settings.limit,
-            settings.own,
             settings.u_offset,
             settings.v_offset,
             &mut vertical,

@@ -31,11 +31,13 @@ pub enum Refusal {
     Sheet = 12,
     /// The leaf or residual list's length, a mask or a spare byte.
     Record = 13,
+    /// A sheet of the time when V read table 0 on vertical edges.
+    Old = 20,
 }
 
 impl Refusal {
-    /// Every refusal, that of number n at n - 1.
-    pub const ALL: [Refusal; 13] = [
+    /// Every refusal, by its number.
+    pub const ALL: &[Refusal] = &[
         Refusal::Size,
         Refusal::Length,
         Refusal::Setting,
@@ -49,16 +51,17 @@ impl Refusal {
         Refusal::Pivot,
         Refusal::Sheet,
         Refusal::Record,
+        Refusal::Old,
     ];
 
-    /// The refusal's number, 1 to 13.
+    /// The refusal's number.
     pub fn number(self) -> u8 {
         self as u8
     }
 
-    /// The refusal of a number, and none of 0 or of a number past 13.
+    /// The refusal of a number, and none of 0 or of a number that no refusal has.
     pub fn from_number(number: u8) -> Option<Refusal> {
-        Refusal::ALL.into_iter().find(|refusal| refusal.number() == number)
+        Refusal::ALL.iter().copied().find(|refusal| refusal.number() == number)
     }
 }
 
@@ -78,6 +81,7 @@ impl fmt::Display for Refusal {
             Refusal::Pivot => "a pivot outside -12..57",
             Refusal::Sheet => "a malformed sheet",
             Refusal::Record => "the leaf or residual list",
+            Refusal::Old => "an old sheet",
         };
         write!(f, "refused={}: {what}", self.number())
     }
@@ -88,7 +92,7 @@ impl std::error::Error for Refusal {}
 /// What a call that answers `number` gives: `values` where it is done.
 ///
 /// # Panics
-/// On a number past 13, which no call answers: the archive is then another one than this crate was written for.
+/// On a number that no refusal has: the archive is then another one than this crate was written for.
 pub(crate) fn answer<T>(number: u8, values: T) -> Result<T, Refusal> {
     match number {
         0 => Ok(values),

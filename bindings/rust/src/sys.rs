@@ -178,7 +178,6 @@ extern "C" {
         strengths: *const u8,
         strengths_len: usize,
         limit: u8,
-        own: bool,
         u_offset: i8,
         v_offset: i8,
         vertical_count: *mut usize,

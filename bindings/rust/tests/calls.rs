@@ -202,6 +202,7 @@ fn sheets() {
     assert_eq!(text(b"width=16\nheight=08\n"), "refused=12 line=2\n");
     assert_eq!(text(b""), "refused=12 line=1\n");
     assert_eq!(text(b"width=260\nheight=8\ntr_log2=6\nv_edge=own\nsplits=\n"), "refused=1\n");
+    assert_eq!(text(b"width=16\nheight=8\ntr_log2=6\nv_edge=source\nsplits=11110\n"), "refused=20\n");
 }
 
 /// Two units of 4 beside each other, all intra, at QP 30, with a step between them: the paper's line at entry 3 and at 0.
@@ -215,7 +216,7 @@ fn deblocking() {
         let (tables, strengths) = ([30; 70], [entry; 208]);
         let maps =
             Maps { splits: &splits, motion: &[0; 16], refs: &[0; 8], tables: [&tables; 2], strengths: &strengths };
-        let settings = Settings { limit: 6, own: false, u_offset: 0, v_offset: 0 };
+        let settings = Settings { limit: 6, u_offset: 0, v_offset: 0 };
         assert_eq!(deblock(picture, maps, settings), Ok((2, 2)));
         assert_eq!((u, v), ([100; 16], [100; 16]));
         assert_eq!(words, [30 << 16 | INTRA | DONE; 4]);

@@ -45,12 +45,13 @@ const BAD_SIZES: [(usize, usize); 8] =
 
 #[test]
 fn numbers() {
-    for (i, refusal) in Refusal::ALL.into_iter().enumerate() {
-        assert_eq!(refusal.number() as usize, i + 1);
+    let numbers: Vec<u8> = Refusal::ALL.iter().map(|refusal| refusal.number()).collect();
+    assert_eq!(numbers, (1..=13).chain([20]).collect::<Vec<u8>>());
+    for &refusal in Refusal::ALL {
         assert_eq!(Refusal::from_number(refusal.number()), Some(refusal));
-        assert!(refusal.to_string().starts_with(&format!("refused={}: ", i + 1)));
+        assert!(refusal.to_string().starts_with(&format!("refused={}: ", refusal.number())));
     }
-    assert_eq!([0, 14, 255].map(Refusal::from_number), [None; 3]);
+    assert_eq!([0, 14, 21, 255].map(Refusal::from_number), [None; 4]);
 }
 
 /// Derives tables of these lengths from these points.
@@ -311,7 +312,7 @@ impl Deblock {
             refs: vec![0; 8],
             tables: [vec![51; 70], vec![51; 70]],
             strengths: vec![3; 208],
-            settings: Settings { limit: 6, own: false, u_offset: 12, v_offset: -12 },
+            settings: Settings { limit: 6, u_offset: 12, v_offset: -12 },
         }
     }
 

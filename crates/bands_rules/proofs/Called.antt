@@ -38,7 +38,7 @@ some-above vertical k = tt
 some-above horizontal zero = inr refl
 some-above horizontal (suc k) = inl (omega arith)
 
-module _ (m : Maps) (t : List ℕ) (at : Pass → ℕ → ℕ) (c : Component) (short : Bool) (s : List ℕ) (w h : ℕ) (pos : 1 ≤ w) (walked : (k : ℕ) → k < across h → BandDone s w h pos k) where
+module _ (m : Maps) (t : List ℕ) (at : ℕ → ℕ) (c : Component) (short : Bool) (s : List ℕ) (w h : ℕ) (pos : 1 ≤ w) (walked : (k : ℕ) → k < across h → BandDone s w h pos k) where
   -- a band's list by its place in what is lent, and by its place in the picture
   pub list-at : (d : Pass) (k : ℕ) → map (edgeDown (rowsBefore k)) (listFrom d short (rowsAbove k) (bandBytes s w k) w (bandRows h k)) ≡ bandList d short s w h k
   list-at d k =
@@ -95,12 +95,12 @@ module _ (m : Maps) (t : List ℕ) (at : Pass → ℕ → ℕ) (c : Component) (
 
 -- ---- by words that differ in done alone
 
-pub finished-alike : (motion refs : List ℤ) {l m : List ℕ} → Alikes l m → (t : List ℕ) (at : Pass → ℕ → ℕ) (c : Component) (w : ℕ) (ups levels : List Edge) (p : List ℕ)
+pub finished-alike : (motion refs : List ℤ) {l m : List ℕ} → Alikes l m → (t : List ℕ) (at : ℕ → ℕ) (c : Component) (w : ℕ) (ups levels : List Edge) (p : List ℕ)
     → finished (record { words = l; motion = motion; refs = refs }) t at c w ups levels p ≡ finished (record { words = m; motion = motion; refs = refs }) t at c w ups levels p
 finished-alike motion refs {l} {m} a t at c w ups levels p =
-    run-same (record { words = l; motion = motion; refs = refs }) t (at horizontal) horizontal c w (record { words = m; motion = motion; refs = refs }) t (at horizontal) levels (λ e i. strength-alike motion refs t a (at horizontal) (unitQ w e) (unitP horizontal w e)) _
-    ∙ ap (run (filtered (record { words = m; motion = motion; refs = refs }) t (at horizontal) horizontal c w) levels)
-    (run-same (record { words = l; motion = motion; refs = refs }) t (at vertical) vertical c w (record { words = m; motion = motion; refs = refs }) t (at vertical) ups (λ e i. strength-alike motion refs t a (at vertical) (unitQ w e) (unitP vertical w e)) p)
+    run-same (record { words = l; motion = motion; refs = refs }) t at horizontal c w (record { words = m; motion = motion; refs = refs }) t at levels (λ e i. strength-alike motion refs t a at (unitQ w e) (unitP horizontal w e)) _
+    ∙ ap (run (filtered (record { words = m; motion = motion; refs = refs }) t at horizontal c w) levels)
+    (run-same (record { words = l; motion = motion; refs = refs }) t at vertical c w (record { words = m; motion = motion; refs = refs }) t at ups (λ e i. strength-alike motion refs t a at (unitQ w e) (unitP vertical w e)) p)
 
 pub part-alikes : {l m : List ℕ} → Alikes l m → (k n : ℕ) → Alikes (take n (drop k l)) (take n (drop k m))
 part-alikes {l} {m} a k n =

@@ -114,12 +114,12 @@ run-leaves P f (e ∷ l) h xs =
 
 -- ---- the bands of a picture, one after the other
 
-module _ (m : Maps) (t : List ℕ) (at : Pass → ℕ → ℕ) (c : Component) (short : Bool) (s : List ℕ) (w h : ℕ) (pos : 1 ≤ w) (walked : (k : ℕ) → k < across h → BandDone s w h pos k) where
+module _ (m : Maps) (t : List ℕ) (at : ℕ → ℕ) (c : Component) (short : Bool) (s : List ℕ) (w h : ℕ) (pos : 1 ≤ w) (walked : (k : ℕ) → k < across h → BandDone s w h pos k) where
   abbrev ups : List Edge → List ℕ → List ℕ
-  ups l p = run (filtered m t (at vertical) vertical c w) l p
+  ups l p = run (filtered m t at vertical c w) l p
 
   abbrev levels : List Edge → List ℕ → List ℕ
-  levels l p = run (filtered m t (at horizontal) horizontal c w) l p
+  levels l p = run (filtered m t at horizontal c w) l p
 
   abbrev ver : ℕ → List Edge
   ver k = bandList vertical short s w h k
@@ -137,11 +137,11 @@ module _ (m : Maps) (t : List ℕ) (at : Pass → ℕ → ℕ) (c : Component) (
   bands-joined zero l p = refl
   bands-joined (suc n) l p =
       ap (λ (q : List ℕ). levels (hor n) (ups (ver n) q)) (bands-joined n (omega arith) p)
-      ∙ ap (levels (hor n)) (runs-commute (filtered m t (at vertical) vertical c w) (filtered m t (at horizontal) horizontal c w) (ver n) (joined hor n)
+      ∙ ap (levels (hor n)) (runs-commute (filtered m t at vertical c w) (filtered m t at horizontal c w) (ver n) (joined hor n)
       (λ f e i j. swap c w (16 * n) _ _ _ e f (joined-in short s w h pos walked horizontal n (omega arith) e j) (band-in short s w h pos walked vertical n l f i))
       (ups (joined ver n) p))
-      ∙ sym (run-append (filtered m t (at horizontal) horizontal c w) (joined hor n) (hor n) (ups (ver n) (ups (joined ver n) p)))
-      ∙ ap (levels (joined hor n ++ hor n)) (sym (run-append (filtered m t (at vertical) vertical c w) (joined ver n) (ver n) p))
+      ∙ sym (run-append (filtered m t at horizontal c w) (joined hor n) (hor n) (ups (ver n) (ups (joined ver n) p)))
+      ∙ ap (levels (joined hor n ++ hor n)) (sym (run-append (filtered m t at vertical c w) (joined ver n) (ver n) p))
 
   pub bands-finished : (p : List ℕ) → banded (across h) p ≡ finished m t at c w (edgeList vertical short s w h) (edgeList horizontal short s w h) p
   bands-finished p = bands-joined (across h) (omega arith) p ∙ ap₂ (λ (u l : List Edge). finished m t at c w u l p) (sym (lists-joined vertical short s w h pos)) (sym (lists-joined horizontal short s w h pos))
@@ -152,9 +152,9 @@ module _ (m : Maps) (t : List ℕ) (at : Pass → ℕ → ℕ) (c : Component) (
   one-final : (k r : ℕ) → k < across h → r ≤ 16 * k → (p : List ℕ) (i : ℕ) → i < lastTwo c w r → getD (finished m t at c w (ver k) (hor k) p) i 0 ≡ getD p i 0
   one-final k r l g p i z =
       let b : (j : ℕ) → Type 0 = λ j. lastTwo c w r ≤ j in
-      run-leaves b (filtered m t (at horizontal) horizontal c w) (hor k)
+      run-leaves b (filtered m t at horizontal c w) (hor k)
       (λ e n. let q = band-in short s w h pos walked horizontal k l e n .above in window-local b (maskOf c) _ _ _ _ _ (λ a j ha hj. near c w r e (omega arith) a j)) (ups (ver k) p) .at i (λ n. omega arith)
-      ∙ run-leaves b (filtered m t (at vertical) vertical c w) (ver k)
+      ∙ run-leaves b (filtered m t at vertical c w) (ver k)
       (λ e n. let q = band-in short s w h pos walked vertical k l e n .above in window-local b (maskOf c) _ _ _ _ _ (λ a j ha hj. omega (arith, low c w r e (omega arith) a j, less c w r))) p .at i (λ n. omega arith)
 
   more-final : (k n : ℕ) → k + n ≤ across h → (p : List ℕ) (i : ℕ) → i < lastTwo c w (16 * k) → getD (banded (k + n) p) i 0 ≡ getD (banded k p) i 0
@@ -180,10 +180,10 @@ module _ (m : Maps) (t : List ℕ) (at : Pass → ℕ → ℕ) (c : Component) (
       let b : (j : ℕ) → Type 0 = λ j. j < placesOf c w (16 * suc k) in
       let few = band h k l .few in
       let less-rows = mul-le-mul-right {m = unitSide c * (16 * k)} {n = unitSide c * (16 * suc k)} (unitSide c * w) (mul-le-mul-left {m = 16 * k} {n = 16 * suc k} (unitSide c) (omega arith)) in
-      run-leaves b (filtered m t (at horizontal) horizontal c w) (hor k)
+      run-leaves b (filtered m t at horizontal c w) (hor k)
       (λ e n. let q = band-in short s w h pos walked horizontal k l e n in let y = q .below in
       window-local b (maskOf c) _ _ _ _ _ (λ a j ha hj. high c w horizontal (16 * suc k) e (q .inner) (q .column) (omega arith) a j ha hj)) (ups (ver k) (banded k p)) .at i (λ n. omega arith)
-      ∙ run-leaves b (filtered m t (at vertical) vertical c w) (ver k)
+      ∙ run-leaves b (filtered m t at vertical c w) (ver k)
       (λ e n. let q = band-in short s w h pos walked vertical k l e n in let y = q .below in
       window-local b (maskOf c) _ _ _ _ _ (λ a j ha hj. high c w vertical (16 * suc k) e (q .inner) (q .column) (omega arith) a j ha hj)) (banded k p) .at i (λ n. omega arith)
       ∙ bands-below k (omega arith) p i (omega arith)

@@ -199,7 +199,7 @@ module _ (m : Maps) (t : List ℕ) (at : ℕ → ℕ) (d : Pass) (c : Component)
       ∙ run-part l (λ f i. h f (List·Memᴰ·tail i)) (filtered (mapsPart w a b m) t at d c w e xs) (filtered-long (mapsPart w a b m) t at d c w e xs ∙ long)
 
 -- both passes: a part of b rows of units, from row a on, of a plane that is long enough
-pub finished-part : (m : Maps) (t : List ℕ) (at : Pass → ℕ → ℕ) (c : Component) (w a b : ℕ) (ups levels : List Edge)
+pub finished-part : (m : Maps) (t : List ℕ) (at : ℕ → ℕ) (c : Component) (w a b : ℕ) (ups levels : List Edge)
     → ((e : Edge) → List·Memᴰ e ups → Lies vertical w 0 b e) → ((e : Edge) → List·Memᴰ e levels → Lies horizontal w 0 b e)
     → (p : List ℕ) → placesOf c w a + placesOf c w b ≤ length p
     → finished m t at c w (map (edgeDown a) ups) (map (edgeDown a) levels) p ≡ inPart c w a b (finished (mapsPart w a b m) t at c w ups levels) p
@@ -212,10 +212,10 @@ finished-part m t at c w a b ups levels hu hl p long =
     let start : length before ≡ placesOf c w a = length-take-le (placesOf c w a) p (omega arith) in
     let size : length xs ≡ placesOf c w b = length-take-le (placesOf c w b) rest (omega arith) in
     let whole : p ≡ before ++ (xs ++ after) = sym (ap (λ (r : List ℕ). before ++ r) (take-append-drop (placesOf c w b) rest) ∙ take-append-drop (placesOf c w a) p) in
-    let up = run (filtered (mapsPart w a b m) t (at vertical) vertical c w) ups xs in
+    let up = run (filtered (mapsPart w a b m) t at vertical c w) ups xs in
     ap (finished m t at c w (map (edgeDown a) ups) (map (edgeDown a) levels)) whole
-    ∙ ap (run (filtered m t (at horizontal) horizontal c w) (map (edgeDown a) levels)) (run-part m t (at vertical) vertical c w a b before after start ups hu xs size)
-    ∙ run-part m t (at horizontal) horizontal c w a b before after start levels hl up (run-long (mapsPart w a b m) t (at vertical) vertical c w ups xs ∙ size)
+    ∙ ap (run (filtered m t at horizontal c w) (map (edgeDown a) levels)) (run-part m t at vertical c w a b before after start ups hu xs size)
+    ∙ run-part m t at horizontal c w a b before after start levels hl up (run-long (mapsPart w a b m) t at vertical c w ups xs ∙ size)
 
 -- ---- a band's list, further down
 

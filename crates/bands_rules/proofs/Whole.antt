@@ -23,14 +23,14 @@ down-zero (p ∷ l) = λ i. record { x = p .x; y = add-zero (p .y) i; side = p .
 pub list-zero : (d : Pass) (short : Bool) (s : List ℕ) (w n : ℕ) → listFrom d short 0 s w n ≡ edgeList d short s w n
 list-zero d short s w n = ap (edgesOf d short) (down-zero (allLeaves s w n))
 
-pub both-zero : {m : Maps} {t t₁ : List ℕ} {w : ℕ} (short : Bool) (s : List ℕ) (n : ℕ) {p q : Planes} {words : List ℕ} {ver hor : ℕ}
-    → Both m t t₁ w 0 (listFrom vertical short 0 s w n) (listFrom horizontal short 0 s w n) p q words ver hor
-    → Frame.Both m t t₁ w (edgeList vertical short s w n) (edgeList horizontal short s w n) p q words ver hor
-both-zero {m} {t} {t₁} {w} short s n {p} b =
+pub both-zero : {m : Maps} {t : List ℕ} {w : ℕ} (short : Bool) (s : List ℕ) (n : ℕ) {p q : Planes} {words : List ℕ} {ver hor : ℕ}
+    → Both m t w 0 (listFrom vertical short 0 s w n) (listFrom horizontal short 0 s w n) p q words ver hor
+    → Frame.Both m t w (edgeList vertical short s w n) (edgeList horizontal short s w n) p q words ver hor
+both-zero {m} {t} {w} short s n {p} b =
     let u = list-zero vertical short s w n in
     let l = list-zero horizontal short s w n in
     record {
-      planes = b .planes ∙ ap₂ (λ (k j : List Edge). filterAll m t₁ horizontal w j (filterAll m t vertical w k p)) u l;
+      planes = b .planes ∙ ap₂ (λ (k j : List Edge). filterAll m t horizontal w j (filterAll m t vertical w k p)) u l;
       ups-counted = b .ups-counted ∙ ap length u;
       levels-counted = b .levels-counted ∙ ap length l;
       marks = b .marks ∙ ap (λ (k : ℕ). doneFrom k (m .words)) (zero-mul w);

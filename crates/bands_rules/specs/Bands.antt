@@ -50,8 +50,8 @@ abbrev pub doneFrom : ℕ → List ℕ → List ℕ
 doneFrom k l = take k l ++ allDone (drop k l)
 
 -- both passes' lists were filtered, one after the other, and counted, and every unit from row `top` on is done
-pub record Both (m : Maps) (t t₁ : List ℕ) (w top : ℕ) (ups levels : List Edge) (p q : Planes) (words : List ℕ) (ver hor : ℕ) : Type 0 where
-  pub planes : q ≡ filterAll m t₁ horizontal w levels (filterAll m t vertical w ups p)
+pub record Both (m : Maps) (t : List ℕ) (w top : ℕ) (ups levels : List Edge) (p q : Planes) (words : List ℕ) (ver hor : ℕ) : Type 0 where
+  pub planes : q ≡ filterAll m t horizontal w levels (filterAll m t vertical w ups p)
   pub ups-counted : ver ≡ length ups
   pub levels-counted : hor ≡ length levels
   pub marks : words ≡ doneFrom (top * w) (m .words)
@@ -91,7 +91,7 @@ abbrev pub inPart : Component → (w a b : ℕ) → (List ℕ → List ℕ) → 
 inPart c w a b f p = take (placesOf c w a) p ++ (f (take (placesOf c w b) (drop (placesOf c w a) p)) ++ drop (placesOf c w b) (drop (placesOf c w a) p))
 
 -- the plane after band k's call
-unfoldable pub called : Maps → (strengths : List ℕ) → (at : Pass → ℕ → ℕ) → Component → Bool → List ℕ → (w h k : ℕ) → List ℕ → List ℕ
+unfoldable pub called : Maps → (strengths : List ℕ) → (at : ℕ → ℕ) → Component → Bool → List ℕ → (w h k : ℕ) → List ℕ → List ℕ
 called m t at c short s w h k p =
     let n = bandRows h k in
     let a = rowsBefore k in
@@ -99,6 +99,6 @@ called m t at c short s w h k p =
     inPart c w a b (finished (mapsPart w a b m) t at c w (listFrom vertical short (rowsAbove k) (bandBytes s w k) w n) (listFrom horizontal short (rowsAbove k) (bandBytes s w k) w n)) p
 
 -- the plane after the calls of the first n bands
-unfoldable pub calledAll : Maps → (strengths : List ℕ) → (at : Pass → ℕ → ℕ) → Component → Bool → List ℕ → (w h n : ℕ) → List ℕ → List ℕ
+unfoldable pub calledAll : Maps → (strengths : List ℕ) → (at : ℕ → ℕ) → Component → Bool → List ℕ → (w h n : ℕ) → List ℕ → List ℕ
 calledAll m t at c short s w h zero p = p
 calledAll m t at c short s w h (suc n) p = called m t at c short s w h n (calledAll m t at c short s w h n p)

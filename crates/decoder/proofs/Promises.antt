@@ -7,7 +7,7 @@
 use Prim.Native.Nat.{ℕ, _+_, _*_, _/_}
 use mathlib.Core.Logic.{inl, inr}
 use mathlib.Core.Path.{refl, sym, _∙_}
-use mathlib.Core.Bool.{true, false, _||_}
+use mathlib.Core.Bool.{true, false, not, _||_}
 use mathlib.Core.List.{List, [], _∷_, _++_, map}
 use denote.Ref.{now, ptr}
 use lib.Dec.{ltb, leb, eqb}
@@ -25,7 +25,7 @@ use Rattle.def.specs.Picture.{sizeOk, unitCount, rootCount}
 use Rattle.def.specs.Refusals.{numberOf}
 use Rattle.def.specs.Word.{flagAt}
 use Rattle.def.specs.declared.Refusal.{Refusal}
-use Rattle.def.specs.declared.Refusal.the-variants.{Size, Length, Setting, Split, Leaf, Qp, Sample, Block, Mode, Points as BadPoints, Pivot, Sheet, Record}
+use Rattle.def.specs.declared.Refusal.the-variants.{Size, Length, Setting, Split, Leaf, Qp, Sample, Block, Mode, Points as BadPoints, Pivot, Sheet, Record, Old}
 use Rattle.def.specs.declared.Component.the-variants.{Luma}
 use Rattle.def.proofs.Answers.{answer-apart}
 use Rattle.samples.specs.Samples.{samplesOk}
@@ -57,12 +57,11 @@ use Rattle.split.specs.RootCall as root-list
 use Rattle.split.specs.Walk.{onward, inTurn, leafWalk, byByte, walk}
 use Rattle.split.proofs.Apart.{leaves-apart, list-apart}
 use Rattle.df_check.specs.Checks as checks
-use Rattle.df_check.specs.declared.VEdge.the-variants.{Source}
 use Rattle.df.specs.Deblock as deblock
 use Rattle.df.proofs.Apart.{reading-apart as deblocked-apart}
-use Rattle.sheet_lines.specs.Lines.{startOf, lineOf, startsWith, isNumber, numberLine, edgeLine, sameLine, splitsLine, numberAfter, valueFrom, lineOk, firstBad, widthOf, heightOf, limitOf, digitsOf}
+use Rattle.sheet_lines.specs.Lines.{startOf, lineOf, startsWith, isNumber, numberLine, edgeLine, oldEdge, sameLine, splitsLine, numberAfter, valueFrom, lineOk, firstBad, widthOf, heightOf, limitOf, oldOf, digitsOf}
 use Rattle.sheet_lines.specs.ReadCall as sheet
-use Rattle.sheet_lines.specs.Words.{widthKey, heightKey, limitKey, ownEdge, splitsKey}
+use Rattle.sheet_lines.specs.Words.{widthKey, heightKey, limitKey, ownEdge, sourceEdge, splitsKey}
 use Rattle.sheet_lines.proofs.Answers.{reading-apart as sheet-apart}
 use Rattle.sheet.specs.Descent.{descents, descend}
 use Rattle.sheet.specs.Listing as listing
@@ -531,7 +530,7 @@ filtering w splits limit word sample =
       table0 = chroma-table;
       table1 = chroma-table;
       strengths = replicate 208 0;
-      settings = record { limit = limit; «v_edge» = Source; «u_offset» = pos 0; «v_offset» = pos 0 };
+      settings = record { limit = limit; «u_offset» = pos 0; «v_offset» = pos 0 };
     }
 
 -- an input for each rung. 3407872 is a word of QP 52
@@ -596,27 +595,29 @@ listing-refusals =
     }
 
 -- a sheet of a picture w wide and 4 high, its numbers in digits
-abbrev sheet-of : (w limit splits : List ℕ) → List ℕ
-sheet-of w limit splits =
-    widthKey ++ (w ++ (newline ++ (heightKey ++ ((52 ∷ []) ++ (newline ++ (limitKey ++ (limit ++ (newline ++ (ownEdge ++ (newline ++ (splitsKey ++ (splits ++ newline))))))))))))
+abbrev sheet-of : (w limit edge splits : List ℕ) → List ℕ
+sheet-of w limit edge splits =
+    widthKey ++ (w ++ (newline ++ (heightKey ++ ((52 ∷ []) ++ (newline ++ (limitKey ++ (limit ++ (newline ++ (edge ++ (newline ++ (splitsKey ++ (splits ++ newline))))))))))))
 
--- what is printed for a sheet that is refused: for a line; the sides; the limit; digits that ran out, a leaf, or digits left over
-pub sheet-refusals : Refuses foundIn refusalIn (Sheet ∷ Size ∷ Setting ∷ Sheet ∷ Leaf ∷ Sheet ∷ [])
-unfolding foundIn foundOf foundBy sidesOk list.limitOk firstBad lineOk startOf lineOf numberLine startsWith isNumber allBelow edgeLine sameLine splitsLine numberAfter valueFrom descents descend byByte onward leafWalk
+-- what is printed for a sheet that is refused: for a line; the sides; the limit; an old sheet; digits that ran out, a leaf, or digits left over
+pub sheet-refusals : Refuses foundIn refusalIn (Sheet ∷ Size ∷ Setting ∷ Old ∷ Sheet ∷ Leaf ∷ Sheet ∷ [])
+unfolding foundIn foundOf foundBy sidesOk list.limitOk firstBad lineOk startOf lineOf numberLine startsWith isNumber allBelow edgeLine oldEdge sameLine splitsLine numberAfter valueFrom descents descend byByte onward leafWalk
 sheet-refusals =
     record {
       only = λ s.
-          sheet-rung (eqb (firstBad s) 0) Sheet (firstBad s) (foundOf (widthOf s) (heightOf s) (limitOf s) (digitsOf s))
+          sheet-rung (eqb (firstBad s) 0) Sheet (firstBad s) (foundOf (widthOf s) (heightOf s) (limitOf s) (oldOf s) (digitsOf s))
           (sheet-rung (sidesOk (widthOf s) (heightOf s)) Size 0 _
           (sheet-rung (list.limitOk (limitOf s)) Setting 0 _
-          (digits-said (eqb (limitOf s) 5) (widthOf s / 4) (heightOf s / 4) (digitsOf s)))) .by;
+          (sheet-rung (not (oldOf s)) Old 0 _
+          (digits-said (eqb (limitOf s) 5) (widthOf s / 4) (heightOf s / 4) (digitsOf s))))) .by;
       shown =
           []
-          ∷ sheet-of (48 ∷ []) (54 ∷ []) []
-          ∷ sheet-of (52 ∷ []) (55 ∷ []) []
-          ∷ sheet-of (52 ∷ []) (54 ∷ []) []
-          ∷ sheet-of (52 ∷ []) (54 ∷ []) (48 ∷ [])
-          ∷ sheet-of (52 ∷ []) (54 ∷ []) (49 ∷ 49 ∷ 49 ∷ 49 ∷ 48 ∷ [])
+          ∷ sheet-of (48 ∷ []) (54 ∷ []) sourceEdge []
+          ∷ sheet-of (52 ∷ []) (55 ∷ []) sourceEdge []
+          ∷ sheet-of (52 ∷ []) (54 ∷ []) sourceEdge []
+          ∷ sheet-of (52 ∷ []) (54 ∷ []) ownEdge []
+          ∷ sheet-of (52 ∷ []) (54 ∷ []) ownEdge (48 ∷ [])
+          ∷ sheet-of (52 ∷ []) (54 ∷ []) ownEdge (49 ∷ 49 ∷ 49 ∷ 49 ∷ 48 ∷ [])
           ∷ [];
       given = refl;
     }

@@ -44,7 +44,6 @@ pub use def::unit_ok;
 pub use df::Deblocked;
 pub use df::deblock;
 pub use df_check::Settings;
-pub use df_check::VEdge;
 pub use df_check::checked;
 pub use driver::reconstruct;
 pub use driver_check::checked_leaves;

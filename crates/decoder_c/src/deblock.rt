@@ -2,24 +2,15 @@
 ghost use mathlib.Core.Path.{_≡_};
 ghost use Rattle.laws.specs.Call.{Gives};
 ghost use Rattle.df.specs.Deblock as deblocking;
-ghost use Rattle.decoder_c.specs.Flags.{vEdgeOf, settingsOf};
+ghost use Rattle.decoder_c.specs.Flags.{settingsOf};
 use df::Deblocked;
 use df_check::Settings;
-use df_check::VEdge;
 
-// Where V's vertical edges look their QP up, by its flag.
-fn v_edge(own: bool) -> VEdge
-    ensures { λ r. ⌜ r ≡ vEdgeOf own ⌝ }
-{
-    if own { VEdge::Own } else { VEdge::Source }
-}
-
-fn settings_of(limit: u8, own: bool, u_offset: i8, v_offset: i8) -> Settings
-    ensures { λ r. ⌜ r ≡ settingsOf limit own «u_offset» «v_offset» ⌝ }
+fn settings_of(limit: u8, u_offset: i8, v_offset: i8) -> Settings
+    ensures { λ r. ⌜ r ≡ settingsOf limit «u_offset» «v_offset» ⌝ }
 {
     Settings {
         limit,
-        v_edge: v_edge(own),
         u_offset,
         v_offset,
     }
@@ -67,7 +58,6 @@ pub extern "C" fn lomsakeun_deblock(
     table1: &[i8],
     strengths: &[u8],
     limit: u8,
-    own: bool,
     u_offset: i8,
     v_offset: i8,
     vertical_count: &mut usize,
@@ -87,7 +77,7 @@ pub extern "C" fn lomsakeun_deblock(
           table0 = now (table0 .entry);
           table1 = now (table1 .entry);
           strengths = now (strengths .entry);
-          settings = settingsOf limit own «u_offset» «v_offset»;
+          settings = settingsOf limit «u_offset» «v_offset»;
         })
         (record {
           reading = record { number = n; vertical = now («vertical_count» .exit); horizontal = now («horizontal_count» .exit) };
@@ -97,7 +87,7 @@ pub extern "C" fn lomsakeun_deblock(
           words = now (words .exit);
         }) ⌝ }
 {
-    let settings = settings_of(limit, own, u_offset, v_offset);
+    let settings = settings_of(limit, u_offset, v_offset);
     let seen = counts_of(df::deblock(
         w,
         h,

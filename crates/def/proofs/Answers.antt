@@ -2,7 +2,7 @@
 --     number-apart, number-some, answer-apart
 --     on-refusal, on-done
 -- Assumes nothing.
-use Prim.Native.Nat.{ℕ, _<_}
+use Prim.Native.Nat.{ℕ, zero, suc, _<_}
 use mathlib.Core.Path.{_≡_, refl, sym, ap, _∙_}
 use mathlib.Core.List.{List, [], _∷_}
 use native.Mathlib.Omega.{arith}
@@ -10,11 +10,11 @@ use lib.ListN.{getD}
 use Rattle.def.specs.Answers.{answerNumber, afterChecks}
 use Rattle.def.specs.Refusals.{numberOf}
 use Rattle.def.specs.declared.Refusal.{Refusal}
-use Rattle.def.specs.declared.Refusal.the-variants.{Size, Length, Setting, Split, Leaf, Qp, Sample, Block, Mode, Points, Pivot, Sheet, Record, Band}
+use Rattle.def.specs.declared.Refusal.the-variants.{Size, Length, Setting, Split, Leaf, Qp, Sample, Block, Mode, Points, Pivot, Sheet, Record, Band, Old}
 use Rattle.def.specs.declared.Answer.{Answer}
 use Rattle.def.specs.declared.Answer.the-variants.{Done, Refused}
 
--- the answers by their numbers
+-- the answers by their numbers; a number that no refusal has stands with `Done`
 abbrev answers : List Answer
 answers =
     Done
@@ -32,6 +32,12 @@ answers =
     ∷ Refused Sheet
     ∷ Refused Record
     ∷ Refused Band
+    ∷ Done
+    ∷ Done
+    ∷ Done
+    ∷ Done
+    ∷ Done
+    ∷ Refused Old
     ∷ []
 
 abbrev answerOf : ℕ → Answer
@@ -52,6 +58,7 @@ refusal-back Pivot = refl
 refusal-back Sheet = refl
 refusal-back Record = refl
 refusal-back Band = refl
+refusal-back Old = refl
 
 back : (a : Answer) → answerOf (answerNumber a) ≡ a
 back Done = refl
@@ -65,20 +72,10 @@ number-apart a b e = let p : Refused a ≡ Refused b = answer-apart (Refused a) 
 
 -- no refusal has the number 0
 pub number-some : (r : Refusal) → 0 < numberOf r
-number-some Size = omega arith
-number-some Length = omega arith
-number-some Setting = omega arith
-number-some Split = omega arith
-number-some Leaf = omega arith
-number-some Qp = omega arith
-number-some Sample = omega arith
-number-some Block = omega arith
-number-some Mode = omega arith
-number-some Points = omega arith
-number-some Pivot = omega arith
-number-some Sheet = omega arith
-number-some Record = omega arith
-number-some Band = omega arith
+number-some r = positive (numberOf r) (refusal-back r) where
+  positive : (n : ℕ) → answerOf n ≡ Refused r → 0 < n
+  positive zero e = absurd (let z : _≡_ {A = ℕ} 0 1 = cc in omega arith)
+  positive (suc n) e = omega arith
 
 -- ---- a call's outcome. a is what the checks answered, and k what the rule's checks find
 

@@ -2,7 +2,7 @@
 -- Assumes nothing: these are definitions.
 use Prim.Native.Nat.{ℕ}
 use Rattle.def.specs.declared.Refusal.{Refusal}
-use Rattle.def.specs.declared.Refusal.the-variants.{Size, Length, Setting, Split, Leaf, Qp, Sample, Block, Mode, Points, Pivot, Sheet, Record, Band}
+use Rattle.def.specs.declared.Refusal.the-variants.{Size, Length, Setting, Split, Leaf, Qp, Sample, Block, Mode, Points, Pivot, Sheet, Record, Band, Old}
 
 abbrev pub numberOf : Refusal → ℕ
 numberOf Size = 1
@@ -19,3 +19,4 @@ numberOf Pivot = 11
 numberOf Sheet = 12
 numberOf Record = 13
 numberOf Band = 14
+numberOf Old = 20

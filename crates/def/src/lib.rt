@@ -181,6 +181,8 @@ pub enum Refusal {
     Record,
     // 14: a band that is not the position's next, or past the last
     Band,
+    // 20: a sheet of the time when V read table 0 on vertical edges
+    Old,
 }
 
 // The number of a refusal.
@@ -202,6 +204,7 @@ pub fn refusal_number(r: Refusal) -> u8
         Refusal::Sheet => 12,
         Refusal::Record => 13,
         Refusal::Band => 14,
+        Refusal::Old => 20,
     }
 }
 

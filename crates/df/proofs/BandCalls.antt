@@ -21,7 +21,6 @@ use Rattle.laws.proofs.Scans.{scan-at}
 use Rattle.split.specs.Edges.{Pass, vertical, horizontal, Edge}
 use Rattle.strength.specs.Entries.{entriesOf}
 use Rattle.strength.proofs.Strengths.{luma-entry, u-entry, v-entry}
-use Rattle.df_check.specs.Tables.{vTable}
 use Rattle.df_check.specs.Checks.{qpsOk}
 use Rattle.df_rules.specs.Filter.{Planes, inY, inU, inV, filterAll, finished}
 use Rattle.df_rules.specs.Places.{unitQ, unitP}
@@ -71,8 +70,8 @@ module _ (j : band.Input) (fine : band.check j ≡ Done) (pos : 1 ≤ band.wide 
   abbrev t : Told j
   t = told j fine
 
-  abbrev entriesIn : Pass → List ℕ
-  entriesIn d = entriesOf (j .strengths) (j .table0) (j .settings .«u_offset») (vTable (j .settings .«v_edge») d (j .table0) (j .table1)) (j .settings .«v_offset»)
+  abbrev entriesIn : List ℕ
+  entriesIn = entriesOf (j .strengths) (j .table0) (j .settings .«u_offset») (j .table1) (j .settings .«v_offset»)
 
   -- the maps from the first row that is handed to the passes on
   abbrev m : Maps
@@ -99,33 +98,33 @@ module _ (j : band.Input) (fine : band.check j ≡ Done) (pos : 1 ≤ band.wide 
         leb-true _ _ (scan-at (λ (k : ℕ). leb (qpOf (getD (m .words) k 0)) 51) (length (m .words)) (unitQ w e) (subst (λ (z : ℕ). unitQ w e < z) (sym own-words) (flat-within (e .y) (e .x) w (top + n) (l .column) (l .below))) (t .qps))
 
     module _ (d : Pass) (e : Edge) (i : List·Memᴰ e (list d)) where
-      same-y : strength m (entriesIn d) inY d w e ≡ strength m (j .strengths) (band.qpY j d) d w e
+      same-y : strength m entriesIn inY d w e ≡ strength m (j .strengths) (band.qpY j) d w e
       unfolding strengthOf
       same-y = ap (λ (k : ℕ). 4 * k) (luma-entry _ _ _ _ _ (rowAt m (unitQ w e) (unitP d w e)) (qpAt m (unitQ w e)) (row-few m (unitQ w e) (unitP d w e)) (unit-at d e i))
 
-      same-u : strength m (entriesIn d) inU d w e ≡ strength m (j .strengths) (band.qpU j d) d w e
+      same-u : strength m entriesIn inU d w e ≡ strength m (j .strengths) (band.qpU j) d w e
       unfolding strengthOf
       same-u = ap (λ (k : ℕ). 4 * k) (u-entry _ _ _ _ _ (rowAt m (unitQ w e) (unitP d w e)) (qpAt m (unitQ w e)) (row-few m (unitQ w e) (unitP d w e)) (unit-at d e i))
 
-      same-v : strength m (entriesIn d) inV d w e ≡ strength m (j .strengths) (band.qpV j d) d w e
+      same-v : strength m entriesIn inV d w e ≡ strength m (j .strengths) (band.qpV j) d w e
       unfolding strengthOf
       same-v = ap (λ (k : ℕ). 4 * k) (v-entry _ _ _ _ _ (rowAt m (unitQ w e) (unitP d w e)) (qpAt m (unitQ w e)) (row-few m (unitQ w e) (unitP d w e)) (unit-at d e i))
 
     -- the parts that were handed to the passes, in the words of the rule
-    parts-done : (p q : Planes) (words : List ℕ) (ver hor : ℕ) → Both m (entriesIn vertical) (entriesIn horizontal) w top (list vertical) (list horizontal) p q words ver hor
+    parts-done : (p q : Planes) (words : List ℕ) (ver hor : ℕ) → Both m entriesIn w top (list vertical) (list horizontal) p q words ver hor
         → q ≡ record {
           y = finished m (j .strengths) (band.qpY j) Luma w (list vertical) (list horizontal) (p .y);
           u = finished m (j .strengths) (band.qpU j) Chroma w (list vertical) (list horizontal) (p .u);
           v = finished m (j .strengths) (band.qpV j) Chroma w (list vertical) (list horizontal) (p .v);
         }
-    parts-done p q words ver hor b = b .planes ∙ planes-finished (λ d. m) entriesIn w list m (j .strengths) (band.qpY j) (band.qpU j) (band.qpV j) same-y same-u same-v p
+    parts-done p q words ver hor b = b .planes ∙ planes-finished m entriesIn w list (j .strengths) (band.qpY j) (band.qpU j) (band.qpV j) same-y same-u same-v p
 
   -- ---- and what is lent, whole
 
   end-of : {A : Type 0} (a b : ℕ) (l : List A) → length l ≡ a + b → take b (drop a l) ≡ drop a l
   end-of a b l e = take-all b (drop a l) (omega (arith, length-drop a l))
 
-  part-whole : (c : Component) (at : Pass → ℕ → ℕ) (p : List ℕ) → length p ≡ placesOf c w skip + placesOf c w (top + n)
+  part-whole : (c : Component) (at : ℕ → ℕ) (p : List ℕ) → length p ≡ placesOf c w skip + placesOf c w (top + n)
       → mapsPart w skip (top + n) (band.mapsOf j) ≡ m
       → take (placesOf c w skip) p ++ finished m (j .strengths) at c w (list vertical) (list horizontal) (drop (placesOf c w skip) p) ≡ band.deblocked j c at p
   part-whole c at p long e =
@@ -159,7 +158,7 @@ module _ (j : band.Input) (fine : band.check j ≡ Done) (pos : 1 ≤ band.wide 
       → length (j .words) ≡ (rowsAbove (j .band) + n) * w → length (j .motion) ≡ 4 * ((rowsAbove (j .band) + n) * w) → length (j .refs) ≡ 2 * ((rowsAbove (j .band) + n) * w)
       → take (placesOf Luma w skip) y ≡ take (placesOf Luma w skip) (j .y) → take (placesOf Chroma w skip) u ≡ take (placesOf Chroma w skip) (j .u) → take (placesOf Chroma w skip) v ≡ take (placesOf Chroma w skip) (j .v)
       → take (skip * w) words ≡ take (skip * w) (j .words)
-      → Both m (entriesIn vertical) (entriesIn horizontal) w top (list vertical) (list horizontal)
+      → Both m entriesIn w top (list vertical) (list horizontal)
       (record { y = drop (placesOf Luma w skip) (j .y); u = drop (placesOf Chroma w skip) (j .u); v = drop (placesOf Chroma w skip) (j .v) })
       (record { y = drop (placesOf Luma w skip) y; u = drop (placesOf Chroma w skip) u; v = drop (placesOf Chroma w skip) v }) (drop (skip * w) words) ver hor
       → (record { reading = record { number = 0; vertical = ver; horizontal = hor; next = j .next + 1 }; y = y; u = u; v = v; words = words }) ≡ band.outcome j

@@ -1,4 +1,4 @@
--- The call: what its checks tell of the picture, the strengths of both passes in the words of the rule, and its outcome.
+-- The call: what its checks tell of the picture, the strengths in the words of the rule, and its outcome.
 -- Assumes nothing.
 use Prim.Native.Nat.{ℕ, _*_, _/_, _≤_}
 use mathlib.Core.Path.{_≡_, sym, ap, _∙_}
@@ -14,7 +14,6 @@ use Rattle.def.proofs.Sizes.{Sized, sized}
 use Rattle.split.specs.Edges.{Pass, vertical, horizontal, Edge}
 use Rattle.strength.specs.Entries.{entriesOf}
 use Rattle.strength.proofs.Strengths.{luma-entry, u-entry, v-entry}
-use Rattle.df_check.specs.Tables.{vTable}
 use Rattle.df_check.proofs.Passed.{Passed, passed, any-qp}
 use Rattle.df_rules.specs.Filter.{Planes, inY, inU, inV, filterAll}
 use Rattle.df_rules.specs.Frame.{Frame, Both}
@@ -26,9 +25,9 @@ use Rattle.df_rules.proofs.Strengths.{row-few}
 use Rattle.df.specs.Deblock.{Input, readingOf, checked, check, passEdges, qpY, qpU, qpV, mapsOf, outcome}
 use Rattle.df.specs.declared.Deblocked.the-variants.{Done, Refused}
 
--- the entries of a pass
-abbrev pub entriesIn : Input → Pass → List ℕ
-entriesIn i d = entriesOf (i .strengths) (i .table0) (i .settings .«u_offset») (vTable (i .settings .«v_edge») d (i .table0) (i .table1)) (i .settings .«v_offset»)
+-- the strength entries
+abbrev pub entriesIn : Input → List ℕ
+entriesIn i = entriesOf (i .strengths) (i .table0) (i .settings .«u_offset») (i .table1) (i .settings .«v_offset»)
 
 module _ (i : Input) (fine : check i ≡ Fine) where
   abbrev told : Passed (checked i)
@@ -43,7 +42,7 @@ module _ (i : Input) (fine : check i ≡ Fine) where
   units : unitCount (i .w) (i .h) ≡ i .h / 4 * (i .w / 4)
   units = mul-comm (i .w / 4) (i .h / 4)
 
-  -- ---- the picture, by the entries of any pass
+  -- ---- the picture, by any entries
 
   pub framed : (t : List ℕ) → length t ≡ 624 → Frame (i .w / 4) (i .h / 4) (i .y) (i .u) (i .v) (i .words) (i .motion) (i .refs) t
   framed t e =
@@ -69,7 +68,7 @@ module _ (i : Input) (fine : check i ≡ Fine) where
         all-v = told .v;
       }
 
-  -- ---- the strengths of an edge that a pass lists, by the pass's entries and by the rule
+  -- ---- the strengths of an edge that a pass lists, by the entries and by the rule
 
   module _ (d : Pass) (e : Edge) (m : List·Memᴰ e (passEdges d i)) where
     abbrev q : ℕ
@@ -81,29 +80,29 @@ module _ (i : Input) (fine : check i ≡ Fine) where
     few : qpAt (mapsOf i) q ≤ 51
     few = any-qp told q
 
-    same-y : strength (mapsOf i) (entriesIn i d) inY d (i .w / 4) e ≡ strength (mapsOf i) (i .strengths) (qpY i d) d (i .w / 4) e
+    same-y : strength (mapsOf i) (entriesIn i) inY d (i .w / 4) e ≡ strength (mapsOf i) (i .strengths) (qpY i) d (i .w / 4) e
     unfolding strengthOf
     same-y = ap (λ (n : ℕ). 4 * n) (luma-entry _ _ _ _ _ (rowAt (mapsOf i) q p) (qpAt (mapsOf i) q) (row-few (mapsOf i) q p) few)
 
-    same-u : strength (mapsOf i) (entriesIn i d) inU d (i .w / 4) e ≡ strength (mapsOf i) (i .strengths) (qpU i d) d (i .w / 4) e
+    same-u : strength (mapsOf i) (entriesIn i) inU d (i .w / 4) e ≡ strength (mapsOf i) (i .strengths) (qpU i) d (i .w / 4) e
     unfolding strengthOf
     same-u = ap (λ (n : ℕ). 4 * n) (u-entry _ _ _ _ _ (rowAt (mapsOf i) q p) (qpAt (mapsOf i) q) (row-few (mapsOf i) q p) few)
 
-    same-v : strength (mapsOf i) (entriesIn i d) inV d (i .w / 4) e ≡ strength (mapsOf i) (i .strengths) (qpV i d) d (i .w / 4) e
+    same-v : strength (mapsOf i) (entriesIn i) inV d (i .w / 4) e ≡ strength (mapsOf i) (i .strengths) (qpV i) d (i .w / 4) e
     unfolding strengthOf
     same-v = ap (λ (n : ℕ). 4 * n) (v-entry _ _ _ _ _ (rowAt (mapsOf i) q p) (qpAt (mapsOf i) q) (row-few (mapsOf i) q p) few)
 
   -- ---- the outcome
 
-  pub deblock-done : (ver hor : List ℕ) (y u v words : List ℕ) (m n : ℕ) → ver ≡ entriesIn i vertical → hor ≡ entriesIn i horizontal
-      → Both (mapsOf i) ver hor (i .w / 4) (passEdges vertical i) (passEdges horizontal i) (record { y = i .y; u = i .u; v = i .v }) (record { y = y; u = u; v = v }) words m n
+  pub deblock-done : (t : List ℕ) (y u v words : List ℕ) (m n : ℕ) → t ≡ entriesIn i
+      → Both (mapsOf i) t (i .w / 4) (passEdges vertical i) (passEdges horizontal i) (record { y = i .y; u = i .u; v = i .v }) (record { y = y; u = u; v = v }) words m n
       → (record { reading = readingOf (Done m n); y = y; u = u; v = v; words = words }) ≡ outcome i
   unfolding outcome
-  deblock-done ver hor y u v words m n ev eh b =
+  deblock-done t y u v words m n e b =
       let start : Planes = record { y = i .y; u = i .u; v = i .v } in
       let planes = b .planes
-      ∙ (λ k. filterAll (mapsOf i) (eh k) horizontal (i .w / 4) (passEdges horizontal i) (filterAll (mapsOf i) (ev k) vertical (i .w / 4) (passEdges vertical i) start))
-      ∙ planes-finished (λ d. mapsOf i) (entriesIn i) (i .w / 4) (λ d. passEdges d i) (mapsOf i) (i .strengths) (qpY i) (qpU i) (qpV i) same-y same-u same-v start in
+      ∙ (λ k. filterAll (mapsOf i) (e k) horizontal (i .w / 4) (passEdges horizontal i) (filterAll (mapsOf i) (e k) vertical (i .w / 4) (passEdges vertical i) start))
+      ∙ planes-finished (mapsOf i) (entriesIn i) (i .w / 4) (λ d. passEdges d i) (i .strengths) (qpY i) (qpU i) (qpV i) same-y same-u same-v start in
       rw fine
       (λ k. record {
         reading = readingOf (Done (b .ups-counted k) (b .levels-counted k));

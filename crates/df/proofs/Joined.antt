@@ -297,7 +297,7 @@ module _ (i : Input) (sides : sizeOk (i .w) (i .h) ≡ true) (acc : Accepted i) 
 
     -- ---- the planes
 
-    plane-step : (k : ℕ) → k < bands i → (t : List ℕ) (at : Pass → ℕ → ℕ) (c : Component) (p : List ℕ)
+    plane-step : (k : ℕ) → k < bands i → (t : List ℕ) (at : ℕ → ℕ) (c : Component) (p : List ℕ)
         → let j = inputOf i k (stateAfter i k) in
         planeBack i k c (finished (band.mapsOf j) t at c W (band.passEdges vertical j) (band.passEdges horizontal j) (planePart i k c p)) p ≡ called (mapsOf i) t at c limit5 (i .splits) W rowsAll k p
     unfolding called
@@ -332,7 +332,7 @@ module _ (i : Input) (sides : sizeOk (i .w) (i .h) ≡ true) (acc : Accepted i) 
 
     -- ---- the picture is accepted
 
-    plane-small : (c : Component) (p : List ℕ) → length p ≡ placesOf c W rowsAll → (at : Pass → ℕ → ℕ)
+    plane-small : (c : Component) (p : List ℕ) → length p ≡ placesOf c W rowsAll → (at : ℕ → ℕ)
         → ((k : ℕ) → k < bands i → samplesOk (drop (placesOf c W (rowsAbove k - 1)) (planePart i k c (calledAll (mapsOf i) (i .strengths) at c limit5 (i .splits) W rowsAll k p))) ≡ true)
         → samplesOk p ≡ true
     plane-small c p lp at h = samples-pass p (λ j z.
@@ -436,11 +436,11 @@ module _ (i : Input) (sides : sizeOk (i .w) (i .h) ≡ true) (lengths : checks.l
   unfolding outcome
   whole = ap (afterChecks (refused i) (done i)) accepted
 
-  abbrev fill : (c : Component) (at : Pass → ℕ → ℕ) (p : List ℕ) → length p ≡ placesOf c (i .w / 4) (i .h / 4)
+  abbrev fill : (c : Component) (at : ℕ → ℕ) (p : List ℕ) → length p ≡ placesOf c (i .w / 4) (i .h / 4)
       → calledAll (mapsOf i) (i .strengths) at c (eqb (i .settings .limit) 5) (i .splits) (i .w / 4) (i .h / 4) (bands i) p ≡ deblocked i c at p
   fill c at p l = calls-finished (mapsOf i) (i .strengths) at c (eqb (i .settings .limit) 5) (i .splits) (i .w / 4) (i .h / 4) (pos i sides acc) (walked i sides acc) p l
 
-  abbrev keeps : (c : Component) (at : Pass → ℕ → ℕ) (p : List ℕ) → length p ≡ placesOf c (i .w / 4) (i .h / 4) → (k : ℕ) → k ≤ bands i → (j : ℕ) → j < final i k c
+  abbrev keeps : (c : Component) (at : ℕ → ℕ) (p : List ℕ) → length p ≡ placesOf c (i .w / 4) (i .h / 4) → (k : ℕ) → k ≤ bands i → (j : ℕ) → j < final i k c
       → getD (calledAll (mapsOf i) (i .strengths) at c (eqb (i .settings .limit) 5) (i .splits) (i .w / 4) (i .h / 4) k p) j 0 ≡ getD (deblocked i c at p) j 0
   keeps c at p l k m j h =
       calls-final (mapsOf i) (i .strengths) at c (eqb (i .settings .limit) 5) (i .splits) (i .w / 4) (i .h / 4) (pos i sides acc) (walked i sides acc) k m p l j h ∙ ap (λ (q : List ℕ). getD q j 0) (fill c at p l)

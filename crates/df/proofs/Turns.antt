@@ -86,12 +86,12 @@ u-plane f = record { wide = f .wide; high = f .high; long = f .long-u; all = f .
 pub v-plane : {w h : ℕ} {y u v words : List ℕ} {motion refs : List ℤ} {t : List ℕ} → Frame w h y u v words motion refs t → PlaneOf 2 w h v
 v-plane f = record { wide = f .wide; high = f .high; long = f .long-v; all = f .all-v }
 
--- ---- the two passes. t, t₁: the entries of the vertical pass, and of the horizontal
+-- ---- the two passes
 
-pub both-done : {m : Maps} {t t₁ : List ℕ} {w top : ℕ} {ups levels : List Edge} {p q r : Planes} {a b : ℕ} {words : List ℕ}
-    → PassDone m t vertical w ups p q a → PassDone m t₁ horizontal w levels q r b → words ≡ doneFrom (top * w) (m .words) → Both m t t₁ w top ups levels p r words a b
-both-done {m} {t₁ = t₁} {w = w} {levels = levels} g k e = record {
-  planes = k .planes ∙ ap (filterAll m t₁ horizontal w levels) (g .planes);
+pub both-done : {m : Maps} {t : List ℕ} {w top : ℕ} {ups levels : List Edge} {p q r : Planes} {a b : ℕ} {words : List ℕ}
+    → PassDone m t vertical w ups p q a → PassDone m t horizontal w levels q r b → words ≡ doneFrom (top * w) (m .words) → Both m t w top ups levels p r words a b
+both-done {m} {t = t} {w = w} {levels = levels} g k e = record {
+  planes = k .planes ∙ ap (filterAll m t horizontal w levels) (g .planes);
   ups-counted = g .counted;
   levels-counted = k .counted;
   marks = e;

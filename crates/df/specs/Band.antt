@@ -22,7 +22,6 @@ use Rattle.split.specs.Edges.{Pass, vertical, horizontal, Edge}
 use Rattle.split.specs.Picture.{across, pictureWalk}
 use Rattle.strength.specs.ChromaQp.{mapped}
 use Rattle.df_check.specs.Checks.{settingsOk, qpsOk, planesOk}
-use Rattle.df_check.specs.Tables.{vTable}
 use Rattle.df_check.specs.declared.Settings.{Settings}
 use Rattle.df_rules.specs.Filter.{finished}
 use Rattle.df_rules.specs.Strength.{Maps}
@@ -118,19 +117,19 @@ check i =
 abbrev pub passEdges : Pass → Input → List Edge
 passEdges d i = listFrom d (eqb (i .settings .limit) 5) (top i) (i .splits) (wide i) (rows i)
 
-abbrev pub qpY : Input → Pass → ℕ → ℕ
-qpY i d qp = qp
+abbrev pub qpY : Input → ℕ → ℕ
+qpY i qp = qp
 
-abbrev pub qpU : Input → Pass → ℕ → ℕ
-qpU i d qp = mapped (i .table0) (i .settings .«u_offset») qp
+abbrev pub qpU : Input → ℕ → ℕ
+qpU i qp = mapped (i .table0) (i .settings .«u_offset») qp
 
-abbrev pub qpV : Input → Pass → ℕ → ℕ
-qpV i d qp = mapped (vTable (i .settings .«v_edge») d (i .table0) (i .table1)) (i .settings .«v_offset») qp
+abbrev pub qpV : Input → ℕ → ℕ
+qpV i qp = mapped (i .table1) (i .settings .«v_offset») qp
 
 abbrev pub mapsOf : Input → Maps
 mapsOf i = record { words = i .words; motion = i .motion; refs = i .refs }
 
-abbrev pub deblocked : Input → Component → (Pass → ℕ → ℕ) → List ℕ → List ℕ
+abbrev pub deblocked : Input → Component → (ℕ → ℕ) → List ℕ → List ℕ
 deblocked i c at p = finished (mapsOf i) (i .strengths) at c (wide i) (passEdges vertical i) (passEdges horizontal i) p
 
 abbrev pub refused : Input → Refusal → Outcome

@@ -15,7 +15,6 @@ use Rattle.def.specs.declared.Refusal.{Refusal}
 use Rattle.split.specs.Edges.{Pass, vertical, horizontal, Edge, edgeList}
 use Rattle.strength.specs.ChromaQp.{mapped}
 use Rattle.df_check.specs.Checks as checks
-use Rattle.df_check.specs.Tables.{vTable}
 use Rattle.df_check.specs.declared.Settings.{Settings}
 use Rattle.df_rules.specs.Filter.{finished}
 use Rattle.df_rules.specs.Strength.{Maps}
@@ -81,21 +80,21 @@ check i = checks.checkOf (checked i)
 abbrev pub passEdges : Pass → Input → List Edge
 passEdges d i = edgeList d (eqb (i .settings .limit) 5) (i .splits) (i .w / 4) (i .h / 4)
 
--- where a plane's strength is looked up in its row, by the pass and Q's QP
-abbrev pub qpY : Input → Pass → ℕ → ℕ
-qpY i d qp = qp
+-- where a plane's strength is looked up in its row, by Q's QP
+abbrev pub qpY : Input → ℕ → ℕ
+qpY i qp = qp
 
-abbrev pub qpU : Input → Pass → ℕ → ℕ
-qpU i d qp = mapped (i .table0) (i .settings .«u_offset») qp
+abbrev pub qpU : Input → ℕ → ℕ
+qpU i qp = mapped (i .table0) (i .settings .«u_offset») qp
 
-abbrev pub qpV : Input → Pass → ℕ → ℕ
-qpV i d qp = mapped (vTable (i .settings .«v_edge») d (i .table0) (i .table1)) (i .settings .«v_offset») qp
+abbrev pub qpV : Input → ℕ → ℕ
+qpV i qp = mapped (i .table1) (i .settings .«v_offset») qp
 
 abbrev pub mapsOf : Input → Maps
 mapsOf i = record { words = i .words; motion = i .motion; refs = i .refs }
 
 -- a plane after both passes
-abbrev pub deblocked : Input → Component → (Pass → ℕ → ℕ) → List ℕ → List ℕ
+abbrev pub deblocked : Input → Component → (ℕ → ℕ) → List ℕ → List ℕ
 deblocked i c at p = finished (mapsOf i) (i .strengths) at c (i .w / 4) (passEdges vertical i) (passEdges horizontal i) p
 
 abbrev pub refused : Input → Refusal → Outcome

@@ -15,7 +15,7 @@ use Rattle.df_rules.specs.Filter.{finished}
 use Rattle.df.specs.Deblock.{Input, passEdges, qpY, qpU, qpV, mapsOf, outcome}
 
 -- a plane after filtering the same edges row by row, left to right, all vertical edges first
-abbrev pub byRows : Input → Component → (Pass → ℕ → ℕ) → List ℕ → List ℕ
+abbrev pub byRows : Input → Component → (ℕ → ℕ) → List ℕ → List ℕ
 byRows i c at p =
     let short = eqb (i .settings .limit) 5 in
     let w = i .w / 4 in

@@ -23,17 +23,16 @@ pub(crate) fn band_passes(
     splits: &[u8],
     motion: &[i16],
     refs: &[i8],
-    ver: &[u8],
-    hor: &[u8],
+    entries: &[u8],
 ) -> Counts
-    requires { ⌜ Frame (w / 4) (top + h / 4) (drop (16 * (skip * (w / 4))) (now y)) (drop (4 * (skip * (w / 4))) (now u)) (drop (4 * (skip * (w / 4))) (now v)) (drop (skip * (w / 4)) (now words)) (drop (4 * (skip * (w / 4))) (now motion)) (drop (2 * (skip * (w / 4))) (now refs)) (now ver)
-        × (length (now hor) ≡ 624) × Accepted w h (now splits) ⌝ }
+    requires { ⌜ Frame (w / 4) (top + h / 4) (drop (16 * (skip * (w / 4))) (now y)) (drop (4 * (skip * (w / 4))) (now u)) (drop (4 * (skip * (w / 4))) (now v)) (drop (skip * (w / 4)) (now words)) (drop (4 * (skip * (w / 4))) (now motion)) (drop (2 * (skip * (w / 4))) (now refs)) (now entries)
+        × Accepted w h (now splits) ⌝ }
     requires { ⌜ (16 * (skip * (w / 4)) ≤ length (now y)) × (4 * (skip * (w / 4)) ≤ length (now u)) × (4 * (skip * (w / 4)) ≤ length (now v)) × (skip * (w / 4) ≤ length (now words)) × (4 * (skip * (w / 4)) ≤ length (now motion)) × (2 * (skip * (w / 4)) ≤ length (now refs)) × (skip * (w / 4) ≤ 16384) ⌝ }
     ensures { λ r. ⌜ (take (16 * (skip * (w / 4))) (now (y .exit)) ≡ take (16 * (skip * (w / 4))) (now (y .entry)))
         × (take (4 * (skip * (w / 4))) (now (u .exit)) ≡ take (4 * (skip * (w / 4))) (now (u .entry)))
         × (take (4 * (skip * (w / 4))) (now (v .exit)) ≡ take (4 * (skip * (w / 4))) (now (v .entry)))
         × (take (skip * (w / 4)) (now (words .exit)) ≡ take (skip * (w / 4)) (now (words .entry)))
-        × Both (record { words = drop (skip * (w / 4)) (now (words .entry)); motion = drop (4 * (skip * (w / 4))) (now (motion .entry)); refs = drop (2 * (skip * (w / 4))) (now (refs .entry)) }) (now (ver .entry)) (now (hor .entry))
+        × Both (record { words = drop (skip * (w / 4)) (now (words .entry)); motion = drop (4 * (skip * (w / 4))) (now (motion .entry)); refs = drop (2 * (skip * (w / 4))) (now (refs .entry)) }) (now (entries .entry))
         (w / 4) top (listFrom vertical short top (now (splits .entry)) (w / 4) (h / 4)) (listFrom horizontal short top (now (splits .entry)) (w / 4) (h / 4))
         (record { y = drop (16 * (skip * (w / 4))) (now (y .entry)); u = drop (4 * (skip * (w / 4))) (now (u .entry)); v = drop (4 * (skip * (w / 4))) (now (v .entry)) })
         (record { y = drop (16 * (skip * (w / 4))) (now (y .exit)); u = drop (4 * (skip * (w / 4))) (now (u .exit)); v = drop (4 * (skip * (w / 4))) (now (v .exit)) })
@@ -55,7 +54,6 @@ pub(crate) fn band_passes(
         splits,
         &motion[chroma..],
         &refs[refs_from..],
-        ver,
-        hor,
+        entries,
     )
 }

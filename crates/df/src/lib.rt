@@ -6,20 +6,16 @@ ghost use lib.ListN.{length};
 ghost use Rattle.laws.specs.Call.{Gives};
 ghost use Rattle.split.specs.Edges.{vertical, horizontal};
 ghost use Rattle.bands_rules.specs.Bands.{listFrom, Both};
-ghost use Rattle.strength.specs.Entries.{entriesOf};
-ghost use Rattle.df_check.specs.Tables.{vTable};
 ghost use Rattle.df_rules.specs.Frame.{Frame};
 ghost use Rattle.df_rules.specs.Leaves.{Accepted};
 ghost use Rattle.df_rules.specs.Visit.{allDone};
 ghost use Rattle.df.specs.Deblock as Deblock;
-ghost use Rattle.df.specs.Edges.{passOf};
 use crate::pass::deblock_pass;
 use crate::place::Pass;
 use def::Answer;
 use def::Refusal;
 use def::set_cod;
 use df_check::Settings;
-use df_check::VEdge;
 use df_check::checked;
 use strength::entries;
 
@@ -34,26 +30,6 @@ mod band; // band.rt: both passes over a band, on what its call is lent
 pub enum Deblocked {
     Done { vertical: usize, horizontal: usize },
     Refused(Refusal),
-}
-
-// The strength entries of a pass: V looks into table 1, but on vertical edges, with `source`, into table 0.
-fn pass_entries(
-    pass: Pass,
-    strengths: &[u8],
-    table0: &[i8],
-    table1: &[i8],
-    s: Settings,
-) -> [u8; 624]
-    ensures { λ r. ⌜ r ≡ entriesOf (now (strengths .entry)) (now (table0 .entry)) (s .«u_offset») (vTable (s .«v_edge») (passOf pass) (now (table0 .entry)) (now (table1 .entry))) (s .«v_offset») ⌝ }
-{
-    let v_edge = s.v_edge;
-    match pass {
-        Pass::Horizontal => entries(strengths, table0, s.u_offset, table1, s.v_offset),
-        Pass::Vertical => match v_edge {
-            VEdge::Source => entries(strengths, table0, s.u_offset, table0, s.v_offset),
-            VEdge::Own => entries(strengths, table0, s.u_offset, table1, s.v_offset),
-        },
-    }
 }
 
 // Sets done in every unit.
@@ -72,7 +48,7 @@ pub(crate) struct Counts {
     pub(crate) horizontal: usize,
 }
 
-// Both passes over h rows of samples, below `top` rows of units, by the entries of each: the vertical pass covers all of them first. Then every unit of
+// Both passes over h rows of samples, below `top` rows of units: the vertical pass covers all of them first. Then every unit of
 // theirs is done.
 pub(crate) fn both_passes(
     short: bool,
@@ -86,11 +62,10 @@ pub(crate) fn both_passes(
     splits: &[u8],
     motion: &[i16],
     refs: &[i8],
-    ver: &[u8],
-    hor: &[u8],
+    entries: &[u8],
 ) -> Counts
-    requires { ⌜ Frame (w / 4) (top + h / 4) (now y) (now u) (now v) (now words) (now motion) (now refs) (now ver) × (length (now hor) ≡ 624) × Accepted w h (now splits) ⌝ }
-    ensures { λ r. ⌜ Both (record { words = now (words .entry); motion = now (motion .entry); refs = now (refs .entry) }) (now (ver .entry)) (now (hor .entry))
+    requires { ⌜ Frame (w / 4) (top + h / 4) (now y) (now u) (now v) (now words) (now motion) (now refs) (now entries) × Accepted w h (now splits) ⌝ }
+    ensures { λ r. ⌜ Both (record { words = now (words .entry); motion = now (motion .entry); refs = now (refs .entry) }) (now (entries .entry))
         (w / 4) top (listFrom vertical short top (now (splits .entry)) (w / 4) (h / 4)) (listFrom horizontal short top (now (splits .entry)) (w / 4) (h / 4))
         (record { y = now (y .entry); u = now (u .entry); v = now (v .entry) }) (record { y = now (y .exit); u = now (u .exit); v = now (v .exit) })
         (now (words .exit)) (r .vertical) (r .horizontal) ⌝ }
@@ -108,7 +83,7 @@ pub(crate) fn both_passes(
         splits,
         motion,
         refs,
-        ver,
+        entries,
     );
     let n = deblock_pass(
         Pass::Horizontal,
@@ -123,7 +98,7 @@ pub(crate) fn both_passes(
         splits,
         motion,
         refs,
-        hor,
+        entries,
     );
     let from = top * (w / 4);
     all_done(&mut words[from..]);
@@ -185,8 +160,13 @@ pub fn deblock(
     if let Answer::Refused(r) = found {
         return Deblocked::Refused(r);
     }
-    let ver = pass_entries(Pass::Vertical, strengths, table0, table1, settings);
-    let hor = pass_entries(Pass::Horizontal, strengths, table0, table1, settings);
+    let table = entries(
+        strengths,
+        table0,
+        settings.u_offset,
+        table1,
+        settings.v_offset,
+    );
     let n = both_passes(
         settings.limit == 5,
         w,
@@ -199,8 +179,7 @@ pub fn deblock(
         splits,
         motion,
         refs,
-        &ver,
-        &hor,
+        &table,
     );
     Deblocked::Done {
         vertical: n.vertical,

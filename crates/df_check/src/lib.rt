@@ -4,16 +4,9 @@ mod check;
 
 pub use check::checked;
 
-// Which table V's QP is mapped by on vertical edges: `source` reads table 0 there, as the Rust does, and `own` V's own, table 1.
-pub enum VEdge {
-    Source,
-    Own,
-}
-
 // The transform limit, 5 or 6, and the offsets of U's QP and of V's, -12..12.
 pub struct Settings {
     pub limit: u8,
-    pub v_edge: VEdge,
     pub u_offset: i8,
     pub v_offset: i8,
 }

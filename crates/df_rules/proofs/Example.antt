@@ -62,8 +62,8 @@ maps = record { words = replicate 8 0; motion = replicate 32 (pos 0); refs = rep
 strengths : List ℕ
 strengths = replicate 208 3
 
-plain : Pass → ℕ → ℕ
-plain d qp = qp
+plain : ℕ → ℕ
+plain qp = qp
 
 upper : List ℕ
 upper = 100 ∷ 100 ∷ 120 ∷ 120 ∷ 140 ∷ 140 ∷ 160 ∷ 160 ∷ []
@@ -75,9 +75,9 @@ plane : List ℕ
 plane = upper ++ (upper ++ (lower ++ lower))
 
 -- of the row's two edges, the left one first and the right one first
-in-one-row : (run (filtered maps strengths (plain vertical) vertical Chroma 4) (edge 1 0 ∷ edge 2 0 ∷ []) (upper ++ upper)
+in-one-row : (run (filtered maps strengths plain vertical Chroma 4) (edge 1 0 ∷ edge 2 0 ∷ []) (upper ++ upper)
     ≡ 100 ∷ 107 ∷ 113 ∷ 126 ∷ 134 ∷ 140 ∷ 160 ∷ 160 ∷ 100 ∷ 107 ∷ 113 ∷ 126 ∷ 134 ∷ 140 ∷ 160 ∷ 160 ∷ [])
-    × (run (filtered maps strengths (plain vertical) vertical Chroma 4) (edge 2 0 ∷ edge 1 0 ∷ []) (upper ++ upper)
+    × (run (filtered maps strengths plain vertical Chroma 4) (edge 2 0 ∷ edge 1 0 ∷ []) (upper ++ upper)
     ≡ 100 ∷ 106 ∷ 114 ∷ 127 ∷ 133 ∷ 140 ∷ 160 ∷ 160 ∷ 100 ∷ 106 ∷ 114 ∷ 127 ∷ 133 ∷ 140 ∷ 160 ∷ 160 ∷ [])
 unfolding maps strengths plain upper run windowAt linesAt lineAt strengthOf rowAt strengthRow motionRow sameRefs anyFar far countedAs eqZ flagAt fieldOf lineOf lineZ movedBy sampleZ heldTo farOf limitOf stepOf withSign absZ clipZ minZ maxZ
 in-one-row = (refl, refl)

@@ -47,12 +47,12 @@ module _ (short : Bool) (s : List ℕ) (w h : ℕ) (pos : 1 ≤ w) (accepted : p
   only-rows d l r = same-list (λ e f. unitQ w e < unitQ w f) (λ e z. omega arith) (λ e f y z. omega arith) l (rowList d short s w h) (r .order) (rows d .order)
       (λ e i. row-edges d e .1 (r .members e .0 i)) (λ e i. r .members e .1 (row-edges d e .0 i))
 
-  planes : (m : Maps) (t : List ℕ) (at : Pass → ℕ → ℕ) (c : Component) (p : List ℕ)
+  planes : (m : Maps) (t : List ℕ) (at : ℕ → ℕ) (c : Component) (p : List ℕ)
       → finished m t at c w (edgeList vertical short s w h) (edgeList horizontal short s w h) p
       ≡ finished m t at c w (rowList vertical short s w h) (rowList horizontal short s w h) p
   planes m t at c p =
-      filtered-rows short s w h pos accepted horizontal m t (at horizontal) c _
-      ∙ ap (run (filtered m t (at horizontal) horizontal c w) (rowList horizontal short s w h)) (filtered-rows short s w h pos accepted vertical m t (at vertical) c p)
+      filtered-rows short s w h pos accepted horizontal m t at c _
+      ∙ ap (run (filtered m t at horizontal c w) (rowList horizontal short s w h)) (filtered-rows short s w h pos accepted vertical m t at c p)
 
   pub demand-3 : Demand3 short s w h
   demand-3 = record { lists = lists-3 short s w h pos accepted; rows = rows; only-rows = only-rows; planes = planes }

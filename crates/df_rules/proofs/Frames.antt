@@ -36,22 +36,3 @@ frame-filtered {w} {h} {motion} {refs} {entries} {words} m t d w₁ l {p} e f =
       all-u = s .u;
       all-v = s .v;
     })
-
--- by other entries
-pub frame-entries : {w h : ℕ} {motion refs : List ℤ} {t t₁ : List ℕ} {p : Planes} {words : List ℕ} → length t₁ ≡ 624 → Framed w h motion refs t p words → Framed w h motion refs t₁ p words
-frame-entries e f =
-    record {
-      wide = f .wide;
-      high = f .high;
-      long-y = f .long-y;
-      long-u = f .long-u;
-      long-v = f .long-v;
-      long-words = f .long-words;
-      long-motion = f .long-motion;
-      long-refs = f .long-refs;
-      long-entries = e;
-      qps = f .qps;
-      all-y = f .all-y;
-      all-u = f .all-u;
-      all-v = f .all-v;
-    }

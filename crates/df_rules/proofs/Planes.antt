@@ -114,12 +114,12 @@ module _ (m : Maps) (t : List ℕ) (at : ℕ → ℕ) (d : Pass) (c : Component)
       ∙ ap (λ (st : ℕ). run (filtered m₁ t₁ at₁ d c w) l (window d c w st e xs)) (h e (List·Memᴰ·head refl))
 
 -- both passes
-module _ (m : Maps) (t : List ℕ) (at : Pass → ℕ → ℕ) (c : Component) (w : ℕ) (ups levels : List Edge) (xs : List ℕ) where
+module _ (m : Maps) (t : List ℕ) (at : ℕ → ℕ) (c : Component) (w : ℕ) (ups levels : List Edge) (xs : List ℕ) where
   pub finished-long : length (finished m t at c w ups levels xs) ≡ length xs
-  finished-long = run-long m t (at horizontal) horizontal c w levels _ ∙ run-long m t (at vertical) vertical c w ups xs
+  finished-long = run-long m t at horizontal c w levels _ ∙ run-long m t at vertical c w ups xs
 
   pub finished-small : Samples xs → Samples (finished m t at c w ups levels xs)
-  finished-small g = run-small m t (at horizontal) horizontal c w levels _ (run-small m t (at vertical) vertical c w ups xs g)
+  finished-small g = run-small m t at horizontal c w levels _ (run-small m t at vertical c w ups xs g)
 
 -- ---- and in all three
 
@@ -142,33 +142,31 @@ module _ (m : Maps) (t : List ℕ) (d : Pass) (w : ℕ) (l : List Edge) (p : Pla
   filter-small g = subst SamplePlanes (sym (filter-planes m t d w l p))
       (record { y = run-small m t inY d Luma w l (p .y) (g .y); u = run-small m t inU d Chroma w l (p .u) (g .u); v = run-small m t inV d Chroma w l (p .v) (g .v) })
 
--- ---- both passes, each by maps and entries of its own that give the same strengths
+-- ---- both passes, by entries that give the same strengths
 
-module _ (maps : Pass → Maps) (entries : Pass → List ℕ) (w : ℕ) (lists : Pass → List Edge) (m : Maps) (t : List ℕ) where
-  -- a pass's entries, read at `place`, against the strengths t at what the QP is mapped to
-  abbrev pub SameStrengths : (place : ℕ → ℕ) (at : Pass → ℕ → ℕ) → Type 0
-  SameStrengths place at = (d : Pass) (e : Edge) → List·Memᴰ e (lists d) → strength (maps d) (entries d) place d w e ≡ strength m t (at d) d w e
+module _ (m : Maps) (entries : List ℕ) (w : ℕ) (lists : Pass → List Edge) (t : List ℕ) where
+  -- the entries, read at `place`, against the strengths t at what the QP is mapped to
+  abbrev pub SameStrengths : (place at : ℕ → ℕ) → Type 0
+  SameStrengths place at = (d : Pass) (e : Edge) → List·Memᴰ e (lists d) → strength m entries place d w e ≡ strength m t at d w e
 
-  plane-finished : (c : Component) (place : ℕ → ℕ) (at : Pass → ℕ → ℕ) → SameStrengths place at → (xs : List ℕ)
-      → run (filtered (maps horizontal) (entries horizontal) place horizontal c w) (lists horizontal) (run (filtered (maps vertical) (entries vertical) place vertical c w) (lists vertical) xs)
-      ≡ finished m t at c w (lists vertical) (lists horizontal) xs
+  plane-finished : (c : Component) (place at : ℕ → ℕ) → SameStrengths place at → (xs : List ℕ)
+      → finished m entries place c w (lists vertical) (lists horizontal) xs ≡ finished m t at c w (lists vertical) (lists horizontal) xs
   plane-finished c place at h xs =
-      run-same (maps horizontal) (entries horizontal) place horizontal c w m t (at horizontal) (lists horizontal) (h horizontal) _
-      ∙ ap (run (filtered m t (at horizontal) horizontal c w) (lists horizontal))
-      (run-same (maps vertical) (entries vertical) place vertical c w m t (at vertical) (lists vertical) (h vertical) xs)
+      run-same m entries place horizontal c w m t at (lists horizontal) (h horizontal) _
+      ∙ ap (run (filtered m t at horizontal c w) (lists horizontal)) (run-same m entries place vertical c w m t at (lists vertical) (h vertical) xs)
 
-  pub planes-finished : (atY atU atV : Pass → ℕ → ℕ) → SameStrengths inY atY → SameStrengths inU atU → SameStrengths inV atV → (p : Planes)
-      → filterAll (maps horizontal) (entries horizontal) horizontal w (lists horizontal) (filterAll (maps vertical) (entries vertical) vertical w (lists vertical) p)
+  pub planes-finished : (atY atU atV : ℕ → ℕ) → SameStrengths inY atY → SameStrengths inU atU → SameStrengths inV atV → (p : Planes)
+      → filterAll m entries horizontal w (lists horizontal) (filterAll m entries vertical w (lists vertical) p)
       ≡ record {
         y = finished m t atY Luma w (lists vertical) (lists horizontal) (p .y);
         u = finished m t atU Chroma w (lists vertical) (lists horizontal) (p .u);
         v = finished m t atV Chroma w (lists vertical) (lists horizontal) (p .v);
       }
   planes-finished atY atU atV hy hu hv p =
-      filter-planes (maps horizontal) (entries horizontal) horizontal w (lists horizontal) _
+      filter-planes m entries horizontal w (lists horizontal) _
       ∙ ap (λ (q : Planes). record {
-        y = run (filtered (maps horizontal) (entries horizontal) inY horizontal Luma w) (lists horizontal) (q .y);
-        u = run (filtered (maps horizontal) (entries horizontal) inU horizontal Chroma w) (lists horizontal) (q .u);
-        v = run (filtered (maps horizontal) (entries horizontal) inV horizontal Chroma w) (lists horizontal) (q .v);
-      }) (filter-planes (maps vertical) (entries vertical) vertical w (lists vertical) p)
+        y = run (filtered m entries inY horizontal Luma w) (lists horizontal) (q .y);
+        u = run (filtered m entries inU horizontal Chroma w) (lists horizontal) (q .u);
+        v = run (filtered m entries inV horizontal Chroma w) (lists horizontal) (q .v);
+      }) (filter-planes m entries vertical w (lists vertical) p)
       ∙ (λ i. record { y = plane-finished Luma inY atY hy (p .y) i; u = plane-finished Chroma inU atU hu (p .u) i; v = plane-finished Chroma inV atV hv (p .v) i })

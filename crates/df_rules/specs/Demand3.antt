@@ -27,6 +27,6 @@ pub record Demand3 (short : Bool) (s : List ℕ) (w h : ℕ) : Type 0 where
   pub rows : (d : Pass) → RowByRow d short s w h (rowList d short s w h)
   pub only-rows : (d : Pass) (l : List Edge) → RowByRow d short s w h l → l ≡ rowList d short s w h
   -- every plane, luma or chroma, of any maps and strengths, whatever Q's QP is mapped to, ends as it does when the edges are filtered in that order
-  pub planes : (m : Maps) (t : List ℕ) (at : Pass → ℕ → ℕ) (c : Component) (p : List ℕ)
+  pub planes : (m : Maps) (t : List ℕ) (at : ℕ → ℕ) (c : Component) (p : List ℕ)
       → finished m t at c w (edgeList vertical short s w h) (edgeList horizontal short s w h) p
       ≡ finished m t at c w (rowList vertical short s w h) (rowList horizontal short s w h) p

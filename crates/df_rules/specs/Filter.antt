@@ -50,8 +50,8 @@ filterOne m t d w e p =
 abbrev pub filterAll : Maps → (entries : List ℕ) → Pass → (w : ℕ) → List Edge → Planes → Planes
 filterAll m t d w l p = run (filterOne m t d w) l p
 
--- ---- a plane after both passes: the first list, and then the second. at: by the pass, what Q's QP is mapped to
+-- ---- a plane after both passes: the first list, and then the second. at: what Q's QP is mapped to
 
-abbrev pub finished : Maps → (strengths : List ℕ) → (at : Pass → ℕ → ℕ) → Component → (w : ℕ) → (ups levels : List Edge) → List ℕ → List ℕ
+abbrev pub finished : Maps → (strengths : List ℕ) → (at : ℕ → ℕ) → Component → (w : ℕ) → (ups levels : List Edge) → List ℕ → List ℕ
 finished m t at c w ups levels p =
-    run (filtered m t (at horizontal) horizontal c w) levels (run (filtered m t (at vertical) vertical c w) ups p)
+    run (filtered m t at horizontal c w) levels (run (filtered m t at vertical c w) ups p)

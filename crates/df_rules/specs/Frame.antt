@@ -19,7 +19,7 @@ pub record Unit (words : List ℕ) (motion refs : List ℤ) (k : ℕ) : Type 0 w
   pub refi : 2 * k + 2 ≤ length refs
   pub qp : qpOf (getD words k 0) ≤ 51
 
--- a picture of w by h units with its maps, and the entries of a pass
+-- a picture of w by h units with its maps, and the strength entries
 pub record Frame (w h : ℕ) (y u v words : List ℕ) (motion refs : List ℤ) (entries : List ℕ) : Type 0 where
   pub wide : w ≤ 1024
   pub high : h ≤ 1024
@@ -52,9 +52,9 @@ pub record AtUnit (d : Pass) (w h c a : ℕ) : Type 0 where
   pub across : c < 4 * unitsAcross d w h
   pub along : a < 4 * unitsAlong d w h
 
--- both passes' lists were filtered, one after the other, and counted, and every unit is done. t, t₁: the entries of the vertical pass, and of the horizontal
-pub record Both (m : Maps) (t t₁ : List ℕ) (w : ℕ) (ups levels : List Edge) (p q : Planes) (words : List ℕ) (ver hor : ℕ) : Type 0 where
-  pub planes : q ≡ filterAll m t₁ horizontal w levels (filterAll m t vertical w ups p)
+-- both passes' lists were filtered, one after the other, and counted, and every unit is done. t: the strength entries
+pub record Both (m : Maps) (t : List ℕ) (w : ℕ) (ups levels : List Edge) (p q : Planes) (words : List ℕ) (ver hor : ℕ) : Type 0 where
+  pub planes : q ≡ filterAll m t horizontal w levels (filterAll m t vertical w ups p)
   pub ups-counted : ver ≡ length ups
   pub levels-counted : hor ≡ length levels
   pub marks : words ≡ allDone (m .words)

@@ -8,7 +8,6 @@ use decoder::Motion;
 use decoder::Pel;
 use decoder::Quad;
 use decoder::Settings;
-use decoder::VEdge;
 use libc::STDOUT_FILENO;
 
 // ---- lines
@@ -204,7 +203,6 @@ fn unit_number(qp: u8) -> u8 {
     let table = [0i8; 70];
     let settings = Settings {
         limit: 6,
-        v_edge: VEdge::Own,
         u_offset: 0,
         v_offset: 0,
     };

@@ -2,7 +2,6 @@
 // passes' edge counts, and the planes and the unit words as it leaves them.
 use df::Deblocked;
 use df_check::Settings;
-use df_check::VEdge;
 
 // The picture's size, its planes and its unit words come first in a case.
 fn one(s: &[u8], at: usize) -> usize {
@@ -156,26 +155,18 @@ struct Last {
 }
 
 fn settings(s: &[u8], at: usize) -> Last {
-    let mut bytes = [0u8; 2];
-    let middle = cases::fill_u8(s, at, &mut bytes);
+    let mut limit = [0u8; 1];
+    let middle = cases::fill_u8(s, at, &mut limit);
     let mut offsets = [0i8; 2];
     let next = cases::fill_i8(s, middle, &mut offsets);
     Last {
         settings: Settings {
-            limit: bytes[0],
-            v_edge: v_edge(bytes[1]),
+            limit: limit[0],
             u_offset: offsets[0],
             v_offset: offsets[1],
         },
         next,
     }
-}
-
-fn v_edge(own: u8) -> VEdge {
-    if own == 1 {
-        return VEdge::Own;
-    }
-    VEdge::Source
 }
 
 // The number and the counts, which are 0 where it refused.

@@ -1,9 +1,9 @@
 -- What is found in a sheet, by the ways through the code that prints it.
 --     sided, limit-test                                       the tests of the sides and of the limit
---     size-no, limit-no, walk-no, left-over, all-listed       the text for the digits of a sheet
+--     size-no, limit-no, old-no, not-old, walk-no, left-over, all-listed       the text for the digits of a sheet
 --     good-sheet, bad-sheet                                   the text for a sheet, by what its lines say
 -- Assumes nothing.
-use mathlib.Core.Bool.{true, false, _||_}
+use mathlib.Core.Bool.{Bool, true, false, _||_}
 use mathlib.Core.List.{List}
 use mathlib.Core.Path.{_≡_, refl, sym, ap, _∙_}
 use Prim.Native.Nat.{ℕ, _-_, _/_, _%_, _≤_, _<_}
@@ -14,7 +14,7 @@ use lib.ListN.{length, take, drop, drop-of-length-le, length-drop}
 use Rattle.laws.proofs.Calls.{all-at}
 use Rattle.def.specs.declared.Answer.the-variants.{Done, Refused}
 use Rattle.def.specs.declared.Refusal.{Refusal}
-use Rattle.def.specs.declared.Refusal.the-variants.{Size, Setting, Sheet}
+use Rattle.def.specs.declared.Refusal.the-variants.{Size, Setting, Sheet, Old}
 use Rattle.split.specs.Edges.{vertical, horizontal, edgeList}
 use Rattle.split.specs.ListCall.{limitOk}
 use Rattle.split.specs.Picture.{roots, pictureWalk, allLeaves}
@@ -46,22 +46,30 @@ limit-test limit = refl
 -- ---- the digits
 
 module _ (w h limit : ℕ) (digits : List ℕ) where
-  pub size-no : sidesOk w h ≡ false → refusedText Size 0 ≡ printed (foundOf w h limit digits)
+  pub size-no : (old : Bool) → sidesOk w h ≡ false → refusedText Size 0 ≡ printed (foundOf w h limit old digits)
   unfolding foundOf
-  size-no e = rw e
+  size-no old e = rw e
 
   module _ (sides : sidesOk w h ≡ true) where
-    pub limit-no : limitOk limit ≡ false → refusedText Setting 0 ≡ printed (foundOf w h limit digits)
+    pub limit-no : (old : Bool) → limitOk limit ≡ false → refusedText Setting 0 ≡ printed (foundOf w h limit old digits)
     unfolding foundOf
-    limit-no e = rw (sides, e)
+    limit-no old e = rw (sides, e)
 
     module _ (limited : limitOk limit ≡ true) where
-      pub walk-no : (r : Refusal) → pictureDescent (w / 4) (h / 4) digits .walk .answer ≡ Refused r → refusedText r 5 ≡ printed (foundOf w h limit digits)
+      pub old-no : (old : Bool) → old ≡ true → refusedText Old 0 ≡ printed (foundOf w h limit old digits)
+      unfolding foundOf
+      old-no old e = rw (sides, limited, e)
+
+      -- of a sheet that is not old
+      pub not-old : (old : Bool) → old ≡ false → printed (foundOf w h limit false digits) ≡ printed (foundOf w h limit old digits)
+      not-old old e = ap (λ (o : Bool). printed (foundOf w h limit o digits)) (sym e)
+
+      pub walk-no : (r : Refusal) → pictureDescent (w / 4) (h / 4) digits .walk .answer ≡ Refused r → refusedText r 5 ≡ printed (foundOf w h limit false digits)
       unfolding foundOf foundBy
       walk-no r e = rw (sides, limited, e)
 
       module _ (map : List ℕ) (next : ℕ) (met : RootsMet (w / 4) (h / 4) digits map (roots (w / 4) (h / 4)) next) where
-        pub left-over : next < length digits → refusedText Sheet 5 ≡ printed (foundOf w h limit digits)
+        pub left-over : next < length digits → refusedText Sheet 5 ≡ printed (foundOf w h limit false digits)
         unfolding foundOf foundBy
         left-over l =
             let e : eqb (length (pictureDescent (w / 4) (h / 4) digits .left)) 0 ≡ false =
@@ -75,7 +83,7 @@ module _ (w h limit : ℕ) (digits : List ℕ) where
         leaves : pictureDescent (w / 4) (h / 4) digits .walk .list ≡ allLeaves map (w / 4) (h / 4)
         leaves = sym (ap (λ (v : Walk). v .list) (met .reads)) ∙ leaves-met map (w / 4) (h / 4) (roots (w / 4) (h / 4)) walked
 
-        pub all-listed : length digits ≤ next → listedText (edgeList vertical (eqb limit 5) map (w / 4) (h / 4)) (edgeList horizontal (eqb limit 5) map (w / 4) (h / 4)) ≡ printed (foundOf w h limit digits)
+        pub all-listed : length digits ≤ next → listedText (edgeList vertical (eqb limit 5) map (w / 4) (h / 4)) (edgeList horizontal (eqb limit 5) map (w / 4) (h / 4)) ≡ printed (foundOf w h limit false digits)
         unfolding foundOf foundBy
         all-listed l =
             let e : eqb (length (pictureDescent (w / 4) (h / 4) digits .left)) 0 ≡ true = eq-eqb _ 0 (ap length (met .left ∙ drop-of-length-le digits l)) in
@@ -83,9 +91,9 @@ module _ (w h limit : ℕ) (digits : List ℕ) where
 
 -- ---- a sheet, by what its lines say
 
-pub good-sheet : (s : List ℕ) (w h limit from to : ℕ) → Whole s w h limit from to → printed (foundOf w h limit (take (to - from) (drop from s))) ≡ textOf s
+pub good-sheet : (s : List ℕ) (w h limit : ℕ) (old : Bool) (from to : ℕ) → Whole s w h limit old from to → printed (foundOf w h limit old (take (to - from) (drop from s))) ≡ textOf s
 unfolding foundIn
-good-sheet s w h limit from to u = rw (u .digits, u .width, u .height, u .limited, eq-eqb (firstBad s) 0 (u .good))
+good-sheet s w h limit old from to u = rw (u .digits, u .width, u .height, u .limited, u .aged, eq-eqb (firstBad s) 0 (u .good))
 
 pub bad-sheet : (s : List ℕ) (n : ℕ) → Bad s n → refusedText Sheet n ≡ textOf s
 unfolding foundIn

@@ -1,7 +1,7 @@
 -- Laws of writing: one text after another, byte by byte, and decimal numbers.
 --     put-byte, starts-as, put-length, put-start, put-more
 --     decimal-one, decimal-more, decimal-three, decimal-four    a number's digits, and how many
---     place-put, place-short, count-put, count-short, line-put, line-none, line-length, refused-put, number-small    lines
+--     place-put, place-short, count-put, count-short, line-put, line-none, line-length, refused-put    lines
 --     places-none, places-more, listing-put    the places of a list, and a whole listing
 -- Assumes nothing.
 use mathlib.Core.Path.{_≡_, refl, sym, ap, _∙_, subst}
@@ -19,7 +19,6 @@ use lib.Seq.{length-sets, take-suc}
 use Rattle.laws.specs.Index.{pick}
 use Rattle.def.specs.Refusals.{numberOf}
 use Rattle.def.specs.declared.Refusal.{Refusal}
-use Rattle.def.specs.declared.Refusal.the-variants.{Size, Length, Setting, Split, Leaf, Qp, Sample, Block, Mode, Points, Pivot, Sheet, Record, Band}
 use Rattle.edges.specs.Put.{Put}
 use Rattle.edges.proofs.Puts.{put-none, put-then, put-as}
 use Rattle.sheet.specs.Puts.{Starts, placesText, numbersText}
@@ -129,23 +128,6 @@ pub refused-put : (r : Refusal) (line : ℕ) {number : ℕ} {out out₁ out₂ o
     → Put refusedKey out at out₁ m → Put (decimal number) out₁ m out₂ n → Put (lineText number line) out₂ n out₃ k → Put (refusedText r line) out at (set out₃ k 10) (k + 1)
 unfolding refusedText
 refused-put r line {number} {out₃ = out₃} {k = k} e p q l = rw (sym e) (put-then p (put-then q (put-then l (put-byte 10 out₃ k))))
-
--- a refusal's number has two digits at most
-pub number-small : (r : Refusal) → numberOf r < 100
-number-small Size = omega arith
-number-small Length = omega arith
-number-small Setting = omega arith
-number-small Split = omega arith
-number-small Leaf = omega arith
-number-small Qp = omega arith
-number-small Sample = omega arith
-number-small Block = omega arith
-number-small Mode = omega arith
-number-small Points = omega arith
-number-small Pivot = omega arith
-number-small Sheet = omega arith
-number-small Record = omega arith
-number-small Band = omega arith
 
 -- ---- the places of a list
 

@@ -1,7 +1,7 @@
 -- The text that `edgelist` prints for a sheet.
 -- Assumes nothing: these are definitions.
 use Prim.Native.Nat.{ℕ, zero, suc, _+_, _*_, _/_, _%_}
-use mathlib.Core.Bool.{Bool}
+use mathlib.Core.Bool.{Bool, not}
 use mathlib.Core.List.{List, [], _∷_, _++_}
 use lib.Dec.{leb, ltb, eqb}
 use lib.ListN.{length}
@@ -11,11 +11,11 @@ use Rattle.laws.specs.Orders.{each}
 use Rattle.def.specs.Answers.{afterChecks}
 use Rattle.def.specs.Refusals.{numberOf}
 use Rattle.def.specs.declared.Refusal.{Refusal}
-use Rattle.def.specs.declared.Refusal.the-variants.{Size, Setting, Sheet}
+use Rattle.def.specs.declared.Refusal.the-variants.{Size, Setting, Sheet, Old}
 use Rattle.split.specs.Edges.{Pass, vertical, horizontal, Edge, visitOf, nearEdge}
 use Rattle.split.specs.ListCall.{limitOk}
 use Rattle.split.specs.Walk.{Leaf}
-use Rattle.sheet_lines.specs.Lines.{firstBad, widthOf, heightOf, limitOf, digitsOf}
+use Rattle.sheet_lines.specs.Lines.{firstBad, widthOf, heightOf, limitOf, oldOf, digitsOf}
 use Rattle.sheet.specs.Descent.{Descent, pictureDescent}
 use Rattle.sheet.specs.Words.{refusedKey, lineKey, verticalCount, horizontalCount, newline}
 
@@ -45,16 +45,18 @@ foundBy short d =
     (listed (edgesOf vertical short (d .walk .list)) (edgesOf horizontal short (d .walk .list))))
     (d .walk .answer)
 
-unfoldable pub foundOf : (w h limit : ℕ) → List ℕ → Found
-foundOf w h limit digits =
+-- 1, 3, 20, and then the digits
+unfoldable pub foundOf : (w h limit : ℕ) → (old : Bool) → List ℕ → Found
+foundOf w h limit old digits =
     unless (sidesOk w h) (refused Size 0)
     (unless (limitOk limit) (refused Setting 0)
-    (foundBy (eqb limit 5) (pictureDescent (w / 4) (h / 4) digits)))
+    (unless (not old) (refused Old 0)
+    (foundBy (eqb limit 5) (pictureDescent (w / 4) (h / 4) digits))))
 
 unfoldable pub foundIn : List ℕ → Found
 foundIn s =
     unless (eqb (firstBad s) 0) (refused Sheet (firstBad s))
-    (foundOf (widthOf s) (heightOf s) (limitOf s) (digitsOf s))
+    (foundOf (widthOf s) (heightOf s) (limitOf s) (oldOf s) (digitsOf s))
 
 -- ---- the text
 

@@ -1,6 +1,6 @@
 // The sheet and its listing, bytes to bytes. There is no Rust beside it.
 ghost use mathlib.Core.Path.{_≡_};
-ghost use mathlib.Core.Bool.{true};
+ghost use mathlib.Core.Bool.{true, false};
 ghost use Prim.Native.Nat.{_*_, _/_};
 ghost use lib.ListN.{length};
 ghost use Rattle.laws.specs.Call.{Gives};
@@ -104,7 +104,7 @@ fn print_tree(
     out: &mut [u8],
 ) -> usize
     requires { ⌜ (sidesOk w h ≡ true) × (limitOk limit ≡ true) × (binary (now digits) ≡ true) × (length (now map) ≡ 1024 * roots (w / 4) (h / 4)) × (length (now out) ≡ 81920) ⌝ }
-    ensures { λ r. ⌜ Starts (printed (foundOf w h limit (now (digits .entry)))) (now (out .entry)) (now (out .exit)) r ⌝ }
+    ensures { λ r. ⌜ Starts (printed (foundOf w h limit false (now (digits .entry)))) (now (out .entry)) (now (out .exit)) r ⌝ }
 {
     match take_picture(digits, w, h, map) {
         Taken::Refused(r) => put_refusal(out, r, 5),
@@ -117,16 +117,19 @@ fn print_tree(
     }
 }
 
-// The digits of a sheet, after its size and its limit.
-fn print_digits(digits: &[u8], w: usize, h: usize, limit: usize, out: &mut [u8]) -> usize
+// The digits of a sheet, after its size, its limit and its age.
+fn print_digits(digits: &[u8], w: usize, h: usize, limit: usize, old: bool, out: &mut [u8]) -> usize
     requires { ⌜ (binary (now digits) ≡ true) × (length (now out) ≡ 81920) ⌝ }
-    ensures { λ r. ⌜ Starts (printed (foundOf w h limit (now (digits .entry)))) (now (out .entry)) (now (out .exit)) r ⌝ }
+    ensures { λ r. ⌜ Starts (printed (foundOf w h limit old (now (digits .entry)))) (now (out .entry)) (now (out .exit)) r ⌝ }
 {
     if !sides_ok(w, h) {
         return put_refusal(out, Refusal::Size, 0);
     }
     if !((limit == 5) | (limit == 6)) {
         return put_refusal(out, Refusal::Setting, 0);
+    }
+    if old {
+        return put_refusal(out, Refusal::Old, 0);
     }
     let n = 1024 * root_count(w, h);
     let mut map = map_room();
@@ -144,9 +147,10 @@ fn print_sheet(input: &[u8], out: &mut [u8]) -> usize
             w,
             h,
             limit,
+            old,
             from,
             to,
-        } => print_digits(&input[from..to], w, h, limit, out),
+        } => print_digits(&input[from..to], w, h, limit, old, out),
     }
 }
 

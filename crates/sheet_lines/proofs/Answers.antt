@@ -16,7 +16,7 @@ use lib.Seq.{take-nil, drop-drop}
 use Rattle.laws.specs.Call.{Gives, unless}
 use Rattle.laws.proofs.Bools.{both-left, both-right}
 use Rattle.laws.proofs.Calls.{all-at}
-use Rattle.sheet_lines.specs.Lines.{lineFrom, startOf, line, startsWith, binary, splitsLine, lineOk, lineTests, firstBad, widthOf, heightOf, limitOf, digitsOf}
+use Rattle.sheet_lines.specs.Lines.{lineFrom, startOf, line, startsWith, binary, splitsLine, lineOk, lineTests, firstBad, widthOf, heightOf, limitOf, oldOf, digitsOf}
 use Rattle.sheet_lines.specs.ReadCall.{Reading, Outcome, readingOf, after, wholeSheet, readOf, outcome}
 use Rattle.sheet_lines.specs.Words.{splitsKey}
 use Rattle.sheet_lines.specs.declared.Kind.the-variants.{Width, Height, Limit, Edge, Splits}
@@ -31,10 +31,10 @@ unfolding outcome
 gives s r e = ap after e
 
 pub reading-apart : (a b : Sheet) → readingOf a ≡ readingOf b → a ≡ b
-reading-apart (Read w h l f t) (Read w′ h′ l′ f′ t′) e =
-    λ i. Read (e i .w) (e i .h) (e i .limit) (e i .from) (e i .to)
-reading-apart (Read w h l f t) (Malformed n) e = absurd (let z = ap (λ (o : Reading). o .number) e in omega arith)
-reading-apart (Malformed n) (Read w h l f t) e = absurd (let z = ap (λ (o : Reading). o .number) e in omega arith)
+reading-apart (Read w h l o f t) (Read w′ h′ l′ o′ f′ t′) e =
+    λ i. Read (e i .w) (e i .h) (e i .limit) (e i .old) (e i .from) (e i .to)
+reading-apart (Read w h l o f t) (Malformed n) e = absurd (let z = ap (λ (o : Reading). o .number) e in omega arith)
+reading-apart (Malformed n) (Read w h l o f t) e = absurd (let z = ap (λ (o : Reading). o .number) e in omega arith)
 reading-apart (Malformed m) (Malformed n) e = ap Malformed (ap (λ (o : Reading). o .line) e)
 
 pub answer-is : (s : List ℕ) (r : Sheet) → Gives outcome (record { input = s }) (after r) → r ≡ readOf s
@@ -87,11 +87,12 @@ fifth s e =
     let p₃ = passed (lineOk Edge s (startOf s 3)) 4 _ (λ z. omega arith) (p₂ .1) in
     passed (lineOk Splits s (startOf s 4)) 5 _ (λ z. omega arith) (p₃ .1) .0
 
-pub record Whole (s : List ℕ) (w h limit from to : ℕ) : Type 0 where
+pub record Whole (s : List ℕ) (w h limit : ℕ) (old : Bool) (from to : ℕ) : Type 0 where
   pub good : firstBad s ≡ 0
   pub width : w ≡ widthOf s
   pub height : h ≡ heightOf s
   pub limited : limit ≡ limitOf s
+  pub aged : old ≡ oldOf s
   pub ordered : from ≤ to
   pub inside : to ≤ length s
   pub digits : take (to - from) (drop from s) ≡ digitsOf s
@@ -107,17 +108,17 @@ splits-at s e =
     )
 
 -- the answer where all five lines are well formed
-pub whole-sheet : (s : List ℕ) (w h limit from to : ℕ) → readOf s ≡ Read w h limit from to → Whole s w h limit from to
+pub whole-sheet : (s : List ℕ) (w h limit : ℕ) (old : Bool) (from to : ℕ) → readOf s ≡ Read w h limit old from to → Whole s w h limit old from to
 unfolding readOf
-whole-sheet s w h limit from to e = go (eqb (firstBad s) 0) refl e where
-  go : (t : Bool) → eqb (firstBad s) 0 ≡ t → unless t (Malformed (firstBad s)) (wholeSheet s) ≡ Read w h limit from to → Whole s w h limit from to
+whole-sheet s w h limit old from to e = go (eqb (firstBad s) 0) refl e where
+  go : (t : Bool) → eqb (firstBad s) 0 ≡ t → unless t (Malformed (firstBad s)) (wholeSheet s) ≡ Read w h limit old from to → Whole s w h limit old from to
   go true g z =
       let d = eqb-true (firstBad s) 0 g in
       let f : startOf s 4 + length splitsKey ≡ from = cc in
       let t : startOf s 4 + length (line s 4) ≡ to = cc in
       let p = splits-at s (fifth s d) in
       let q : take (to - from) (drop from s) ≡ digitsOf s = rw (sym f, sym t) (digits-part s (startOf s 4) (length (line s 4)) (length splitsKey) refl) in
-      record { good = d; width = cc; height = cc; limited = cc; ordered = omega arith; inside = omega arith; digits = q; two = ap binary q ∙ p .2 }
+      record { good = d; width = cc; height = cc; limited = cc; aged = cc; ordered = omega arith; inside = omega arith; digits = q; two = ap binary q ∙ p .2 }
   go false g z = absurd (let y : _≡_ {A = ℕ} 0 1 = cc in omega arith)
 
 -- and where one is not: n is its number

@@ -1,7 +1,7 @@
 -- Laws of a line's form, by the ways through the code that reads it.
 --     key-fits, rest-of                               what follows a key
 --     number-no-key, number-no-digits, number-is      a key and a number
---     edge-is, edge-no, splits-no-key, splits-is, splits-no
+--     edge-old, edge-own, edge-no, splits-no-key, splits-is, splits-no
 --     line-fits, line-part                            the line that starts at a place, as a part of the text
 --     field-cut, field-no, field-is                   that line, by its tests
 -- Assumes nothing.
@@ -15,7 +15,7 @@ use lib.ListN.{length, take, drop, length-drop}
 use lib.Seq.{take-all}
 use Rattle.laws.specs.Index.{pick}
 use Rattle.laws.proofs.Bools.{both-right}
-use Rattle.sheet_lines.specs.Lines.{lineOf, lineFrom, nextLine, startsWith, isNumber, valueFrom, numberLine, numberAfter, sameLine, edgeLine, splitsLine, noValue, binary, formOf, saysOf, lineOk}
+use Rattle.sheet_lines.specs.Lines.{lineOf, lineFrom, nextLine, startsWith, isNumber, valueFrom, numberLine, numberAfter, sameLine, edgeLine, oldEdge, splitsLine, noValue, binary, formOf, saysOf, lineOk}
 use Rattle.sheet_lines.specs.Words.{ownEdge, sourceEdge, splitsKey}
 use Rattle.sheet_lines.specs.Fields.{valueBy, fieldOf}
 use Rattle.sheet_lines.specs.declared.Kind.{Kind}
@@ -50,16 +50,21 @@ module _ (key l : List ℕ) where
   unfolding numberLine numberAfter
   number-is v e n q = rw (e, sym (ap isNumber (rest-of (length key) l)) ∙ n) (ap Is (q ∙ ap (valueFrom 0) (rest-of (length key) l)))
 
-module _ (l : List ℕ) (a b : Bool) (p : a ≡ sameLine ownEdge l) (q : b ≡ sameLine sourceEdge l) where
-  edge-test : edgeLine l ≡ (a || b)
-  unfolding edgeLine
-  edge-test = rw (p, q)
+module _ (l : List ℕ) where
+  pub edge-old : sameLine sourceEdge l ≡ true → Is 1 ≡ valueBy edgeLine oldEdge l
+  unfolding edgeLine oldEdge
+  edge-old e = rw e (go (sameLine ownEdge l)) where
+    go : (a : Bool) → Is 1 ≡ pick (a || true) (Is 1) Malformed
+    go true = refl
+    go false = refl
 
-  pub edge-is : (a || b) ≡ true → Is 0 ≡ valueBy edgeLine noValue l
-  edge-is e = rw (edge-test ∙ e)
+  pub edge-own : sameLine sourceEdge l ≡ false → sameLine ownEdge l ≡ true → Is 0 ≡ valueBy edgeLine oldEdge l
+  unfolding edgeLine oldEdge
+  edge-own e f = rw (e, f)
 
-  pub edge-no : (a || b) ≡ false → Malformed ≡ valueBy edgeLine noValue l
-  edge-no e = rw (edge-test ∙ e)
+  pub edge-no : sameLine sourceEdge l ≡ false → sameLine ownEdge l ≡ false → Malformed ≡ valueBy edgeLine oldEdge l
+  unfolding edgeLine oldEdge
+  edge-no e f = rw (e, f)
 
 module _ (l : List ℕ) where
   pub splits-no-key : startsWith splitsKey l ≡ false → Malformed ≡ valueBy splitsLine noValue l

@@ -8,6 +8,7 @@ use mathlib.Core.List.{List}
 use Prim.Native.Nat.{ℕ, suc, _+_, _-_, _≤_, _<_}
 use native.Mathlib.Omega.{arith}
 use borrow.Author.Tests.{ltb-true, le-leb, lt-leb}
+use lib.Dec.{eqb}
 use lib.ListN.{length}
 use Rattle.laws.specs.Index.{pick}
 use Rattle.laws.proofs.Calls.{all-at}
@@ -86,8 +87,9 @@ module _ (s : List ℕ) where
             unfolding readOf firstBad
             extra n e h = rw (o₀, o₁, o₂, o₃, o₄, lt-leb (length s) (startOf s 5) (omega arith))
 
-            pub whole : (w h limit from n : ℕ) → w ≡ widthOf s → h ≡ heightOf s → limit ≡ limitOf s → from ≡ startOf s 4 → n ≡ startOf s 5 → length s ≤ n → Read w h limit (from + 7) (n - 1) ≡ readOf s
+            pub whole : (w h limit edge from n : ℕ) → w ≡ widthOf s → h ≡ heightOf s → limit ≡ limitOf s → edge ≡ saysOf Edge (line s 3) → from ≡ startOf s 4 → n ≡ startOf s 5 → length s ≤ n
+                → Read w h limit (eqb edge 1) (from + 7) (n - 1) ≡ readOf s
             unfolding readOf firstBad startOf
-            whole w h limit from n ew eh el ef en p =
+            whole w h limit edge from n ew eh el eo ef en p =
                 let q : n - 1 ≡ startOf s 4 + length (line s 4) = omega arith in
                 rw (o₀, o₁, o₂, o₃, o₄, le-leb (length s) (startOf s 5) (omega arith)) (cc)

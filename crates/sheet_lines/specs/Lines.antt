@@ -72,6 +72,10 @@ sameLine key l = startsWith key l && eqb (length l) (length key)
 unfoldable pub edgeLine : List ℕ → Bool
 edgeLine l = sameLine ownEdge l || sameLine sourceEdge l
 
+-- 1 in an old sheet, whose V read table 0 on vertical edges
+unfoldable pub oldEdge : List ℕ → ℕ
+oldEdge l = pick (sameLine sourceEdge l) 1 0
+
 -- `splits=` and digits that are 0 or 1, or none
 abbrev pub binary : List ℕ → Bool
 binary l = allIn 0 (between 48 49) l
@@ -94,7 +98,7 @@ abbrev pub saysOf : Kind → List ℕ → ℕ
 saysOf Width = numberAfter widthKey
 saysOf Height = numberAfter heightKey
 saysOf Limit = numberAfter limitKey
-saysOf Edge = noValue
+saysOf Edge = oldEdge
 saysOf Splits = noValue
 
 -- ---- the first line that is malformed
@@ -128,6 +132,10 @@ heightOf s = saysOf Height (line s 1)
 
 abbrev pub limitOf : List ℕ → ℕ
 limitOf s = saysOf Limit (line s 2)
+
+-- whether the sheet is old
+abbrev pub oldOf : List ℕ → Bool
+oldOf s = eqb (saysOf Edge (line s 3)) 1
 
 abbrev pub digitsOf : List ℕ → List ℕ
 digitsOf s = drop (length splitsKey) (line s 4)

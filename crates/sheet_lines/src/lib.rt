@@ -5,7 +5,7 @@ ghost use Prim.Native.Nat.{_+_, _≤_, _<_};
 ghost use lib.ListN.{length};
 ghost use Rattle.laws.specs.Call.{Gives};
 ghost use Rattle.laws.specs.Scan.{allIn};
-ghost use Rattle.sheet_lines.specs.Lines.{lineFrom, startsWith, between, isNumber, valueFrom, numberLine, numberAfter, sameLine, edgeLine, splitsLine, noValue, formOf, saysOf};
+ghost use Rattle.sheet_lines.specs.Lines.{lineFrom, startsWith, between, isNumber, valueFrom, numberLine, numberAfter, sameLine, edgeLine, oldEdge, splitsLine, noValue, formOf, saysOf};
 ghost use Rattle.sheet_lines.specs.Fields.{valueBy, fieldOf};
 ghost use Rattle.sheet_lines.specs.ReadCall.{readingOf, outcome};
 
@@ -30,12 +30,13 @@ enum Field {
     Malformed,
 }
 
-// What the lines say, the digits by their places; or the number of the first that is malformed.
+// What the lines say, whether the sheet is old, and the digits by their places; or the number of the first that is malformed.
 pub enum Sheet {
     Read {
         w: usize,
         h: usize,
         limit: usize,
+        old: bool,
         from: usize,
         to: usize,
     },
@@ -137,11 +138,14 @@ fn same_line(line: &[u8], key: &[u8]) -> bool
     starts_with(line, key) & (line.len() == key.len())
 }
 
-// The line that names whose table V reads on vertical edges: the listing does not depend on it.
+// The line that names whose table V reads on vertical edges: 1 where it is table 0, as in old sheets.
 fn edge_of(line: &[u8]) -> Value
-    ensures { λ r. ⌜ r ≡ valueBy edgeLine noValue (now (line .entry)) ⌝ }
+    ensures { λ r. ⌜ r ≡ valueBy edgeLine oldEdge (now (line .entry)) ⌝ }
 {
-    if same_line(line, b"v_edge=own") | same_line(line, b"v_edge=source") {
+    if same_line(line, b"v_edge=source") {
+        return Value::Is(1);
+    }
+    if same_line(line, b"v_edge=own") {
         return Value::Is(0);
     }
     Value::Malformed
@@ -201,7 +205,7 @@ pub fn read(input: &[u8]) -> Sheet
     let Field::At(limit, fourth) = line_at(input, third, Kind::Limit) else {
         return Sheet::Malformed(3);
     };
-    let Field::At(_, fifth) = line_at(input, fourth, Kind::Edge) else {
+    let Field::At(edge, fifth) = line_at(input, fourth, Kind::Edge) else {
         return Sheet::Malformed(4);
     };
     let Field::At(_, end) = line_at(input, fifth, Kind::Splits) else {
@@ -210,11 +214,14 @@ pub fn read(input: &[u8]) -> Sheet
     if end < input.len() {
         return Sheet::Malformed(6);
     }
+    let from = fifth + 7;
+    let to = end - 1;
     Sheet::Read {
         w,
         h,
         limit,
-        from: fifth + 7,
-        to: end - 1,
+        old: edge == 1,
+        from,
+        to,
     }
 }

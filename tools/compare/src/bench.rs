@@ -150,7 +150,7 @@ fn finish(given: &Picture, planes: &mut [Vec<u16>; 3], words: &mut [u32]) -> usi
         strengths: &given.strengths,
     };
     let [u_offset, v_offset] = given.offsets.map(|offset| offset as i8);
-    let settings = lomsakeun::Settings { limit: 6, own: false, u_offset, v_offset };
+    let settings = lomsakeun::Settings { limit: 6, u_offset, v_offset };
     let filtered =
         lomsakeun::deblock(lomsakeun::Picture { w: given.w, h: given.h, y, u, v, words }, maps, settings);
     filtered.map(|(vertical, horizontal)| vertical + horizontal).unwrap()

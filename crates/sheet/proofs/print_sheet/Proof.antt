@@ -9,8 +9,8 @@ use Rattle.sheet.proofs.print_sheet.Statement.{statement}
 use Rattle.sheet.proofs.print_sheet.Tie as tie
 
 -- what the five lines say
-told : (c : tie.After-known-told2) → let g = c .before .w .given .0 in Whole (c .before .before .before .before .before .before .args .input .now) (g .0) (g .1 .0) (g .1 .1 .0) (g .1 .1 .1 .0) (g .1 .1 .1 .1 .0)
-told c = whole-sheet _ _ _ _ _ _ (sym (answer-is _ _ (c .before .before .before .read .ensures)) ∙ c .before .w .given .1)
+told : (c : tie.After-known-told2) → let g = c .before .w .given .0 in Whole (c .before .before .before .before .before .before .args .input .now) (g .0) (g .1 .0) (g .1 .1 .0) (g .1 .1 .1 .0) (g .1 .1 .1 .1 .0) (g .1 .1 .1 .1 .1 .0)
+told c = whole-sheet _ _ _ _ _ _ _ (sym (answer-is _ _ (c .before .before .before .read .ensures)) ∙ c .before .w .given .1)
 
 put-refusal-requires : tie.Need-put-refusal-requires
 put-refusal-requires c κs =
@@ -35,7 +35,7 @@ returns c =
     starts-as (bad-sheet _ _ (bad-line _ _ (sym (answer-is _ _ (u .before .before .read .ensures)) ∙ u .line .given .1))) (c .before .before .put-refusal .ensures)
 
 returns-2 : tie.Need-returns-2
-returns-2 c = starts-as (good-sheet _ _ _ _ _ _ (told (c .before .before .before .before .before))) (c .before .before .print-digits .ensures)
+returns-2 c = starts-as (good-sheet _ _ _ _ _ _ _ (told (c .before .before .before .before .before))) (c .before .before .print-digits .ensures)
 
 pub print-sheet-spec : {M : Type 1} → statement M
 print-sheet-spec =

@@ -16,8 +16,8 @@ line-1 c = said Height _ 1 _ _ (line-0 (c .before .before .before .before) .next
 line-2 : (c : tie.After-known-told3) → Said Limit (c .before .before .before .before .before .before .before .before .before .before .before .before .before .args .input .now) 2 (c .before .limit .given .0 .0) (c .before .limit .given .0 .1 .0)
 line-2 c = said Limit _ 2 _ _ (line-1 (c .before .before .before .before) .next) (c .before .before .before .line-at3 .ensures) _ _ (c .before .limit .given .1)
 
-line-3 : (c : tie.After-known-told4) → Said Edge (c .before .before .before .before .before .before .before .before .before .before .before .before .before .before .before .before .before .args .input .now) 3 (c .before .fifth .given .0 .0) (c .before .fifth .given .0 .1 .0)
-line-3 c = said Edge _ 3 _ _ (line-2 (c .before .before .before .before) .next) (c .before .before .before .line-at4 .ensures) _ _ (c .before .fifth .given .1)
+line-3 : (c : tie.After-known-told4) → Said Edge (c .before .before .before .before .before .before .before .before .before .before .before .before .before .before .before .before .before .args .input .now) 3 (c .before .edge .given .0 .0) (c .before .edge .given .0 .1 .0)
+line-3 c = said Edge _ 3 _ _ (line-2 (c .before .before .before .before) .next) (c .before .before .before .line-at4 .ensures) _ _ (c .before .edge .given .1)
 
 line-4 : (c : tie.After-known-told5) → Said Splits (c .before .before .before .before .before .before .before .before .before .before .before .before .before .before .before .before .before .before .before .before .before .args .input .now) 4 (c .before .end .given .0 .0) (c .before .end .given .0 .1 .0)
 line-4 c = said Splits _ 4 _ _ (line-3 (c .before .before .before .before) .next) (c .before .before .before .line-at5 .ensures) _ _ (c .before .end .given .1)
@@ -71,11 +71,11 @@ returns-6 c =
     let w = v .before .before .before .before in
     gives _ _ (extra _ (line-0 (w .before .before .before .before) .ok) (line-1 w .ok) (line-2 v .ok) (line-3 u .ok) (line-4 t .ok) _ (line-4 t .next) (c .if1 .taken))
 
-add-t16 : tie.Need-add-t16
-add-t16 c = omega (arith, line-3 (c .before .before .before .before .before) .inside)
+add-from : tie.Need-add-from
+add-from c = omega (arith, line-3 (c .before .before .before .before .before) .inside)
 
-sub-t18 : tie.Need-sub-t18
-sub-t18 c = line-4 (c .before) .some
+sub-to : tie.Need-sub-to
+sub-to c = line-4 (c .before) .some
 
 returns-7 : tie.Need-returns-7
 returns-7 c =
@@ -84,7 +84,7 @@ returns-7 c =
     let v = u .before .before .before .before in
     let w = v .before .before .before .before in
     let x = w .before .before .before .before in
-    gives _ _ (whole _ (line-0 x .ok) (line-1 w .ok) (line-2 v .ok) (line-3 u .ok) (line-4 t .ok) _ _ _ _ _ (line-0 x .value) (line-1 w .value) (line-2 v .value) (line-3 u .next) (line-4 t .next) (c .if1 .left))
+    gives _ _ (whole _ (line-0 x .ok) (line-1 w .ok) (line-2 v .ok) (line-3 u .ok) (line-4 t .ok) _ _ _ _ _ _ (line-0 x .value) (line-1 w .value) (line-2 v .value) (line-3 u .value) (line-3 u .next) (line-4 t .next) (c .if1 .left))
 
 pub read-spec : {M : Type 1} → statement M
 read-spec =
@@ -111,6 +111,6 @@ read-spec =
     (λ c. search needs)
     returns-5
     returns-6
-    add-t16
-    sub-t18
+    add-from
+    sub-to
     returns-7)

@@ -20,7 +20,6 @@ pub struct Picture {
     pub tables: [Vec<i8>; 2],
     pub strengths: Vec<u8>,
     pub limit: usize,
-    pub own: bool,
     pub offsets: [i64; 2],
 }
 
@@ -35,7 +34,6 @@ impl Picture {
             tables: [&self.tables[0], &self.tables[1]],
             strengths: &self.strengths,
             limit: self.limit,
-            own: self.own,
             offsets: self.offsets,
         }
     }
@@ -52,7 +50,7 @@ impl Case for Picture {
         let line = self.planes.iter().fold(line, |line, plane| line.slice(plane));
         let line = line.slice(&self.words).slice(&self.splits).slice(&self.motion).slice(&self.refs);
         let line = line.slice(&self.tables[0]).slice(&self.tables[1]).slice(&self.strengths);
-        line.num(self.limit).flag(self.own).num(self.offsets[0]).num(self.offsets[1])
+        line.num(self.limit).num(self.offsets[0]).num(self.offsets[1])
     }
 
     fn model(&self) -> Line {
@@ -80,7 +78,7 @@ impl Case for Picture {
     }
 
     fn in_domain(&self) -> bool {
-        !self.own && self.strengths == rust::strengths() && model::fits(&self.given(), &self.words)
+        self.strengths == rust::strengths() && model::fits(&self.given(), &self.words)
     }
 
     #[cfg(feature = "archive")]
@@ -116,7 +114,6 @@ impl Case for Picture {
                 strengths.ptr(),
                 strengths.len(),
                 self.limit as u8,
-                self.own,
                 self.offsets[0] as i8,
                 self.offsets[1] as i8,
                 &mut vertical,
@@ -150,10 +147,11 @@ pub fn split_bytes(rng: &mut Rng, w: usize, h: usize, tree: &[(usize, usize, usi
     bytes
 }
 
-/// An accepted picture with the Rust's strengths, in `source`.
+/// An accepted picture with the Rust's strengths and both chroma tables alike.
 pub fn picture(rng: &mut Rng, w: usize, h: usize, taste: Taste) -> Picture {
     let units = (w / 4) * (h / 4);
     let tree = trees::tree(rng, w, h, taste);
+    let alike = table(rng);
     let (low, high) = rng.pick(&[(0, 51), (20, 51), (30, 51), (45, 51), (37, 37)]);
     Picture {
         w,
@@ -163,10 +161,9 @@ pub fn picture(rng: &mut Rng, w: usize, h: usize, taste: Taste) -> Picture {
         splits: split_bytes(rng, w, h, &tree),
         motion: motion(rng, units),
         refs: refs(rng, units),
-        tables: [table(rng), table(rng)],
+        tables: std::array::from_fn(|_| alike.clone()),
         strengths: rust::strengths(),
         limit: rng.pick(&[5, 6]),
-        own: false,
         offsets: [rng.range(-12, 12), rng.range(-12, 12)],
     }
 }
@@ -205,7 +202,7 @@ fn refs(rng: &mut Rng, units: usize) -> Vec<i8> {
 }
 
 /// A chroma table with every value inside 0..51: rising with the QP, or anything.
-fn table(rng: &mut Rng) -> Vec<i8> {
+pub fn table(rng: &mut Rng) -> Vec<i8> {
     let shift = rng.range(-6, 6);
     let steady = !rng.one_in(4);
     let value = |rng: &mut Rng, qp: i64| if steady { (qp + shift).clamp(0, 51) } else { rng.range(0, 51) };

@@ -1,6 +1,6 @@
 //! Which pictures are recorded for deblocking, and what is compared beside them.
 use super::data::*;
-use super::deblock::{picture, split_bytes, Picture};
+use super::deblock::{picture, split_bytes, table, Picture};
 use super::tape::{Case, Line, Tape};
 use super::trees;
 use crate::model::{deblock as model, walk};
@@ -60,12 +60,12 @@ pub fn strip(rng: &mut Rng) -> (usize, usize) {
     rng.pick(&[(long, short), (short, long)])
 }
 
-/// A picture in `source` or `own`, with the Rust's strengths or others, with motion that fits or does not.
+/// A picture with both chroma tables alike or not, with the Rust's strengths or others, with motion that fits or does not.
 fn varied(rng: &mut Rng, (w, h): (usize, usize), i: usize) -> Picture {
     let taste = trees::taste(rng);
     let mut picture = picture(rng, w, h, taste);
-    if i % 8 == 0 {
-        picture.own = true;
+    if i % 4 == 0 {
+        picture.tables[1] = table(rng);
     }
     if i % 10 == 0 {
         let high = rng.pick(&[1, 4, 64, 255]);
@@ -285,7 +285,10 @@ fn quiet(rng: &mut Rng) -> Picture {
             *value = (at as i64 - 12 + shift + rng.range(-2, 2)).clamp(-12, 91) as i8;
         }
     }
-    Picture { own: rng.one_in(2), ..case }
+    if rng.one_in(2) {
+        case.tables[1] = case.tables[0].clone();
+    }
+    case
 }
 
 pub fn draw_quiet(rng: &mut Rng) -> Box<dyn Case> {
@@ -325,6 +328,5 @@ pub fn damaged(rng: &mut Rng) -> Box<dyn Case> {
     if rng.one_in(3) {
         case.splits.iter_mut().for_each(|byte| *byte = rng.pick(&[0, 1, 1, 1, 1, 1, 1, 2]));
     }
-    case.own = rng.one_in(2);
     Box::new(case)
 }

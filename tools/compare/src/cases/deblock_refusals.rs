@@ -57,7 +57,7 @@ fn settings(tape: &mut Tape, rng: &mut Rng) {
     }
     for offset in [-128, -13, -12, 12, 13, 127] {
         tape.record(&Picture { offsets: [offset, 0], ..picture(rng, 8, 8, trees::FINE) });
-        tape.record(&Picture { offsets: [0, offset], own: true, ..picture(rng, 8, 8, trees::FINE) });
+        tape.record(&Picture { offsets: [0, offset], ..picture(rng, 8, 8, trees::FINE) });
     }
 }
 
@@ -107,14 +107,17 @@ fn qps(tape: &mut Tape, rng: &mut Rng) {
 /// A mapped chroma QP outside 0..51, in each lookup: accepted, and read at the nearest end.
 fn mapped(tape: &mut Tape, rng: &mut Rng) {
     for (qp, offsets) in [(30, [-5, 7]), (51, [12, 12]), (0, [-12, -12]), (51, [0, 12])] {
-        for own in [false, true] {
+        for alike in [false, true] {
             for table in 0..2 {
                 for offset in 0..2 {
                     for value in [0, 51, 52, -1, -128, 127] {
-                        let mut case = Picture { own, offsets, ..picture(rng, 8, 4, trees::FINE) };
+                        let mut case = Picture { offsets, ..picture(rng, 8, 4, trees::FINE) };
                         case.words.iter_mut().for_each(|word| *word = *word & !(127 << 16) | qp << 16);
                         let at = 12 + (qp as i64 + offsets[offset]).clamp(-12, 57);
                         case.tables[table][at as usize] = value;
+                        if alike {
+                            case.tables[1 - table] = case.tables[table].clone();
+                        }
                         if value == 52 || rng.one_in(3) {
                             tape.record(&case);
                         }
@@ -124,13 +127,16 @@ fn mapped(tape: &mut Tape, rng: &mut Rng) {
         }
     }
     // Every entry but those looked up is wild.
-    for own in [false, true] {
-        let mut case = Picture { own, offsets: [1, -2], ..picture(rng, 16, 8, trees::FINE) };
+    for alike in [false, true] {
+        let mut case = Picture { offsets: [1, -2], ..picture(rng, 16, 8, trees::FINE) };
         case.words.iter_mut().for_each(|word| *word = *word & !(127 << 16) | 40 << 16);
         case.tables = case.tables.map(|table| {
             let looked_up = |i: usize| i == 12 + 41 || i == 12 + 38;
             table.iter().enumerate().map(|(i, &v)| if looked_up(i) { v } else { rng.pick(&[-1, 52]) }).collect()
         });
+        if alike {
+            case.tables[1] = case.tables[0].clone();
+        }
         tape.record(&case);
     }
 }

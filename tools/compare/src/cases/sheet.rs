@@ -66,7 +66,7 @@ fn sheet(rng: &mut Rng, w: usize, h: usize, taste: trees::Taste) -> Sheet {
         width: w.to_string(),
         height: h.to_string(),
         tr_log2: rng.pick(&["5", "6"]).into(),
-        v_edge: rng.pick(&["own", "source"]).into(),
+        v_edge: rng.pick(&["own", "own", "own", "own", "own", "own", "own", "source"]).into(),
         splits: tree.iter().map(|&(.., cut)| if cut { '1' } else { '0' }).collect(),
     }
 }
@@ -153,9 +153,10 @@ fn digits(tape: &mut Tape, rng: &mut Rng) {
     }
 }
 
-/// Two reasons at once: a malformed line first by place, then 1, then 3, then the walk's, then digits left over.
+/// Two reasons at once: a malformed line first by place, then 1, then 3, then 20, then the walk's, then digits left over.
 fn order(tape: &mut Tape, rng: &mut Rng) {
     let good = sheet(rng, 16, 8, trees::MIXED);
+    let good = Sheet { v_edge: "own".into(), ..good };
     let size = Sheet { width: "6".into(), ..good.clone() };
     let limit = Sheet { tr_log2: "4".into(), ..good.clone() };
     let both = Sheet { tr_log2: "4".into(), ..size.clone() };
@@ -165,7 +166,14 @@ fn order(tape: &mut Tape, rng: &mut Rng) {
         }
         put(tape, &[base.bytes(), b"\n".to_vec()].concat());
         put(tape, &Sheet { v_edge: "none".into(), ..base.clone() }.bytes());
+        put(tape, &Sheet { v_edge: "source".into(), ..base.clone() }.bytes());
     }
+    let old = Sheet { v_edge: "source".into(), ..good.clone() };
+    for splits in ["", "0", "1", "2", "00", "11111111111111111111"] {
+        put(tape, &Sheet { splits: splits.into(), ..old.clone() }.bytes());
+    }
+    put(tape, &old.bytes());
+    put(tape, &[old.bytes(), b"\n".to_vec()].concat());
     for (first, second) in [("00", "x"), ("16", "x"), ("x", "16"), ("x", "x")] {
         put(
             tape,

@@ -13,7 +13,6 @@ pub struct Given<'a> {
     pub tables: [&'a [i8]; 2],
     pub strengths: &'a [u8],
     pub limit: usize,
-    pub own: bool,
     pub offsets: [i64; 2],
 }
 
@@ -32,8 +31,7 @@ pub fn deblock(given: &Given, planes: [&mut [u16]; 3], words: &mut [u32]) -> (u3
             edge.filter(y, given.w, edge.entry(None), (qx, qy), 4);
             let place = (qx / 2, qy / 2);
             edge.filter(u, given.w / 2, edge.entry(Some((0, 0))), place, 2);
-            let table = if given.own || along { 1 } else { 0 };
-            edge.filter(v, given.w / 2, edge.entry(Some((table, 1))), place, 2);
+            edge.filter(v, given.w / 2, edge.entry(Some((1, 1))), place, 2);
         }
     }
     words.iter_mut().for_each(|word| *word |= 1 << 31);
@@ -85,11 +83,9 @@ fn mapped(given: &Given, table: usize, offset: usize, qp: i64) -> i64 {
     given.tables[table][(12 + at) as usize] as i64
 }
 
-/// Whether every lookup that the setting may use lies inside 0..51, where the Rust has entries: V's may be of either
-/// table in `source`.
+/// Whether U's lookup and V's lie inside 0..51, where the Rust has entries.
 fn lookups_fit(given: &Given, word: u32) -> bool {
-    let lookups: &[(usize, usize)] = if given.own { &[(0, 0), (1, 1)] } else { &[(0, 0), (0, 1), (1, 1)] };
-    lookups.iter().all(|&(table, offset)| (0..=51).contains(&mapped(given, table, offset, qp_of(word))))
+    (0..2).all(|plane| (0..=51).contains(&mapped(given, plane, plane, qp_of(word))))
 }
 
 /// One unit edge: Q is the current unit, P the one left or above.
@@ -108,7 +104,7 @@ impl<'a> Edge<'a> {
         Edge { given, row: row(given, words, q, p), qp: qp_of(words[q]), along }
     }
 
-    /// The strength entry, for luma or for a chroma table and offset: that of the nearest end where the mapped QP has none.
+    /// The strength entry, for luma or for a chroma plane's table and offset: that of the nearest end where the mapped QP has none.
     fn entry(&self, chroma: Option<(usize, usize)>) -> i64 {
         let qp = chroma.map_or(self.qp, |(table, offset)| mapped(self.given, table, offset, self.qp));
         self.given.strengths[52 * self.row + qp.clamp(0, 51) as usize] as i64
@@ -168,7 +164,7 @@ fn differences(given: &Given, q: usize, p: usize) -> Option<[i64; 4]> {
 }
 
 /// Whether an accepted picture lies in the Rust's domain as to its size, its chroma QPs and its motion: at most 65,536
-/// units, every lookup inside 0..51, and the differences that it takes, up to the first of 4 or more at each visited
+/// units, both chroma tables alike, for on vertical edges the Rust reads the first for V, every lookup inside 0..51, and the differences that it takes, up to the first of 4 or more at each visited
 /// edge, inside -32767..32767.
 pub fn fits(given: &Given, words: &[u32]) -> bool {
     let wide = given.w / 4;
@@ -179,6 +175,7 @@ pub fn fits(given: &Given, words: &[u32]) -> bool {
     let mut pairs = vertical.iter().map(|&edge| (unit(edge), unit(edge) - 1)).collect::<Vec<_>>();
     pairs.extend(horizontal.iter().map(|&edge| (unit(edge), unit(edge) - wide)));
     words.len() <= 65536
+        && given.tables[0] == given.tables[1]
         && words.iter().all(|&word| lookups_fit(given, word))
         && pairs.iter().all(|&(q, p)| taken_fit(given, words, q, p))
 }

@@ -27,6 +27,7 @@ pub const POINTS: u32 = 10;
 pub const PIVOT: u32 = 11;
 pub const SHEET: u32 = 12;
 pub const RECORD: u32 = 13;
+pub const OLD: u32 = 20;
 
 /// Width and height: multiples of 4, from 4 to 4096.
 pub fn size_ok(w: usize, h: usize) -> bool {

@@ -1,5 +1,5 @@
 //! The sheet and its listing, as text.
-use super::{walk, PAST, SETTING, SHEET, SIZE};
+use super::{walk, OLD, PAST, SETTING, SHEET, SIZE};
 
 const MOST_BYTES: usize = 4096;
 
@@ -28,7 +28,7 @@ fn read(bytes: &[u8]) -> Result<Sheet<'_>, Refused> {
     let w = line(bytes, &mut at, 1, "width=", number)?;
     let h = line(bytes, &mut at, 2, "height=", number)?;
     let limit = line(bytes, &mut at, 3, "tr_log2=", number)?;
-    line(bytes, &mut at, 4, "v_edge=", |text| (text == b"own" || text == b"source").then_some(()))?;
+    let edge = line(bytes, &mut at, 4, "v_edge=", |text| (text == b"own" || text == b"source").then_some(text))?;
     let digits = line(bytes, &mut at, 5, "splits=", |text| text.iter().all(|d| b"01".contains(d)).then_some(text))?;
     if at < bytes.len() {
         return Err((SHEET, 6));
@@ -38,6 +38,9 @@ fn read(bytes: &[u8]) -> Result<Sheet<'_>, Refused> {
     }
     if limit != 5 && limit != 6 {
         return Err((SETTING, 0));
+    }
+    if edge == b"source" {
+        return Err((OLD, 0));
     }
     Ok(Sheet { w, h, limit, digits })
 }

@@ -9,11 +9,11 @@ use Rattle.decoder_c.proofs.Deblocks.{deblocked-gives}
 use Rattle.decoder_c.proofs.deblock.lomsakeun_deblock.Statement.{statement}
 use Rattle.decoder_c.proofs.deblock.lomsakeun_deblock.Tie as tie
 
--- the settings that are handed on are those of the flags
-settings : (c : tie.After-settings-of) → let a = c .before .before .before .before .before .before .before .args in c .settings-of .result ≡ settingsOf (a .limit) (a .own) (a .u-offset) (a .v-offset)
+-- the settings that are handed on are those of the numbers
+settings : (c : tie.After-settings-of) → let a = c .before .before .before .before .before .before .before .args in c .settings-of .result ≡ settingsOf (a .limit) (a .u-offset) (a .v-offset)
 settings c =
     let start = c .before .before .before .before .before .before .before in
-    c .settings-of .ensures ∙ ap₂ (λ (u v : ℤ). settingsOf (start .args .limit) (start .args .own) u v) (back w8 _ (start .fits .u-offset)) (back w8 _ (start .fits .v-offset))
+    c .settings-of .ensures ∙ ap₂ (λ (u v : ℤ). settingsOf (start .args .limit) u v) (back w8 _ (start .fits .u-offset)) (back w8 _ (start .fits .v-offset))
 
 returns : tie.Need-returns
 returns c =
