@@ -20,10 +20,12 @@ use Rattle.split.specs.Edges.{Pass, vertical, horizontal, Edge, edgeList}
 use Rattle.split.specs.Picture.{across}
 use Rattle.df_rules.specs.Filter.{filtered, finished}
 use Rattle.df_rules.specs.Places.{unitSide, unitQ, unitP}
+use Rattle.df_rules.specs.Window.{Samples}
 use Rattle.df_rules.specs.Strength.{Maps}
 use Rattle.df_rules.proofs.Alikes.{Alikes, alikes-at, strength-alike}
-use Rattle.df_rules.proofs.Planes.{run-same, finished-long}
-use Rattle.bands_rules.specs.Bands.{edgeDown, bandRows, bandBytes, listFrom, bandList, rowsAbove, rowsBefore, mapsPart, placesOf, inPart, called, calledAll}
+use Rattle.df_rules.proofs.Planes.{run-same, finished-long, finished-small}
+use Rattle.bands_rules.specs.Bands.{edgeDown, bandBytes, listFrom, bandList, mapsPart, placesOf, inPart, called, calledAll}
+use Rattle.df_check.specs.Rows.{bandRows, rowsAbove, rowsBefore}
 use Rattle.bands_rules.proofs.Down.{band}
 use Rattle.bands_rules.proofs.Joined.{lastTwo, banded, bands-finished, bands-final, bands-below}
 use Rattle.bands_rules.proofs.Lists.{BandDone, Lies, list-in}
@@ -72,6 +74,12 @@ module _ (m : Maps) (t : List ℕ) (at : ℕ → ℕ) (c : Component) (short : B
   calls-long (suc n) l p long =
       let i = calls-long n (omega arith) p long in
       ap length (called-finished n l _ i) ∙ finished-long m t at c w _ _ _ ∙ i
+
+  pub calls-small : (n : ℕ) → n ≤ across h → (p : List ℕ) → length p ≡ placesOf c w h → Samples p → Samples (calledAll m t at c short s w h n p)
+  unfolding calledAll
+  calls-small zero l p long g = g
+  calls-small (suc n) l p long g =
+      subst Samples (sym (called-finished n l _ (calls-long n (omega arith) p long))) (finished-small m t at c w _ _ _ (calls-small n (omega arith) p long g))
 
   calls-banded : (n : ℕ) → n ≤ across h → (p : List ℕ) → length p ≡ placesOf c w h → calledAll m t at c short s w h n p ≡ banded m t at c short s w h pos walked n p
   unfolding calledAll banded

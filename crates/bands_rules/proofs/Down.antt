@@ -21,7 +21,8 @@ use Rattle.split.specs.Picture.{across, roots, rootBytes, rootX, rootY, rootWal
 use Rattle.split.specs.Walk.{Leaf, leaf, Walk, met, nothing, onward, andThen, inTurn, leafWalk, byByte, place, part, walk}
 use Rattle.split.proofs.Induct.{test}
 use Rattle.split.specs.RootCall.{leafDown}
-use Rattle.bands_rules.specs.Bands.{walkDown, bandRows, bandBytes}
+use Rattle.bands_rules.specs.Bands.{walkDown, bandBytes}
+use Rattle.df_check.specs.Rows.{bandRows}
 
 pub map-append : {A B : Type 0} (f : A → B) (l m : List A) → map f (l ++ m) ≡ map f l ++ map f m
 map-append f [] m = refl

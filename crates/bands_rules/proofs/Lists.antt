@@ -28,7 +28,8 @@ use Rattle.split.proofs.Induct.{test}
 use Rattle.split.proofs.Sides.{and-true}
 use Rattle.split.proofs.Walks.{each-done, turn-done}
 use Rattle.split.specs.RootCall.{leafDown}
-use Rattle.bands_rules.specs.Bands.{walkDown, bandRows, bandBytes, listFrom, bandList, joined}
+use Rattle.bands_rules.specs.Bands.{walkDown, bandBytes, listFrom, bandList, joined}
+use Rattle.df_check.specs.Rows.{bandRows}
 use Rattle.bands_rules.proofs.Down.{Band, band, root-down, band-leaves}
 
 -- ---- the lists

@@ -4,16 +4,15 @@
 use mathlib.Core.Bool.{Bool}
 use mathlib.Core.List.{List, [], _++_, map}
 use mathlib.Core.Path.{_≡_}
-use Prim.Native.Nat.{ℕ, zero, suc, _+_, _-_, _*_, _/_}
-use lib.Dec.{leb}
+use Prim.Native.Nat.{ℕ, zero, suc, _+_, _*_}
 use lib.IntN.{ℤ}
 use lib.ListN.{length, take, drop}
 use Rattle.def.specs.declared.Component.{Component}
-use Rattle.laws.specs.Index.{pick}
 use Rattle.split.specs.Edges.{Pass, vertical, horizontal, Edge, edge, edgesOf, Visit, visit}
 use Rattle.split.specs.Picture.{across, allLeaves}
 use Rattle.split.specs.RootCall.{leafDown}
 use Rattle.split.specs.Walk.{Walk, met}
+use Rattle.df_check.specs.Rows.{bandRows, rowsAbove, rowsBefore}
 use Rattle.df_rules.specs.Filter.{Planes, filterAll, finished}
 use Rattle.df_rules.specs.Places.{unitSide}
 use Rattle.df_rules.specs.Strength.{Maps}
@@ -31,10 +30,6 @@ abbrev pub walkDown : ℕ → Walk → Walk
 walkDown r v = met (map (leafDown r) (v .list)) (v .answer)
 
 -- ---- a band of a picture
-
--- its rows of units
-unfoldable pub bandRows : (h k : ℕ) → ℕ
-bandRows h k = pick (leb (16 * k + 16) h) 16 (h - 16 * k)
 
 -- its own split bytes
 abbrev pub bandBytes : List ℕ → (w k : ℕ) → List ℕ
@@ -66,15 +61,6 @@ joined f zero = []
 joined f (suc n) = joined f n ++ f n
 
 -- ---- what a band's call is lent: the band above, if any, and the band
-
--- rows of units above the band, and before what is lent
-abbrev pub rowsAbove : ℕ → ℕ
-rowsAbove zero = 0
-rowsAbove (suc k) = 16
-
-abbrev pub rowsBefore : ℕ → ℕ
-rowsBefore zero = 0
-rowsBefore (suc k) = 16 * k
 
 -- b of the picture's rows of units from row a on: in a map of m numbers a unit; in a plane
 abbrev pub mapPart : {A : Type 0} → (m w a b : ℕ) → List A → List A

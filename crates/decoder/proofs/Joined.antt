@@ -1,6 +1,7 @@
 -- What the driver leaves is accepted by deblocking: none of 1, 4 and 5, no 2 for the planes, the words and the split bytes, no 6 for a luma QP, and no 7.
 -- Assumes nothing.
 use Prim.Native.Nat.{_*_, _/_}
+use native.Mathlib.Nat.{mul-zero}
 use mathlib.Core.Bool.{true}
 use mathlib.Core.Path.{_≡_, sym, ap, _∙_}
 use borrow.Author.Tests.{eq-eqb}
@@ -58,7 +59,7 @@ module _ (i : driver.Input) (fine : driver.check i ≡ Done) where
     long-splits : length (j .splits) ≡ 1024 * rootCount (j .w) (j .h)
     long-splits = ap length (f .splits) ∙ all-passed i fine .accepted .long ∙ (λ k. 1024 * rootCount (sym (f .w) k) (sym (f .h) k))
 
-    lengths : deblocking.lengthsOk (j .w) (j .h) (deblocking.lengthsOf j) ≡ true
+    lengths : deblocking.lengthsOk (j .w) (j .h) (j .h) (deblocking.lengthsOf j) ≡ true
     unfolding deblocking.lengthsOk
     lengths =
         rw (
@@ -85,5 +86,5 @@ module _ (i : driver.Input) (fine : driver.check i ≡ Done) where
         rw (ap samplesOk is-y ∙ e .y-small, ap samplesOk is-u ∙ e .u-small, ap samplesOk is-v ∙ e .v-small)
 
     pub joined : deblocking.checkOf j ≡ Done
-    unfolding deblocking.checkOf
-    joined = rw (sides, lengths, l .settings, walked, qps, samples)
+    unfolding deblocking.checkOf deblocking.fromLengths
+    joined = rw (mul-zero (j .w), mul-zero (j .w / 2), mul-zero (j .w / 4), sides, lengths, l .settings, walked, qps, samples)

@@ -25,7 +25,7 @@ use Rattle.def.specs.Picture.{sizeOk, unitCount, rootCount}
 use Rattle.def.specs.Refusals.{numberOf}
 use Rattle.def.specs.Word.{flagAt}
 use Rattle.def.specs.declared.Refusal.{Refusal}
-use Rattle.def.specs.declared.Refusal.the-variants.{Size, Length, Setting, Split, Leaf, Qp, Sample, Block, Mode, Points as BadPoints, Pivot, Sheet, Record, Old}
+use Rattle.def.specs.declared.Refusal.the-variants.{Size, Length, Setting, Split, Leaf, Qp, Sample, Block, Mode, Points as BadPoints, Pivot, Sheet, Record, Band, Old}
 use Rattle.def.specs.declared.Component.the-variants.{Luma}
 use Rattle.def.proofs.Answers.{answer-apart}
 use Rattle.samples.specs.Samples.{samplesOk}
@@ -56,9 +56,12 @@ use Rattle.split.specs.Picture.{leavesOf}
 use Rattle.split.specs.RootCall as root-list
 use Rattle.split.specs.Walk.{onward, inTurn, leafWalk, byByte, walk}
 use Rattle.split.proofs.Apart.{leaves-apart, list-apart}
+use Rattle.df_check.specs.BandCheck as band-checks
 use Rattle.df_check.specs.Checks as checks
+use Rattle.df_check.specs.Rows.{bandRows}
+use Rattle.df.specs.Band as band
 use Rattle.df.specs.Deblock as deblock
-use Rattle.df.proofs.Apart.{reading-apart as deblocked-apart}
+use Rattle.df.proofs.Apart.{reading-apart as deblocked-apart, banded-apart}
 use Rattle.sheet_lines.specs.Lines.{startOf, lineOf, startsWith, isNumber, numberLine, edgeLine, oldEdge, sameLine, splitsLine, numberAfter, valueFrom, lineOk, firstBad, widthOf, heightOf, limitOf, oldOf, digitsOf}
 use Rattle.sheet_lines.specs.ReadCall as sheet
 use Rattle.sheet_lines.specs.Words.{widthKey, heightKey, limitKey, ownEdge, sourceEdge, splitsKey}
@@ -103,6 +106,10 @@ use Rattle.decoder.proofs.list_edges.Kinds as list-edges-kinds
 use Rattle.decoder.proofs.list_edges.Reads as list-edges-reads
 use Rattle.decoder.proofs.root_list.Kinds as root-list-kinds
 use Rattle.decoder.proofs.root_list.Reads as root-list-reads
+use Rattle.df.proofs.band.Bands.deblock_band.Kinds as deblock-band-kinds
+use Rattle.df.proofs.band.Bands.deblock_band.Reads as deblock-band-reads
+use Rattle.decoder.proofs.checked_band.Kinds as checked-band-kinds
+use Rattle.decoder.proofs.checked_band.Reads as checked-band-reads
 use Rattle.decoder.proofs.deblock.Kinds as deblock-kinds
 use Rattle.decoder.proofs.deblock.Reads as deblock-reads
 use Rattle.decoder.proofs.checked_leaves.Kinds as checked-leaves-kinds
@@ -548,18 +555,22 @@ filterings =
 abbrev by-deblocking : List Refusal
 by-deblocking = Size ∷ Length ∷ Setting ∷ Split ∷ Leaf ∷ Qp ∷ Sample ∷ []
 
+-- from the lengths on, of a picture or of a band
+rest-stops : (lent own before : ℕ) (i : checks.Input) → Stops (Length ∷ Setting ∷ Split ∷ Leaf ∷ Qp ∷ Sample ∷ []) (checks.fromLengths lent own before i)
+unfolding checks.fromLengths
+rest-stops lent own before i =
+    rung (checks.lengthsOk (i .w) lent own (checks.lengthsOf i)) Length _
+    (rung (checks.settingsOk (i .settings)) Setting _
+    (walk-rung (Qp ∷ Sample ∷ []) _ _ (picture-stops (i .splits) (i .w / 4) (own / 4))
+    (rung (checks.qpsOk _) Qp _
+    (rung (checks.planesOk _ _ _) Sample _ last))))
+
 checks-stop : (i : checks.Input) → Stops by-deblocking (checks.checkOf i)
 unfolding checks.checkOf
-checks-stop i =
-    rung (sizeOk (i .w) (i .h)) Size _
-    (rung (checks.lengthsOk (i .w) (i .h) (checks.lengthsOf i)) Length _
-    (rung (checks.settingsOk (i .settings)) Setting _
-    (walk-rung (Qp ∷ Sample ∷ []) _ _ (picture-stops (i .splits) (i .w / 4) (i .h / 4))
-    (rung (checks.qpsOk (i .words)) Qp _
-    (rung (checks.planesOk (i .y) (i .u) (i .v)) Sample _ last)))))
+checks-stop i = rung (sizeOk (i .w) (i .h)) Size _ (rest-stops (i .h) (i .h) 0 i)
 
 pub deblock-refusals : Refuses deblock.outcome (λ o. o .reading .number) by-deblocking
-unfolding deblock.outcome checks.checkOf checks.lengthsOk checks.settingsOk checks.offsetOk checks.qpsOk checks.planesOk list.limitOk sizeOk walk byByte inTurn onward leafWalk samplesOk allBelow fieldOf
+unfolding deblock.outcome checks.checkOf checks.fromLengths checks.lengthsOk checks.settingsOk checks.offsetOk checks.qpsOk checks.planesOk list.limitOk sizeOk walk byByte inTurn onward leafWalk samplesOk allBelow fieldOf
 deblock-refusals =
     record {
       only = λ i. by-checks (λ o. o .reading .number) (deblock.refused i) (deblock.done i) by-deblocking (deblock.check i) (λ r. refl) refl (checks-stop (deblock.checked i));
@@ -568,8 +579,73 @@ deblock-refusals =
     }
 
 pub checked-refusals : Refuses checks.checkOf answerNumber by-deblocking
-unfolding checks.checkOf checks.lengthsOk checks.settingsOk checks.offsetOk checks.qpsOk checks.planesOk list.limitOk sizeOk walk byByte inTurn onward leafWalk samplesOk allBelow fieldOf
+unfolding checks.checkOf checks.fromLengths checks.lengthsOk checks.settingsOk checks.offsetOk checks.qpsOk checks.planesOk list.limitOk sizeOk walk byByte inTurn onward leafWalk samplesOk allBelow fieldOf
 checked-refusals = record { only = λ i. checks-stop i .by; shown = map deblock.checked filterings; given = refl }
+
+-- ---- deblocking by bands
+
+pub deblock-band-once : Sole 10 deblock-band-kinds.ps deblock-band-kinds.r deblock-band-reads.Post
+    (λ κs r x. ended r (now (x .1 .1 .1 .1 .0) ∷ now (x .1 .1 .1 .1 .1 .0) ∷ now (x .1 .1 .1 .1 .1 .1 .0) ∷ now (x .1 .1 .1 .1 .1 .1 .1 .0) ∷ []))
+deblock-band-once κs a r r′ x x′ p q = settled band.outcome (λ o. o .reading) (λ o. o .y ∷ o .u ∷ o .v ∷ o .words ∷ []) p q (banded-apart r r′)
+
+pub checked-band-once : Sole 5 checked-band-kinds.ps checked-band-kinds.r checked-band-reads.Post (λ κs r x. r)
+checked-band-once κs a r r′ x x′ p q = one-outcome band-checks.checkOf _ _ _ p q
+
+-- the band of such a picture, for the call that the position has next
+abbrev banding : deblock.Input → ℕ → band.Input
+banding i k =
+    record {
+      next = 0;
+      band = k;
+      w = i .w;
+      h = i .h;
+      y = i .y;
+      u = i .u;
+      v = i .v;
+      words = i .words;
+      splits = i .splits;
+      motion = i .motion;
+      refs = i .refs;
+      table0 = i .table0;
+      table1 = i .table1;
+      strengths = i .strengths;
+      settings = i .settings;
+    }
+
+abbrev bandings : List band.Input
+bandings =
+    banding (filtering 0 [] 5 0 0) 1
+    ∷ banding (filtering 4 [] 5 0 0) 1
+    ∷ banding (filtering 4 [] 5 0 0) 0
+    ∷ banding (filtering 4 (root 2) 7 0 0) 0
+    ∷ banding (filtering 4 (root 2) 5 3407872 1024) 0
+    ∷ banding (filtering 4 (root 0) 5 3407872 1024) 0
+    ∷ banding (filtering 4 (root 1) 5 3407872 1024) 0
+    ∷ banding (filtering 4 (root 1) 5 0 1024) 0
+    ∷ []
+
+abbrev by-band : List Refusal
+by-band = Size ∷ Band ∷ Length ∷ Setting ∷ Split ∷ Leaf ∷ Qp ∷ Sample ∷ []
+
+band-stops : (i : band-checks.Input) → Stops by-band (band-checks.checkOf i)
+unfolding band-checks.checkOf
+band-stops i =
+    rung (sizeOk (i .lent .w) (i .lent .h)) Size _
+    (rung (band-checks.bandOk (i .next) (i .band) (i .lent .h)) Band _
+    (rest-stops _ _ _ (i .lent)))
+
+pub deblock-band-refusals : Refuses band.outcome (λ o. o .reading .number) by-band
+unfolding band.outcome band-checks.checkOf band-checks.bandOk bandRows checks.fromLengths checks.lengthsOk checks.settingsOk checks.offsetOk checks.qpsOk checks.planesOk list.limitOk sizeOk walk byByte inTurn onward leafWalk samplesOk allBelow fieldOf
+deblock-band-refusals =
+    record {
+      only = λ i. by-checks (λ o. o .reading .number) (band.refused i) (band.done i) by-band (band.check i) (λ r. refl) refl (band-stops (band.checked i));
+      shown = bandings;
+      given = refl;
+    }
+
+pub checked-band-refusals : Refuses band-checks.checkOf answerNumber by-band
+unfolding band-checks.checkOf band-checks.bandOk bandRows checks.fromLengths checks.lengthsOk checks.settingsOk checks.offsetOk checks.qpsOk checks.planesOk list.limitOk sizeOk walk byByte inTurn onward leafWalk samplesOk allBelow fieldOf
+checked-band-refusals = record { only = λ i. band-stops i .by; shown = map band.checked bandings; given = refl }
 
 -- ---- the sheet
 

@@ -56,6 +56,12 @@ use Rattle.decoder.proofs.mode_of.Kinds as mode-of-kinds
 use Rattle.decoder.proofs.mode_of.Reads as mode-of-reads
 use Rattle.decoder.proofs.word_of.Kinds as word-of-kinds
 use Rattle.decoder.proofs.word_of.Reads as word-of-reads
+use Rattle.df.proofs.band.Bands.first.Kinds as first-kinds
+use Rattle.df.proofs.band.Bands.first.Reads as first-reads
+use Rattle.decoder.proofs.band_rows.Kinds as band-rows-kinds
+use Rattle.decoder.proofs.band_rows.Reads as band-rows-reads
+use Rattle.decoder.proofs.rows_above.Kinds as rows-above-kinds
+use Rattle.decoder.proofs.rows_above.Reads as rows-above-reads
 use Rattle.decoder.proofs.mask_of.Kinds as mask-of-kinds
 use Rattle.decoder.proofs.mask_of.Reads as mask-of-reads
 use Rattle.decoder.proofs.line.Kinds as line-kinds
@@ -141,6 +147,15 @@ mode-of-once κs a r r′ x x′ p q = p ∙ sym q
 
 pub word-of-once : Sole 0 word-of-kinds.ps word-of-kinds.r word-of-reads.Post (λ κs r x. r)
 word-of-once κs a r r′ x x′ p q = p ∙ sym q
+
+pub first-once : Sole 0 first-kinds.ps first-kinds.r first-reads.Post (λ κs r x. r)
+first-once κs a r r′ x x′ p q = λ i. record { next = (p ∙ sym q) i }
+
+pub band-rows-once : Sole 0 band-rows-kinds.ps band-rows-kinds.r band-rows-reads.Post (λ κs r x. r)
+band-rows-once κs a r r′ x x′ p q = p ∙ sym q
+
+pub rows-above-once : Sole 0 rows-above-kinds.ps rows-above-kinds.r rows-above-reads.Post (λ κs r x. r)
+rows-above-once κs a r r′ x x′ p q = p ∙ sym q
 
 pub mask-of-once : Sole 0 mask-of-kinds.ps mask-of-kinds.r mask-of-reads.Post (λ κs r x. r)
 mask-of-once κs a r r′ x x′ p q = p ∙ sym q

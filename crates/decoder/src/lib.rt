@@ -9,7 +9,7 @@
 //     6 residual        recon, recon_plane
 //     7 driver          reconstruct; checked_leaves, coded_y, coded_u, coded_v, mode_of, word_of
 //     8 walk            leaves, check, visiting_rank, list_edges, root_list
-//       deblocking      deblock; checked, entries, mask_of, line, lanes, motion_row
+//       deblocking      deblock; Bands::first, deblock_band; checked, checked_band, band_rows, rows_above, entries, mask_of, line, lanes, motion_row
 //     the sheet         read, listing
 pub use avail::Avail;
 pub use avail::Neighbours;
@@ -41,10 +41,15 @@ pub use def::refusal_number;
 pub use def::set_cod;
 pub use def::size_ok;
 pub use def::unit_ok;
+pub use df::Banded;
+pub use df::Bands;
 pub use df::Deblocked;
 pub use df::deblock;
 pub use df_check::Settings;
+pub use df_check::band_rows;
 pub use df_check::checked;
+pub use df_check::checked_band;
+pub use df_check::rows_above;
 pub use driver::reconstruct;
 pub use driver_check::checked_leaves;
 pub use driver_check::coded_u;

@@ -1,8 +1,11 @@
 // Deblocking.
 ghost use mathlib.Core.Path.{_≡_};
 ghost use Rattle.laws.specs.Call.{Gives};
+ghost use Rattle.df.specs.Band as banding;
 ghost use Rattle.df.specs.Deblock as deblocking;
 ghost use Rattle.decoder_c.specs.Flags.{settingsOf};
+use df::Banded;
+use df::Bands;
 use df::Deblocked;
 use df_check::Settings;
 
@@ -103,6 +106,110 @@ pub extern "C" fn lomsakeun_deblock(
         strengths,
         settings,
     ));
+    *vertical_count = seen.vertical;
+    *horizontal_count = seen.horizontal;
+    seen.number
+}
+
+// An answer of a band in numbers: the counts are 0 where refused.
+struct BandCounts {
+    number: u8,
+    vertical: usize,
+    horizontal: usize,
+    next: usize,
+}
+
+fn band_counts_of(a: Banded) -> BandCounts
+    ensures { λ r. ⌜ (r .number ≡ banding.readingOf a .number) × (r .vertical ≡ banding.readingOf a .vertical) × (r .horizontal ≡ banding.readingOf a .horizontal) × (r .next ≡ banding.readingOf a .next) ⌝ }
+{
+    match a {
+        Banded::Done {
+            vertical,
+            horizontal,
+            next,
+        } => BandCounts {
+            number: 0,
+            vertical,
+            horizontal,
+            next: next.next,
+        },
+        Banded::Refused(r, at) => BandCounts {
+            number: def::refusal_number(r),
+            vertical: 0,
+            horizontal: 0,
+            next: at.next,
+        },
+    }
+}
+
+// The position goes in and out through `next`: it starts at 0, and on a refusal it stays as it was.
+#[no_mangle]
+pub extern "C" fn lomsakeun_deblock_band(
+    next: &mut usize,
+    band: usize,
+    w: usize,
+    h: usize,
+    y: &mut [u16],
+    u: &mut [u16],
+    v: &mut [u16],
+    words: &mut [u32],
+    splits: &[u8],
+    motion: &[i16],
+    refs: &[i8],
+    table0: &[i8],
+    table1: &[i8],
+    strengths: &[u8],
+    limit: u8,
+    u_offset: i8,
+    v_offset: i8,
+    vertical_count: &mut usize,
+    horizontal_count: &mut usize,
+) -> u8
+    ensures { λ n. ⌜ Gives banding.outcome
+        (record {
+          next = now (next .entry);
+          band = band;
+          w = w;
+          h = h;
+          y = now (y .entry);
+          u = now (u .entry);
+          v = now (v .entry);
+          words = now (words .entry);
+          splits = now (splits .entry);
+          motion = now (motion .entry);
+          refs = now (refs .entry);
+          table0 = now (table0 .entry);
+          table1 = now (table1 .entry);
+          strengths = now (strengths .entry);
+          settings = settingsOf limit «u_offset» «v_offset»;
+        })
+        (record {
+          reading = record { number = n; vertical = now («vertical_count» .exit); horizontal = now («horizontal_count» .exit); next = now (next .exit) };
+          y = now (y .exit);
+          u = now (u .exit);
+          v = now (v .exit);
+          words = now (words .exit);
+        }) ⌝ }
+{
+    let settings = settings_of(limit, u_offset, v_offset);
+    let at = Bands { next: *next };
+    let seen = band_counts_of(at.deblock_band(
+        band,
+        w,
+        h,
+        y,
+        u,
+        v,
+        words,
+        splits,
+        motion,
+        refs,
+        table0,
+        table1,
+        strengths,
+        settings,
+    ));
+    *next = seen.next;
     *vertical_count = seen.vertical;
     *horizontal_count = seen.horizontal;
     seen.number

@@ -3,50 +3,86 @@
 use Prim.Native.Nat.{ℕ, zero, suc, _+_, _-_, _*_, _/_, _≤_, _<_}
 use mathlib.Core.Path.{_≡_, refl, sym, ap, ap₂, _∙_, subst}
 use mathlib.Core.List.{List, [], _∷_, _++_, map, append-nil, append-assoc, List·Memᴰ}
-use mathlib.Core.Bool.{Bool}
+use mathlib.Core.Bool.{Bool, true}
 use mathlib.Core.Logic.{inl, inr}
-use native.Mathlib.Nat.{add-mul, mul-comm}
+use native.Mathlib.Nat.{add-mul, mul-comm, mul-assoc, mul-le-mul}
 use native.Mathlib.Omega.{arith}
 use borrow.Author.Tests.{leb-true}
 use lib.Dec.{eqb, leb}
 use lib.IntN.{ℤ}
 use lib.ListN.{length, getD, take, drop, length-drop, drop-of-length-le, take-append-drop}
 use lib.Seq.{take-all, take-add, drop-drop}
+use Rattle.def.proofs.Sizes.{sized}
 use Rattle.def.specs.Word.{qpOf}
-use Rattle.def.specs.declared.Answer.the-variants.{Done}
+use Rattle.def.specs.declared.Answer.{Answer}
+use Rattle.def.specs.declared.Answer.the-variants.{Done, Refused as Bad}
+use Rattle.def.specs.declared.Refusal.{Refusal}
 use Rattle.def.specs.declared.Component.{Component}
 use Rattle.def.specs.declared.Component.the-variants.{Luma, Chroma}
 use Rattle.laws.proofs.Flat.{flat-within}
 use Rattle.laws.proofs.Scans.{scan-at}
+use Rattle.samples.specs.Samples.{samplesOk}
+use Rattle.samples.proofs.Samples.{sample-any}
 use Rattle.split.specs.Edges.{Pass, vertical, horizontal, Edge}
+use Rattle.split.specs.Picture.{pictureWalk}
 use Rattle.strength.specs.Entries.{entriesOf}
 use Rattle.strength.proofs.Strengths.{luma-entry, u-entry, v-entry}
-use Rattle.df_check.specs.Checks.{qpsOk}
+use Rattle.df_check.proofs.Bands.{band-size, few-above, few-rows}
+use Rattle.df_check.proofs.Passed.{word-any}
 use Rattle.df_rules.specs.Filter.{Planes, inY, inU, inV, filterAll, finished}
+use Rattle.df_rules.specs.Frame.{Frame}
+use Rattle.df_rules.specs.Leaves.{Accepted}
 use Rattle.df_rules.specs.Places.{unitQ, unitP}
+use Rattle.df_rules.specs.Window.{Samples}
 use Rattle.df_rules.specs.Visit.{allDone}
 use Rattle.df_rules.specs.Strength.{Maps, rowAt, qpAt, strengthOf, strength}
 use Rattle.df_rules.proofs.Planes.{planes-finished}
 use Rattle.df_rules.proofs.Strengths.{row-few}
-use Rattle.bands_rules.specs.Bands.{edgeDown, listFrom, rowsAbove, mapPart, mapsPart, placesOf, inPart, doneFrom, Both}
+use Rattle.bands_rules.specs.Bands.{edgeDown, listFrom, mapPart, mapsPart, placesOf, inPart, doneFrom, Both}
+use Rattle.df_check.specs.Rows.{rowsAbove}
 use Rattle.bands_rules.proofs.Lists.{Lies, list-in}
 use Rattle.bands_rules.proofs.Parts.{Keeps, finished-part, list-down}
 use Rattle.df.specs.Band as band
-use Rattle.df.proofs.Joined.{Told, told, is-done}
+use Rattle.df.proofs.Joined.{Told, told, is-done, stepOf, places-step}
 
 -- of the rows above those that are handed to the passes, and those that are not
-abbrev near : ℕ → ℕ
+abbrev pub near : ℕ → ℕ
 near zero = 0
 near (suc k) = 1
 
-near-skip : (k : ℕ) → near k + (rowsAbove k - 1) ≡ rowsAbove k
+pub near-skip : (k : ℕ) → near k + (rowsAbove k - 1) ≡ rowsAbove k
 near-skip zero = refl
 near-skip (suc k) = refl
+
+near-few : (k : ℕ) → near k ≤ 1
+near-few zero = omega arith
+near-few (suc k) = omega arith
 
 keeps-near : (d : Pass) (k : ℕ) → Keeps d (near k) (rowsAbove k - 1)
 keeps-near vertical k = tt
 keeps-near horizontal zero = inr refl
 keeps-near horizontal (suc k) = inl (omega arith)
+
+pub band-refused : (j : band.Input) (a : Answer) → a ≡ band.check j → (r : Refusal) → a ≡ Bad r → band.refused j r ≡ band.outcome j
+unfolding band.outcome
+band-refused j a e r f = rw (sym e ∙ f)
+
+-- the samples of s rows of w units
+pub luma-rows : (s w : ℕ) → 16 * (s * w) ≡ placesOf Luma w s
+luma-rows s w =
+    let e = mul-comm s w in
+    let f = mul-comm s (4 * (4 * w)) in
+    let g = mul-assoc 4 (4 * w) s in
+    let h = mul-assoc 4 w s in
+    omega (arith, places-step Luma w s)
+
+pub chroma-rows : (s w : ℕ) → 4 * (s * w) ≡ placesOf Chroma w s
+chroma-rows s w =
+    let e = mul-comm s w in
+    let f = mul-comm s (2 * (2 * w)) in
+    let g = mul-assoc 2 (2 * w) s in
+    let h = mul-assoc 2 w s in
+    omega (arith, places-step Chroma w s)
 
 module _ (j : band.Input) (fine : band.check j ≡ Done) (pos : 1 ≤ band.wide j) where
   abbrev w : ℕ
@@ -85,39 +121,30 @@ module _ (j : band.Input) (fine : band.check j ≡ Done) (pos : 1 ≤ band.wide 
   list-lent : (d : Pass) → map (edgeDown skip) (list d) ≡ band.passEdges d j
   list-lent d = sym (list-down d short top skip (keeps-near d (j .band)) (j .splits) w n) ∙ ap (λ (r : ℕ). listFrom d short r (j .splits) w n) (near-skip (j .band))
 
-  module _ (long : length (j .words) ≡ (rowsAbove (j .band) + n) * w) where
-    own-words : length (band.checkedWords j) ≡ (top + n) * w
-    own-words = omega (arith, length-drop (skip * w) (j .words), add-mul skip (top + n) w, ap (λ (z : ℕ). z * w) (sum-rows (j .band))) where
-      sum-rows : (k : ℕ) → rowsAbove k + n ≡ rowsAbove k - 1 + (near k + n)
-      sum-rows k = omega (arith, near-skip k)
+  few : (q : ℕ) → qpOf (getD (m .words) q 0) ≤ 51
+  few = word-any (m .words) (t .qps)
 
-    unit-at : (d : Pass) (e : Edge) → List·Memᴰ e (list d) → qpOf (getD (m .words) (unitQ w e) 0) ≤ 51
-    unfolding qpsOk
-    unit-at d e i =
-        let l = lies d e i in
-        leb-true _ _ (scan-at (λ (k : ℕ). leb (qpOf (getD (m .words) k 0)) 51) (length (m .words)) (unitQ w e) (subst (λ (z : ℕ). unitQ w e < z) (sym own-words) (flat-within (e .y) (e .x) w (top + n) (l .column) (l .below))) (t .qps))
+  module _ (d : Pass) (e : Edge) (i : List·Memᴰ e (list d)) where
+    same-y : strength m entriesIn inY d w e ≡ strength m (j .strengths) (band.qpY j) d w e
+    unfolding strengthOf
+    same-y = ap (λ (k : ℕ). 4 * k) (luma-entry _ _ _ _ _ (rowAt m (unitQ w e) (unitP d w e)) (qpAt m (unitQ w e)) (row-few m (unitQ w e) (unitP d w e)) (few (unitQ w e)))
 
-    module _ (d : Pass) (e : Edge) (i : List·Memᴰ e (list d)) where
-      same-y : strength m entriesIn inY d w e ≡ strength m (j .strengths) (band.qpY j) d w e
-      unfolding strengthOf
-      same-y = ap (λ (k : ℕ). 4 * k) (luma-entry _ _ _ _ _ (rowAt m (unitQ w e) (unitP d w e)) (qpAt m (unitQ w e)) (row-few m (unitQ w e) (unitP d w e)) (unit-at d e i))
+    same-u : strength m entriesIn inU d w e ≡ strength m (j .strengths) (band.qpU j) d w e
+    unfolding strengthOf
+    same-u = ap (λ (k : ℕ). 4 * k) (u-entry _ _ _ _ _ (rowAt m (unitQ w e) (unitP d w e)) (qpAt m (unitQ w e)) (row-few m (unitQ w e) (unitP d w e)) (few (unitQ w e)))
 
-      same-u : strength m entriesIn inU d w e ≡ strength m (j .strengths) (band.qpU j) d w e
-      unfolding strengthOf
-      same-u = ap (λ (k : ℕ). 4 * k) (u-entry _ _ _ _ _ (rowAt m (unitQ w e) (unitP d w e)) (qpAt m (unitQ w e)) (row-few m (unitQ w e) (unitP d w e)) (unit-at d e i))
+    same-v : strength m entriesIn inV d w e ≡ strength m (j .strengths) (band.qpV j) d w e
+    unfolding strengthOf
+    same-v = ap (λ (k : ℕ). 4 * k) (v-entry _ _ _ _ _ (rowAt m (unitQ w e) (unitP d w e)) (qpAt m (unitQ w e)) (row-few m (unitQ w e) (unitP d w e)) (few (unitQ w e)))
 
-      same-v : strength m entriesIn inV d w e ≡ strength m (j .strengths) (band.qpV j) d w e
-      unfolding strengthOf
-      same-v = ap (λ (k : ℕ). 4 * k) (v-entry _ _ _ _ _ (rowAt m (unitQ w e) (unitP d w e)) (qpAt m (unitQ w e)) (row-few m (unitQ w e) (unitP d w e)) (unit-at d e i))
-
-    -- the parts that were handed to the passes, in the words of the rule
-    parts-done : (p q : Planes) (words : List ℕ) (ver hor : ℕ) → Both m entriesIn w top (list vertical) (list horizontal) p q words ver hor
-        → q ≡ record {
-          y = finished m (j .strengths) (band.qpY j) Luma w (list vertical) (list horizontal) (p .y);
-          u = finished m (j .strengths) (band.qpU j) Chroma w (list vertical) (list horizontal) (p .u);
-          v = finished m (j .strengths) (band.qpV j) Chroma w (list vertical) (list horizontal) (p .v);
-        }
-    parts-done p q words ver hor b = b .planes ∙ planes-finished m entriesIn w list (j .strengths) (band.qpY j) (band.qpU j) (band.qpV j) same-y same-u same-v p
+  -- the parts that were handed to the passes, in the words of the rule
+  parts-done : (p q : Planes) (words : List ℕ) (ver hor : ℕ) → Both m entriesIn w top (list vertical) (list horizontal) p q words ver hor
+      → q ≡ record {
+        y = finished m (j .strengths) (band.qpY j) Luma w (list vertical) (list horizontal) (p .y);
+        u = finished m (j .strengths) (band.qpU j) Chroma w (list vertical) (list horizontal) (p .u);
+        v = finished m (j .strengths) (band.qpV j) Chroma w (list vertical) (list horizontal) (p .v);
+      }
+  parts-done p q words ver hor b = b .planes ∙ planes-finished m entriesIn w list (j .strengths) (band.qpY j) (band.qpU j) (band.qpV j) same-y same-u same-v p
 
   -- ---- and what is lent, whole
 
@@ -142,6 +169,15 @@ module _ (j : band.Input) (fine : band.check j ≡ Done) (pos : 1 ≤ band.wide 
   rows-sum : skip + (top + n) ≡ rowsAbove (j .band) + n
   rows-sum = omega (arith, near-skip (j .band))
 
+  -- what is handed to the passes, and what is not, is what is lent
+  places-sum : (c : Component) → placesOf c w skip + placesOf c w (top + n) ≡ placesOf c w (rowsAbove (j .band) + n)
+  places-sum c =
+      (λ i. places-step c w skip i + places-step c w (top + n) i) ∙ sym (add-mul skip (top + n) (stepOf c w))
+      ∙ ap (λ (z : ℕ). z * stepOf c w) rows-sum ∙ sym (places-step c w (rowsAbove (j .band) + n))
+
+  long-by : (c : Component) {l : ℕ} → l ≡ placesOf c w (rowsAbove (j .band) + n) → l ≡ placesOf c w skip + placesOf c w (top + n)
+  long-by c e = e ∙ sym (places-sum c)
+
   maps-same : length (j .words) ≡ (rowsAbove (j .band) + n) * w → length (j .motion) ≡ 4 * ((rowsAbove (j .band) + n) * w) → length (j .refs) ≡ 2 * ((rowsAbove (j .band) + n) * w) → mapsPart w skip (top + n) (band.mapsOf j) ≡ m
   maps-same lw lm lr =
       let e = add-mul skip (top + n) w ∙ refl in
@@ -152,26 +188,25 @@ module _ (j : band.Input) (fine : band.check j ≡ Done) (pos : 1 ≤ band.wide 
       let c = end-of (2 * (skip * w)) (2 * ((top + n) * w)) (j .refs) (omega arith) in
       λ i. record { words = a i; motion = b i; refs = c i }
 
-  -- what `band_passes` leaves of the slices is what the rule says
-  pub band-done : (y u v words : List ℕ) (ver hor : ℕ)
-      → length (j .y) ≡ placesOf Luma w skip + placesOf Luma w (top + n) → length (j .u) ≡ placesOf Chroma w skip + placesOf Chroma w (top + n) → length (j .v) ≡ placesOf Chroma w skip + placesOf Chroma w (top + n)
-      → length (j .words) ≡ (rowsAbove (j .band) + n) * w → length (j .motion) ≡ 4 * ((rowsAbove (j .band) + n) * w) → length (j .refs) ≡ 2 * ((rowsAbove (j .band) + n) * w)
-      → take (placesOf Luma w skip) y ≡ take (placesOf Luma w skip) (j .y) → take (placesOf Chroma w skip) u ≡ take (placesOf Chroma w skip) (j .u) → take (placesOf Chroma w skip) v ≡ take (placesOf Chroma w skip) (j .v)
-      → take (skip * w) words ≡ take (skip * w) (j .words)
+  -- what `band_passes` leaves of the slices is what the rule says. a and c: the samples that were not handed on, of luma and of a chroma plane
+  pub band-done : (a c : ℕ) → a ≡ placesOf Luma w skip → c ≡ placesOf Chroma w skip → (y u v words : List ℕ) (ver hor : ℕ)
+      → take a y ≡ take a (j .y) → take c u ≡ take c (j .u) → take c v ≡ take c (j .v) → take (skip * w) words ≡ take (skip * w) (j .words)
       → Both m entriesIn w top (list vertical) (list horizontal)
-      (record { y = drop (placesOf Luma w skip) (j .y); u = drop (placesOf Chroma w skip) (j .u); v = drop (placesOf Chroma w skip) (j .v) })
-      (record { y = drop (placesOf Luma w skip) y; u = drop (placesOf Chroma w skip) u; v = drop (placesOf Chroma w skip) v }) (drop (skip * w) words) ver hor
+      (record { y = drop a (j .y); u = drop c (j .u); v = drop c (j .v) }) (record { y = drop a y; u = drop c u; v = drop c v }) (drop (skip * w) words) ver hor
       → (record { reading = record { number = 0; vertical = ver; horizontal = hor; next = j .next + 1 }; y = y; u = u; v = v; words = words }) ≡ band.outcome j
-  band-done y u v words ver hor ly lu lv lw lm lr ty tu tv tw b =
-      let same = maps-same lw lm lr in
-      let done = parts-done lw _ _ _ _ _ b in
+  band-done a c ea ec y u v words ver hor ty tu tv tw b =
+      let same = maps-same (t .long-words) (t .long-motion) (t .long-refs) in
+      let done = parts-done _ _ _ _ _ b in
       let split : (a : ℕ) (l : List ℕ) → l ≡ take a l ++ drop a l = λ a l. sym (take-append-drop a l) in
-      let ey = split (placesOf Luma w skip) y ∙ ap₂ _++_ ty (ap (λ (q : Planes). q .y) done) ∙ part-whole Luma (band.qpY j) (j .y) ly same in
-      let eu = split (placesOf Chroma w skip) u ∙ ap₂ _++_ tu (ap (λ (q : Planes). q .u) done) ∙ part-whole Chroma (band.qpU j) (j .u) lu same in
-      let ev = split (placesOf Chroma w skip) v ∙ ap₂ _++_ tv (ap (λ (q : Planes). q .v) done) ∙ part-whole Chroma (band.qpV j) (j .v) lv same in
+      let whole : (k : Component) (at : ℕ → ℕ) (p : List ℕ) (z : ℕ) → z ≡ placesOf k w skip → length p ≡ placesOf k w (rowsAbove (j .band) + n)
+      → take z p ++ finished m (j .strengths) at k w (list vertical) (list horizontal) (drop z p) ≡ band.deblocked j k at p =
+      λ k at p z e l. ap (λ (x : ℕ). take x p ++ finished m (j .strengths) at k w (list vertical) (list horizontal) (drop x p)) e ∙ part-whole k at p (long-by k l) same in
+      let ey = split a y ∙ ap₂ _++_ ty (ap (λ (q : Planes). q .y) done) ∙ whole Luma (band.qpY j) (j .y) a ea (t .long-y) in
+      let eu = split c u ∙ ap₂ _++_ tu (ap (λ (q : Planes). q .u) done) ∙ whole Chroma (band.qpU j) (j .u) c ec (t .long-u) in
+      let ev = split c v ∙ ap₂ _++_ tv (ap (λ (q : Planes). q .v) done) ∙ whole Chroma (band.qpV j) (j .v) c ec (t .long-v) in
       let nv = b .ups-counted ∙ sym (edges-long skip (list vertical)) ∙ ap length (list-lent vertical) in
       let nh = b .levels-counted ∙ sym (edges-long skip (list horizontal)) ∙ ap length (list-lent horizontal) in
-      let ew = split (skip * w) words ∙ ap₂ _++_ tw (b .marks) ∙ words-lent lw in
+      let ew = split (skip * w) words ∙ ap₂ _++_ tw (b .marks) ∙ words-lent in
       (λ i. record { reading = record { number = 0; vertical = nv i; horizontal = nh i; next = j .next + 1 }; y = ey i; u = eu i; v = ev i; words = ew i }) ∙ sym (is-done j fine)
     where
       edges-long : (k : ℕ) (l : List Edge) → length (map (edgeDown k) l) ≡ length l
@@ -179,9 +214,78 @@ module _ (j : band.Input) (fine : band.check j ≡ Done) (pos : 1 ≤ band.wide 
       edges-long k (e ∷ l) = ap suc (edges-long k l)
 
       -- done from the band's first unit on, in what is lent
-      words-lent : length (j .words) ≡ (rowsAbove (j .band) + n) * w → take (skip * w) (j .words) ++ doneFrom (top * w) (drop (skip * w) (j .words)) ≡ doneFrom (rowsAbove (j .band) * w) (j .words)
-      words-lent lw =
+      words-lent : take (skip * w) (j .words) ++ doneFrom (top * w) (drop (skip * w) (j .words)) ≡ doneFrom (rowsAbove (j .band) * w) (j .words)
+      words-lent =
           let s : skip * w + top * w ≡ rowsAbove (j .band) * w = sym (add-mul skip top w) ∙ ap (λ (z : ℕ). z * w) (omega (arith, near-skip (j .band))) in
           sym (append-assoc (take (skip * w) (j .words)) (take (top * w) (drop (skip * w) (j .words))) (allDone (drop (top * w) (drop (skip * w) (j .words)))))
           ∙ ap₂ _++_ (sym (take-add (skip * w) (top * w) (j .words)) ∙ ap (λ (k : ℕ). take k (j .words)) s)
           (ap allDone (drop-drop (top * w) (skip * w) (j .words) ∙ ap (λ (k : ℕ). drop k (j .words)) s))
+
+  -- ---- what `band_passes` is asked for
+
+  pub walked-rows : 4 * n / 4 ≡ n
+  walked-rows = omega arith
+
+  pub accepted : Accepted (j .w) (4 * n) (j .splits)
+  accepted =
+      record {
+        sides = band-size (j .next) (j .band) (sized (j .w) (j .h) (t .size)) (t .position) .own;
+        long = t .long-splits;
+        walked = ap (λ (r : ℕ). pictureWalk (j .splits) w r .answer) walked-rows ∙ t .walk;
+      }
+
+  -- the units that are not handed on
+  pub record Skipped : Type 0 where
+    pub y : 16 * (skip * w) + placesOf Luma w (top + n) ≡ length (j .y)
+    pub u : 4 * (skip * w) + placesOf Chroma w (top + n) ≡ length (j .u)
+    pub v : 4 * (skip * w) + placesOf Chroma w (top + n) ≡ length (j .v)
+    pub words : skip * w + (top + n) * w ≡ length (j .words)
+    pub motion : 4 * (skip * w) + 4 * ((top + n) * w) ≡ length (j .motion)
+    pub refs : 2 * (skip * w) + 2 * ((top + n) * w) ≡ length (j .refs)
+    pub few : skip * w ≤ 16384
+    pub high : top + n ≤ 17
+
+  pub skipped : Skipped
+  skipped =
+      let a = luma-rows skip w in
+      let b = chroma-rows skip w in
+      let units : skip * w + (top + n) * w ≡ (rowsAbove (j .band) + n) * w = sym (add-mul skip (top + n) w) ∙ ap (λ (z : ℕ). z * w) rows-sum in
+      let some : skip ≤ 15 = omega (arith, few-above (j .band) .1) in
+      let wide : w ≤ 1024 = omega (arith, sized (j .w) (j .h) (t .size) .wide) in
+      record {
+        y = ap (λ (z : ℕ). z + placesOf Luma w (top + n)) a ∙ sym (long-by Luma (t .long-y));
+        u = ap (λ (z : ℕ). z + placesOf Chroma w (top + n)) b ∙ sym (long-by Chroma (t .long-u));
+        v = ap (λ (z : ℕ). z + placesOf Chroma w (top + n)) b ∙ sym (long-by Chroma (t .long-v));
+        words = units ∙ sym (t .long-words);
+        motion = omega (arith, units, t .long-motion);
+        refs = omega (arith, units, t .long-refs);
+        few = mul-le-mul {n₁ = skip} {m₁ = w} {n₂ = 16} {m₂ = 1024} (omega arith) wide;
+        high = omega (arith, few-rows (j .h / 4) (j .band), near-few (j .band));
+      }
+
+  -- the rest of a slice is as long as what is left
+  left-over : {A : Type 0} (a b : ℕ) (l : List A) → a + b ≡ length l → length (drop a l) ≡ b
+  left-over a b l e = length-drop a l ∙ omega arith
+
+  pub framed : (es : List ℕ) → length es ≡ 624
+      → Frame w (top + n) (drop (16 * (skip * w)) (j .y)) (drop (4 * (skip * w)) (j .u)) (drop (4 * (skip * w)) (j .v)) (drop (skip * w) (j .words))
+      (drop (4 * (skip * w)) (j .motion)) (drop (2 * (skip * w)) (j .refs)) es
+  framed es e =
+      let k = skipped in
+      let small : (c : Component) (a : ℕ) (p : List ℕ) → a ≡ placesOf c w skip → samplesOk (drop (placesOf c w skip) p) ≡ true → Samples (drop a p) =
+      λ c a p q g k. sample-any (drop a p) k (ap (λ (z : ℕ). samplesOk (drop z p)) q ∙ g) in
+      record {
+        wide = omega (arith, sized (j .w) (j .h) (t .size) .wide);
+        high = omega (arith, k .high);
+        long-y = left-over _ _ (j .y) (k .y);
+        long-u = left-over _ _ (j .u) (k .u);
+        long-v = left-over _ _ (j .v) (k .v);
+        long-words = left-over _ _ (j .words) (k .words);
+        long-motion = left-over _ _ (j .motion) (k .motion);
+        long-refs = left-over _ _ (j .refs) (k .refs);
+        long-entries = e;
+        qps = few;
+        all-y = small Luma (16 * (skip * w)) (j .y) (luma-rows skip w) (t .y);
+        all-u = small Chroma (4 * (skip * w)) (j .u) (chroma-rows skip w) (t .u);
+        all-v = small Chroma (4 * (skip * w)) (j .v) (chroma-rows skip w) (t .v);
+      }

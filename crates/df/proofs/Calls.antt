@@ -14,7 +14,7 @@ use Rattle.def.proofs.Sizes.{Sized, sized}
 use Rattle.split.specs.Edges.{Pass, vertical, horizontal, Edge}
 use Rattle.strength.specs.Entries.{entriesOf}
 use Rattle.strength.proofs.Strengths.{luma-entry, u-entry, v-entry}
-use Rattle.df_check.proofs.Passed.{Passed, passed, any-qp}
+use Rattle.df_check.proofs.Passed.{Passed, passed}
 use Rattle.df_rules.specs.Filter.{Planes, inY, inU, inV, filterAll}
 use Rattle.df_rules.specs.Frame.{Frame, Both}
 use Rattle.df_rules.specs.Leaves.{Accepted}
@@ -62,7 +62,7 @@ module _ (i : Input) (fine : check i ≡ Fine) where
         long-motion = n .motion ∙ ap (λ (k : ℕ). 4 * k) units;
         long-refs = n .refs ∙ ap (λ (k : ℕ). 2 * k) units;
         long-entries = e;
-        qps = any-qp told;
+        qps = told .qp;
         all-y = told .y;
         all-u = told .u;
         all-v = told .v;
@@ -78,7 +78,7 @@ module _ (i : Input) (fine : check i ≡ Fine) where
     p = unitP d (i .w / 4) e
 
     few : qpAt (mapsOf i) q ≤ 51
-    few = any-qp told q
+    few = told .qp q
 
     same-y : strength (mapsOf i) (entriesIn i) inY d (i .w / 4) e ≡ strength (mapsOf i) (i .strengths) (qpY i) d (i .w / 4) e
     unfolding strengthOf

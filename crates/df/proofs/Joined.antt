@@ -4,7 +4,7 @@ use Prim.Native.Nat.{ℕ, zero, suc, _+_, _-_, _*_, _/_, _%_, _≤_, _<_}
 use mathlib.Core.Path.{_≡_, refl, sym, ap, ap₂, _∙_, subst}
 use mathlib.Core.Bool.{Bool, true, false, _&&_}
 use mathlib.Core.List.{List, [], _∷_, _++_, map}
-use native.Mathlib.Nat.{add-mul, mul-le-mul-right, mul-comm, mul-assoc, zero-mul, suc-mul, mod-lt, div-lt-iff-lt-mul, div-add-mod'}
+use native.Mathlib.Nat.{add-mul, mul-le-mul-right, mul-comm, mul-assoc, zero-mul, mul-zero, suc-mul, mod-lt, div-lt-iff-lt-mul, div-add-mod'}
 use native.Mathlib.Omega.{arith}
 use borrow.Author.Tests.{eqb-true, ltb-true, ltb-false, lt-ltb, le-ltb}
 use lib.Dec.{eqb, ltb, leb}
@@ -13,8 +13,10 @@ use lib.Seq.{getD-take, getD-drop, getD-append-add, length-take-le}
 use Rattle.laws.specs.Index.{pick}
 use Rattle.def.specs.Word.{qpOf, withDone}
 use Rattle.def.proofs.Sizes.{Sized, sized}
+use Rattle.df_check.specs.BandCheck as band-check
+use Rattle.df_check.specs.BandCheck.{bandOk}
 use Rattle.df_check.specs.Checks as checks
-use Rattle.df_check.proofs.Passed.{LengthsTold, lengths-told}
+use Rattle.df_check.proofs.Passed.{LengthsTold, lengths-told, rest-passed}
 use Rattle.def.proofs.Words.{Alike, set-alike}
 use Rattle.split.proofs.Induct.{test}
 use Rattle.split.proofs.Roots.{some-wide}
@@ -24,14 +26,16 @@ use Rattle.laws.proofs.Tabulate.{is-tabulate}
 use Rattle.split.specs.Edges.{Pass, vertical, horizontal}
 use Rattle.df_rules.specs.Filter.{finished}
 use Rattle.df_rules.specs.Visit.{allDone}
+use Rattle.df_rules.proofs.Finished.{demand-3}
 use Rattle.df_rules.proofs.Alikes.{Alikes, alikes-at}
-use Rattle.bands_rules.specs.Bands.{bandRows, rowsAbove, rowsBefore, mapPart, edgeDown, bandList, doneFrom, placesOf, called, calledAll, joined as joined-lists}
+use Rattle.bands_rules.specs.Bands.{mapPart, edgeDown, bandList, doneFrom, placesOf, called, calledAll, joined as joined-lists}
+use Rattle.df_check.specs.Rows.{bandRows, rowsAbove, rowsBefore}
 use Rattle.bands_rules.proofs.Called.{above-before, list-at, calls-long, calls-below, calls-finished, calls-final, finished-alike, part-alikes}
 use Rattle.bands_rules.proofs.Down.{band}
 use Rattle.bands_rules.proofs.Lists.{BandDone, lists-joined, walks-joined}
 use Rattle.bands_rules.proofs.Words.{done-from-long, done-from-above, done-from-at}
 use Rattle.def.specs.Answers.{afterChecks}
-use Rattle.def.specs.Picture.{sizeOk, rootsAlong}
+use Rattle.def.specs.Picture.{sizeOk, rootsAlong, rootCount, lumaLength, chromaLength}
 use Rattle.def.specs.Refusals.{numberOf}
 use Rattle.def.specs.declared.Answer.{Answer}
 use Rattle.def.specs.declared.Answer.the-variants.{Done, Refused}
@@ -47,12 +51,13 @@ use Rattle.df_rules.specs.Places.{unitSide}
 use Rattle.split.specs.Picture.{across, pictureWalk}
 use Rattle.split.proofs.Sides.{and-true}
 use Rattle.df.specs.Band as band
-use Rattle.df.specs.Bands.{State, stateAfter, inputOf, lent, wordsBack, planePart, planeBack, bands, final, Accepted, Joined}
-use Rattle.df.specs.Deblock.{Input, Outcome, checked, check, qpY, qpU, qpV, mapsOf, deblocked, refused, done, outcome}
+use Rattle.df.proofs.Lengths.{luma-places, chroma-places, unit-places}
+use Rattle.df.specs.Bands.{State, start, stateAfter, inputOf, after, lent, wordsBack, planePart, planeBack, bands, final, AcceptedTo, Accepted, Plane, luma-plane, u-plane, v-plane, componentOf, mappedAs, planeIn, planeOf, planeAfter, Joined}
+use Rattle.df.specs.Deblock.{Input, Outcome, checked, check, passEdges, qpY, mapsOf, deblocked, refused, done, outcome}
 
 -- ---- what an accepted band tells
 
-fine : (j : band.Input) → band.outcome j .reading .number ≡ 0 → band.check j ≡ Done
+pub fine : (j : band.Input) → band.outcome j .reading .number ≡ 0 → band.check j ≡ Done
 unfolding band.outcome
 fine j e = go (band.check j) refl e where
   go : (a : Answer) → band.check j ≡ a → afterChecks (band.refused j) (band.done j) a .reading .number ≡ 0 → band.check j ≡ Done
@@ -63,19 +68,17 @@ pub is-done : (j : band.Input) → band.check j ≡ Done → band.outcome j ≡ 
 unfolding band.outcome
 is-done j e = ap (afterChecks (band.refused j) (band.done j)) e
 
-record Onward (walk k : Answer) : Type 0 where
-  accepted : walk ≡ Done
-  rest : k ≡ Done
-
-onward : (walk k : Answer) → afterChecks Refused k walk ≡ Done → Onward walk k
-onward Done k e = record { accepted = refl; rest = e }
-onward (Refused r) k e = record { accepted = e; rest = cc }
-
 pub record Told (j : band.Input) : Type 0 where
   pub size : sizeOk (j .w) (j .h) ≡ true
-  pub position : j .band ≡ j .next
-  pub lengths : band.lengthsOk j ≡ true
+  pub position : bandOk (j .next) (j .band) (j .h) ≡ true
   pub settings : settingsOk (j .settings) ≡ true
+  pub long-y : length (j .y) ≡ placesOf Luma (band.wide j) (band.top j + band.rows j)
+  pub long-u : length (j .u) ≡ placesOf Chroma (band.wide j) (band.top j + band.rows j)
+  pub long-v : length (j .v) ≡ placesOf Chroma (band.wide j) (band.top j + band.rows j)
+  pub long-words : length (j .words) ≡ (band.top j + band.rows j) * band.wide j
+  pub long-splits : length (j .splits) ≡ 1024 * rootCount (j .w) (4 * band.rows j)
+  pub long-motion : length (j .motion) ≡ 4 * ((band.top j + band.rows j) * band.wide j)
+  pub long-refs : length (j .refs) ≡ 2 * ((band.top j + band.rows j) * band.wide j)
   pub walk : pictureWalk (j .splits) (band.wide j) (band.rows j) .answer ≡ Done
   pub qps : qpsOk (band.checkedWords j) ≡ true
   pub y : samplesOk (band.checkedPlane j Luma (j .y)) ≡ true
@@ -83,27 +86,46 @@ pub record Told (j : band.Input) : Type 0 where
   pub v : samplesOk (band.checkedPlane j Chroma (j .v)) ≡ true
 
 pub told : (j : band.Input) → band.check j ≡ Done → Told j
-unfolding band.check band.bandOk planesOk
+unfolding band-check.checkOf
 told j e =
     let size = passes _ _ _ e in
     let next = passes _ _ _ (size .rest) in
-    let lengths = passes _ _ _ (next .rest) in
-    let settings = passes _ _ _ (lengths .rest) in
-    let walk = onward _ _ (settings .rest) in
-    let qps = passes _ _ _ (walk .rest) in
-    let planes = passes _ _ _ (qps .rest) .holds in
-    let samples = samplesOk (band.checkedPlane j Luma (j .y)) ∷ samplesOk (band.checkedPlane j Chroma (j .u)) ∷ samplesOk (band.checkedPlane j Chroma (j .v)) ∷ [] in
+    let rest = rest-passed _ _ _ _ (next .rest) in
+    let whole = sized (j .w) (j .h) (size .holds) .by-four in
+    let r = band.top j + band.rows j in
+    let n = rest .lengths in
+    let small : (c : Component) (p : List ℕ) (m : ℕ) → m ≡ placesOf c (band.wide j) (band.unchecked j) → samplesOk (drop m p) ≡ true → samplesOk (band.checkedPlane j c p) ≡ true =
+    λ c p m q g. ap (λ (k : ℕ). samplesOk (drop k p)) (sym q) ∙ g in
+    let units : 4 * band.rows j / 4 ≡ band.rows j = omega arith in
     record {
       size = size .holds;
-      position = eqb-true _ _ (and-true _ _ (next .holds) .0);
-      lengths = lengths .holds;
-      settings = settings .holds;
-      walk = walk .accepted;
-      qps = qps .holds;
-      y = all-at samples 0 planes;
-      u = all-at samples 1 planes;
-      v = all-at samples 2 planes;
+      position = next .holds;
+      settings = rest .settings;
+      long-y = n .y ∙ luma-places (j .w) r whole;
+      long-u = n .u ∙ chroma-places (j .w) r whole;
+      long-v = n .v ∙ chroma-places (j .w) r whole;
+      long-words = n .words ∙ unit-places (j .w) r whole;
+      long-splits = n .splits;
+      long-motion = n .motion ∙ ap (λ (k : ℕ). 4 * k) (unit-places (j .w) r whole);
+      long-refs = n .refs ∙ ap (λ (k : ℕ). 2 * k) (unit-places (j .w) r whole);
+      walk = ap (λ (k : ℕ). pictureWalk (j .splits) (band.wide j) k .answer) (sym units) ∙ rest .walk;
+      qps = ap (λ (k : ℕ). qpsOk (drop k (j .words))) (sym (unit-places (j .w) (band.unchecked j) whole)) ∙ rest .qps;
+      y = small Luma (j .y) _ (luma-places (j .w) (band.unchecked j) whole) (rest .y);
+      u = small Chroma (j .u) _ (chroma-places (j .w) (band.unchecked j) whole) (rest .u);
+      v = small Chroma (j .v) _ (chroma-places (j .w) (band.unchecked j) whole) (rest .v);
     }
+
+-- the band is the position's next
+pub at-next : {j : band.Input} → Told j → j .band ≡ j .next
+unfolding bandOk
+at-next {j} t = eqb-true _ _ (and-true _ _ (t .position) .0)
+
+pub next-few : {j : band.Input} → Told j → j .next ≤ 64
+unfolding bandOk
+next-few {j} t =
+    let e = at-next t in
+    let l = ltb-true (j .band) (rootsAlong (j .h)) (and-true (eqb (j .band) (j .next)) _ (t .position) .1) in
+    omega (arith, sized (j .w) (j .h) (t .size) .high)
 
 -- ---- where a place of a picture lies: in one band, and in what the band's call checks. S: how many places a row of units has
 
@@ -164,29 +186,19 @@ in-checked S rowsAll l long j b n₀ n₁ n₂ e₀ e₁ e₂ =
     }
 
 -- samples of a row of units
-abbrev stepOf : Component → ℕ → ℕ
+abbrev pub stepOf : Component → ℕ → ℕ
 stepOf c w = unitSide c * (unitSide c * w)
 
-places-step : (c : Component) (w n : ℕ) → placesOf c w n ≡ n * stepOf c w
+pub places-step : (c : Component) (w n : ℕ) → placesOf c w n ≡ n * stepOf c w
 places-step c w n = ap (λ (z : ℕ). z * (unitSide c * w)) (mul-comm (unitSide c) n) ∙ mul-assoc n (unitSide c) (unitSide c * w)
 
 step-some : (c : Component) (w : ℕ) → 1 ≤ w → 0 < stepOf c w
 step-some Luma w l = omega arith
 step-some Chroma w l = omega arith
 
--- ---- a picture whose bands were all accepted
+-- ---- a picture whose first n bands were accepted
 
-module _ (i : Input) (sides : sizeOk (i .w) (i .h) ≡ true) (acc : Accepted i) where
-  band-told : (k : ℕ) → k < bands i → Told (inputOf i k (stateAfter i k))
-  band-told k l = told _ (fine _ (acc k l))
-
-  pub position : (k : ℕ) → k ≤ bands i → stateAfter i k .next ≡ k
-  unfolding stateAfter
-  position zero l = refl
-  position (suc k) l =
-      let p = band-told k l .position in
-      ap (λ (o : band.Outcome). o .reading .next) (is-done _ (fine _ (acc k l))) ∙ omega arith
-
+module _ (i : Input) (sides : sizeOk (i .w) (i .h) ≡ true) where
   abbrev W : ℕ
   W = i .w / 4
 
@@ -196,11 +208,8 @@ module _ (i : Input) (sides : sizeOk (i .w) (i .h) ≡ true) (acc : Accepted i) 
   abbrev limit5 : Bool
   limit5 = eqb (i .settings .limit) 5
 
-  abbrev pos : 1 ≤ W
+  abbrev pub pos : 1 ≤ W
   pos = some-wide (sized (i .w) (i .h) sides)
-
-  abbrev walked : (k : ℕ) → k < bands i → BandDone (i .splits) W rowsAll pos k
-  walked k l = band-told k l .walk
 
   -- ---- the words: all but done is as it was, and done is set in the bands' units
 
@@ -208,7 +217,7 @@ module _ (i : Input) (sides : sizeOk (i .w) (i .h) ≡ true) (acc : Accepted i) 
     pub long : length l ≡ length (i .words)
     pub at : (j : ℕ) → j < length (i .words) → getD l j 0 ≡ pick (ltb j (16 * k * W)) (withDone (getD (i .words) j 0)) (getD (i .words) j 0)
 
-  marked-alikes : (k : ℕ) (l : List ℕ) → Marked k l → Alikes l (i .words)
+  pub marked-alikes : (k : ℕ) (l : List ℕ) → Marked k l → Alikes l (i .words)
   marked-alikes k l m = alikes-at l (i .words) (m .long) (λ j h. subst (λ (x : ℕ). Alike x (getD (i .words) j 0)) (sym (m .at j h)) (go (ltb j (16 * k * W)) (getD (i .words) j 0))) where
     go : (b : Bool) (x : ℕ) → Alike (pick b (withDone x) x) x
     go true x = set-alike x
@@ -281,183 +290,236 @@ module _ (i : Input) (sides : sizeOk (i .w) (i .h) ≡ true) (acc : Accepted i) 
               (λ u. let o : n ≡ 16 = let g = ltb-false n 16 u in omega arith in let o₁ : n * W ≡ 16 * W = ap (λ (q : ℕ). q * W) o in sym (le-ltb j (16 * suc k * W) (omega arith))))));
         }
 
-    words-marked : (k : ℕ) → k ≤ bands i → Marked k (stateAfter i k .words)
-    unfolding stateAfter
-    words-marked zero l = none-marked
-    words-marked (suc k) l =
-        subst (Marked (suc k)) (sym (ap (λ (o : band.Outcome). wordsBack i k (o .words) (stateAfter i k .words)) (is-done _ (fine _ (acc k l)))))
-        (one-marked k l (stateAfter i k .words) (words-marked k (omega arith)))
+module _ (i : Input) (sides : sizeOk (i .w) (i .h) ≡ true) (long : length (i .words) ≡ i .h / 4 * (i .w / 4)) (n : ℕ) (few : n ≤ bands i) (acc : AcceptedTo i n) where
+  abbrev pub band-told : (k : ℕ) → k < n → Told (inputOf i k (stateAfter i k))
+  band-told k l = told _ (fine _ (acc k l))
 
-    words-done : stateAfter i (bands i) .words ≡ allDone (i .words)
-    unfolding allDone
-    words-done =
-        let m = words-marked (bands i) (omega arith) in
-        let all : rowsAll * W ≤ 16 * bands i * W = mul-le-mul-right W (omega arith) in
-        is-tabulate _ (length (i .words)) _ 0 (m .long) (λ j h. m .at j h ∙ ap (λ (b : Bool). pick b (withDone (getD (i .words) j 0)) (getD (i .words) j 0)) (lt-ltb j (16 * bands i * W) (omega arith)))
+  pub position : (k : ℕ) → k ≤ n → stateAfter i k .next ≡ k
+  unfolding stateAfter
+  position zero l = refl
+  position (suc k) l =
+      let p = at-next (band-told k l) in
+      ap (λ (o : band.Outcome). o .reading .next) (is-done _ (fine _ (acc k l))) ∙ omega arith
 
-    -- ---- the planes
+  pub words-marked : (k : ℕ) → k ≤ n → Marked i sides k (stateAfter i k .words)
+  unfolding stateAfter
+  words-marked zero l = none-marked i sides long
+  words-marked (suc k) l =
+      subst (Marked i sides (suc k)) (sym (ap (λ (o : band.Outcome). wordsBack i k (o .words) (stateAfter i k .words)) (is-done _ (fine _ (acc k l)))))
+      (one-marked i sides long k (omega arith) (stateAfter i k .words) (words-marked k (omega arith)))
 
-    plane-step : (k : ℕ) → k < bands i → (t : List ℕ) (at : ℕ → ℕ) (c : Component) (p : List ℕ)
-        → let j = inputOf i k (stateAfter i k) in
-        planeBack i k c (finished (band.mapsOf j) t at c W (band.passEdges vertical j) (band.passEdges horizontal j) (planePart i k c p)) p ≡ called (mapsOf i) t at c limit5 (i .splits) W rowsAll k p
-    unfolding called
-    plane-step k l t at c p =
-        let j = inputOf i k (stateAfter i k) in
-        let same = part-alikes (marked-alikes k (stateAfter i k .words) (words-marked k (omega arith))) (1 * (rowsBefore k * W)) (1 * (lent i k * W)) in
-        ap (λ (q : List ℕ). planeBack i k c q p) (finished-alike (j .motion) (j .refs) same t at c W (band.passEdges vertical j) (band.passEdges horizontal j) (planePart i k c p))
+  -- ---- the planes
 
-    after-y : (k : ℕ) → k ≤ bands i → stateAfter i k .y ≡ calledAll (mapsOf i) (i .strengths) (qpY i) Luma limit5 (i .splits) W rowsAll k (i .y)
-    unfolding stateAfter calledAll
-    after-y zero l = refl
-    after-y (suc k) l =
-        ap (λ (o : band.Outcome). planeBack i k Luma (o .y) (stateAfter i k .y)) (is-done _ (fine _ (acc k l)))
-        ∙ plane-step k l (i .strengths) (qpY i) Luma (stateAfter i k .y)
-        ∙ ap (called (mapsOf i) (i .strengths) (qpY i) Luma limit5 (i .splits) W rowsAll k) (after-y k (omega arith))
+  plane-step : (k : ℕ) → k < n → (x : Plane) (p : List ℕ)
+      → let j = inputOf i k (stateAfter i k) in
+      planeBack i k (componentOf x) (finished (band.mapsOf j) (i .strengths) (mappedAs x i) (componentOf x) (i .w / 4) (band.passEdges vertical j) (band.passEdges horizontal j) (planePart i k (componentOf x) p)) p
+      ≡ called (mapsOf i) (i .strengths) (mappedAs x i) (componentOf x) (limit5 i sides) (i .splits) (i .w / 4) (i .h / 4) k p
+  unfolding called
+  plane-step k l x p =
+      let j = inputOf i k (stateAfter i k) in
+      let W = i .w / 4 in
+      let c = componentOf x in
+      let same = part-alikes (marked-alikes i sides k (stateAfter i k .words) (words-marked k (omega arith))) (1 * (rowsBefore k * W)) (1 * (lent i k * W)) in
+      ap (λ (q : List ℕ). planeBack i k c q p) (finished-alike (j .motion) (j .refs) same (i .strengths) (mappedAs x i) c W (band.passEdges vertical j) (band.passEdges horizontal j) (planePart i k c p))
 
-    after-u : (k : ℕ) → k ≤ bands i → stateAfter i k .u ≡ calledAll (mapsOf i) (i .strengths) (qpU i) Chroma limit5 (i .splits) W rowsAll k (i .u)
-    unfolding stateAfter calledAll
-    after-u zero l = refl
-    after-u (suc k) l =
-        ap (λ (o : band.Outcome). planeBack i k Chroma (o .u) (stateAfter i k .u)) (is-done _ (fine _ (acc k l)))
-        ∙ plane-step k l (i .strengths) (qpU i) Chroma (stateAfter i k .u)
-        ∙ ap (called (mapsOf i) (i .strengths) (qpU i) Chroma limit5 (i .splits) W rowsAll k) (after-u k (omega arith))
+  -- a band's call, in one plane
+  after-one : (k : ℕ) → k < n → (x : Plane) → let s = stateAfter i k in
+      planeOf x (after i k s (band.done (inputOf i k s)))
+      ≡ called (mapsOf i) (i .strengths) (mappedAs x i) (componentOf x) (limit5 i sides) (i .splits) (i .w / 4) (i .h / 4) k (planeOf x s)
+  after-one k l luma-plane = plane-step k l luma-plane (stateAfter i k .y)
+  after-one k l u-plane = plane-step k l u-plane (stateAfter i k .u)
+  after-one k l v-plane = plane-step k l v-plane (stateAfter i k .v)
 
-    after-v : (k : ℕ) → k ≤ bands i → stateAfter i k .v ≡ calledAll (mapsOf i) (i .strengths) (qpV i) Chroma limit5 (i .splits) W rowsAll k (i .v)
-    unfolding stateAfter calledAll
-    after-v zero l = refl
-    after-v (suc k) l =
-        ap (λ (o : band.Outcome). planeBack i k Chroma (o .v) (stateAfter i k .v)) (is-done _ (fine _ (acc k l)))
-        ∙ plane-step k l (i .strengths) (qpV i) Chroma (stateAfter i k .v)
-        ∙ ap (called (mapsOf i) (i .strengths) (qpV i) Chroma limit5 (i .splits) W rowsAll k) (after-v k (omega arith))
+  start-plane : (x : Plane) → planeOf x (start i) ≡ planeIn x i
+  start-plane luma-plane = refl
+  start-plane u-plane = refl
+  start-plane v-plane = refl
 
-    -- ---- the picture is accepted
+  pub after-plane : (x : Plane) (k : ℕ) → k ≤ n
+      → planeOf x (stateAfter i k) ≡ calledAll (mapsOf i) (i .strengths) (mappedAs x i) (componentOf x) (limit5 i sides) (i .splits) (i .w / 4) (i .h / 4) k (planeIn x i)
+  unfolding stateAfter calledAll
+  after-plane x zero l = start-plane x
+  after-plane x (suc k) l =
+      ap (λ (o : band.Outcome). planeOf x (after i k (stateAfter i k) o)) (is-done _ (fine _ (acc k l)))
+      ∙ after-one k l x
+      ∙ ap (called (mapsOf i) (i .strengths) (mappedAs x i) (componentOf x) (limit5 i sides) (i .splits) (i .w / 4) (i .h / 4) k) (after-plane x k (omega arith))
 
-    plane-small : (c : Component) (p : List ℕ) → length p ≡ placesOf c W rowsAll → (at : ℕ → ℕ)
-        → ((k : ℕ) → k < bands i → samplesOk (drop (placesOf c W (rowsAbove k - 1)) (planePart i k c (calledAll (mapsOf i) (i .strengths) at c limit5 (i .splits) W rowsAll k p))) ≡ true)
-        → samplesOk p ≡ true
-    plane-small c p lp at h = samples-pass p (λ j z.
-        let lp₁ : length p ≡ rowsAll * stepOf c W = lp ∙ places-step c W rowsAll in
-        let b = in-band (stepOf c W) rowsAll j (step-some c W pos) (omega arith) in
-        let k = b .k in
-        let less = b .less in
-        let from = b .from in
-        let q = calledAll (mapsOf i) (i .strengths) at c limit5 (i .splits) W rowsAll k p in
-        let lq = calls-long (mapsOf i) (i .strengths) at c limit5 (i .splits) W rowsAll pos walked k (omega arith) p lp in
-        let d = in-checked (stepOf c W) rowsAll q (lq ∙ places-step c W rowsAll) j b _ _ _ (places-step c W (rowsBefore k)) (places-step c W (lent i k)) (places-step c W (rowsAbove k - 1)) in
-        let small = sample-at _ (d .q) (h k less) (d .inside) in
-        let e : getD q j 0 ≡ getD p j 0 = calls-below (mapsOf i) (i .strengths) at c limit5 (i .splits) W rowsAll pos walked k (omega arith) p lp j (omega (arith, places-step c W (16 * k))) in
-        omega (arith, d .is, e))
+-- ---- lengths of planes and words
 
-    qps-fine : qpsOk (i .words) ≡ true
-    unfolding qpsOk
-    qps-fine = scan-pass _ (length (i .words)) (λ j z.
-        let b = in-band W rowsAll j pos (omega arith) in
-        let k = b .k in
-        let less = b .less in
-        let l = stateAfter i k .words in
-        let m = words-marked k (omega arith) in
-        let d = in-checked W rowsAll l (m .long ∙ long) j b (1 * (rowsBefore k * W)) (1 * (lent i k * W)) ((rowsAbove k - 1) * W) (omega arith) (omega arith) refl in
-        let good = scan-at _ _ (d .q) (d .inside) (band-told k less .qps) in
-        ap (λ (x : ℕ). leb x 51) (sym (marked-alikes k l m .same j .qp) ∙ ap qpOf (sym (d .is))) ∙ good)
-
-    -- ---- the counts
-
-    map-long : {A B : Type 0} (f : A → B) (l : List A) → length (map f l) ≡ length l
-    map-long f [] = refl
-    map-long f (a ∷ l) = ap suc (map-long f l)
-
-    list-long : (d : Pass) (k : ℕ) → length (band.passEdges d (inputOf i k (stateAfter i k))) ≡ length (bandList d limit5 (i .splits) W rowsAll k)
-    list-long d k = sym (map-long (edgeDown (rowsBefore k)) (band.passEdges d (inputOf i k (stateAfter i k)))) ∙ ap length (list-at (mapsOf i) (i .strengths) (qpY i) Luma limit5 (i .splits) W rowsAll pos walked d k)
-
-    ups-counted : (k : ℕ) → k ≤ bands i → stateAfter i k .vertical ≡ length (joined-lists (bandList vertical limit5 (i .splits) W rowsAll) k)
-    unfolding stateAfter joined-lists
-    ups-counted zero l = refl
-    ups-counted (suc k) l =
-        ap (λ (o : band.Outcome). stateAfter i k .vertical + o .reading .vertical) (is-done _ (fine _ (acc k l)))
-        ∙ ap₂ _+_ (ups-counted k (omega arith)) (list-long vertical k) ∙ sym (length-append (joined-lists (bandList vertical limit5 (i .splits) W rowsAll) k) (bandList vertical limit5 (i .splits) W rowsAll k))
-
-    levels-counted : (k : ℕ) → k ≤ bands i → stateAfter i k .horizontal ≡ length (joined-lists (bandList horizontal limit5 (i .splits) W rowsAll) k)
-    unfolding stateAfter joined-lists
-    levels-counted zero l = refl
-    levels-counted (suc k) l =
-        ap (λ (o : band.Outcome). stateAfter i k .horizontal + o .reading .horizontal) (is-done _ (fine _ (acc k l)))
-        ∙ ap₂ _+_ (levels-counted k (omega arith)) (list-long horizontal k) ∙ sym (length-append (joined-lists (bandList horizontal limit5 (i .splits) W rowsAll) k) (bandList horizontal limit5 (i .splits) W rowsAll k))
-
--- ---- all of it: of a picture whose planes and maps have their lengths
-
-module _ (i : Input) (sides : sizeOk (i .w) (i .h) ≡ true) (lengths : checks.lengthsOk (i .w) (i .h) (checks.lengthsOf (checked i)) ≡ true) (acc : Accepted i) where
-  abbrev n : LengthsTold (i .w) (i .h) (checks.lengthsOf (checked i))
-  n = lengths-told (i .w) (i .h) (checks.lengthsOf (checked i)) lengths
+module _ (i : Input) (sides : sizeOk (i .w) (i .h) ≡ true) (lengths : checks.lengthsOk (i .w) (i .h) (i .h) (checks.lengthsOf (checked i)) ≡ true) where
+  abbrev lengths-of : LengthsTold (i .w) (i .h) (i .h) (checks.lengthsOf (checked i))
+  lengths-of = lengths-told (i .w) (i .h) (i .h) (checks.lengthsOf (checked i)) lengths
 
   abbrev z : Sized (i .w) (i .h)
   z = sized (i .w) (i .h) sides
 
-  long-y : length (i .y) ≡ placesOf Luma (i .w / 4) (i .h / 4)
-  long-y =
-      let a : 4 * (i .w / 4) ≡ i .w = omega (arith, z .by-four) in
-      let b : 4 * (i .h / 4) ≡ i .h = omega (arith, z .by-four-down) in
-      n .y ∙ mul-comm (i .w) (i .h) ∙ (λ k. sym b k * sym a k)
+  whole : 4 * (i .h / 4) ≡ i .h
+  whole = omega (arith, z .by-four-down)
 
-  halves : i .w / 2 * (i .h / 2) ≡ placesOf Chroma (i .w / 4) (i .h / 4)
-  halves =
-      let c : 2 * (i .w / 4) ≡ i .w / 2 = omega (arith, z .by-four) in
-      let d : 2 * (i .h / 4) ≡ i .h / 2 = omega (arith, z .by-four-down) in
-      mul-comm (i .w / 2) (i .h / 2) ∙ (λ k. sym d k * sym c k)
+  pub long-plane : (x : Plane) → length (planeIn x i) ≡ placesOf (componentOf x) (i .w / 4) (i .h / 4)
+  long-plane luma-plane = lengths-of .y ∙ ap (lumaLength (i .w)) (sym whole) ∙ luma-places (i .w) (i .h / 4) (z .by-four)
+  long-plane u-plane = lengths-of .u ∙ ap (chromaLength (i .w)) (sym whole) ∙ chroma-places (i .w) (i .h / 4) (z .by-four)
+  long-plane v-plane = lengths-of .v ∙ ap (chromaLength (i .w)) (sym whole) ∙ chroma-places (i .w) (i .h / 4) (z .by-four)
 
-  long-u : length (i .u) ≡ placesOf Chroma (i .w / 4) (i .h / 4)
-  long-u = n .u ∙ halves
+  pub long-words : length (i .words) ≡ i .h / 4 * (i .w / 4)
+  long-words = lengths-of .words ∙ mul-comm (i .w / 4) (i .h / 4)
 
-  long-v : length (i .v) ≡ placesOf Chroma (i .w / 4) (i .h / 4)
-  long-v = n .v ∙ halves
+-- ---- a picture all of whose bands were accepted
 
-  long-words : length (i .words) ≡ i .h / 4 * (i .w / 4)
-  long-words = n .words ∙ mul-comm (i .w / 4) (i .h / 4)
+module _ (i : Input) (sides : sizeOk (i .w) (i .h) ≡ true) (lengths : checks.lengthsOk (i .w) (i .h) (i .h) (checks.lengthsOf (checked i)) ≡ true) (acc : Accepted i) where
+  abbrev all : bands i ≤ bands i
+  all = omega arith
+
+  abbrev words-long : length (i .words) ≡ i .h / 4 * (i .w / 4)
+  words-long = long-words i sides lengths
+
+  abbrev each-told : (k : ℕ) → k < bands i → Told (inputOf i k (stateAfter i k))
+  each-told = band-told i sides words-long (bands i) all acc
+
+  abbrev short : Bool
+  short = limit5 i sides
+
+  abbrev walked : (k : ℕ) → k < bands i → BandDone (i .splits) (i .w / 4) (i .h / 4) (pos i sides) k
+  walked k l = each-told k l .walk
+
+  words-done : stateAfter i (bands i) .words ≡ allDone (i .words)
+  unfolding allDone
+  words-done =
+      let m = words-marked i sides words-long (bands i) all acc (bands i) all in
+      let W = i .w / 4 in
+      let long = words-long in
+      let few : i .h / 4 * W ≤ 16 * bands i * W = mul-le-mul-right W (omega arith) in
+      is-tabulate _ (length (i .words)) _ 0 (m .long) (λ j h. m .at j h ∙ ap (λ (b : Bool). pick b (withDone (getD (i .words) j 0)) (getD (i .words) j 0)) (lt-ltb j (16 * bands i * W) (omega arith)))
+
+  -- ---- the picture is accepted
+
+  -- what a band's checks say of its part of a plane
+  part-small : (x : Plane) (k : ℕ) → k < bands i
+      → samplesOk (drop (placesOf (componentOf x) (i .w / 4) (rowsAbove k - 1)) (planePart i k (componentOf x) (planeOf x (stateAfter i k)))) ≡ true
+  part-small luma-plane k l = each-told k l .y
+  part-small u-plane k l = each-told k l .u
+  part-small v-plane k l = each-told k l .v
+
+  plane-fine : (x : Plane) → samplesOk (planeIn x i) ≡ true
+  plane-fine x = samples-pass (planeIn x i) (λ j e.
+      let c = componentOf x in
+      let W = i .w / 4 in
+      let rows = i .h / 4 in
+      let p = planeIn x i in
+      let at = mappedAs x i in
+      let long = long-plane i sides lengths x in
+      let long₁ : length p ≡ rows * stepOf c W = long ∙ places-step c W rows in
+      let b = in-band (stepOf c W) rows j (step-some c W (pos i sides)) (omega arith) in
+      let k = b .k in
+      let less = b .less in
+      let from = b .from in
+      let q = calledAll (mapsOf i) (i .strengths) at c short (i .splits) W rows k p in
+      let lq = calls-long (mapsOf i) (i .strengths) at c short (i .splits) W rows (pos i sides) walked k (omega arith) p long in
+      let d = in-checked (stepOf c W) rows q (lq ∙ places-step c W rows) j b _ _ _ (places-step c W (rowsBefore k)) (places-step c W (lent i k)) (places-step c W (rowsAbove k - 1)) in
+      let g = subst (λ (y : List ℕ). samplesOk (drop (placesOf c W (rowsAbove k - 1)) (planePart i k c y)) ≡ true) (after-plane i sides words-long (bands i) all acc x k (omega arith)) (part-small x k less) in
+      let small = sample-at _ (d .q) g (d .inside) in
+      let same : getD q j 0 ≡ getD p j 0 = calls-below (mapsOf i) (i .strengths) at c short (i .splits) W rows (pos i sides) walked k (omega arith) p long j (omega (arith, places-step c W (16 * k))) in
+      omega (arith, d .is, same))
+
+  qps-fine : qpsOk (i .words) ≡ true
+  unfolding qpsOk
+  qps-fine = scan-pass _ (length (i .words)) (λ j e.
+      let W = i .w / 4 in
+      let long = words-long in
+      let b = in-band W (i .h / 4) j (pos i sides) (omega arith) in
+      let k = b .k in
+      let less = b .less in
+      let l = stateAfter i k .words in
+      let m = words-marked i sides words-long (bands i) all acc k (omega arith) in
+      let d = in-checked W (i .h / 4) l (m .long ∙ long) j b (1 * (rowsBefore k * W)) (1 * (lent i k * W)) ((rowsAbove k - 1) * W) (omega arith) (omega arith) refl in
+      let good = scan-at _ _ (d .q) (d .inside) (each-told k less .qps) in
+      ap (λ (x : ℕ). leb x 51) (sym (marked-alikes i sides k l m .same j .qp) ∙ ap qpOf (sym (d .is))) ∙ good)
 
   some-band : 0 < bands i
-  some-band = let h = z .some-high in omega arith
-
-  walk-fine : pictureWalk (i .splits) (i .w / 4) (i .h / 4) .answer ≡ Done
-  walk-fine = walks-joined (i .splits) (i .w / 4) (i .h / 4) (pos i sides acc) (walked i sides acc)
-
-  y-fine : samplesOk (i .y) ≡ true
-  y-fine = plane-small i sides acc long-words Luma (i .y) long-y (qpY i) (λ k l. subst (λ (p : List ℕ). samplesOk (drop (placesOf Luma (i .w / 4) (rowsAbove k - 1)) (planePart i k Luma p)) ≡ true) (after-y i sides acc long-words k (omega arith)) (band-told i sides acc k l .y))
-
-  u-fine : samplesOk (i .u) ≡ true
-  u-fine = plane-small i sides acc long-words Chroma (i .u) long-u (qpU i) (λ k l. subst (λ (p : List ℕ). samplesOk (drop (placesOf Chroma (i .w / 4) (rowsAbove k - 1)) (planePart i k Chroma p)) ≡ true) (after-u i sides acc long-words k (omega arith)) (band-told i sides acc k l .u))
-
-  v-fine : samplesOk (i .v) ≡ true
-  v-fine = plane-small i sides acc long-words Chroma (i .v) long-v (qpV i) (λ k l. subst (λ (p : List ℕ). samplesOk (drop (placesOf Chroma (i .w / 4) (rowsAbove k - 1)) (planePart i k Chroma p)) ≡ true) (after-v i sides acc long-words k (omega arith)) (band-told i sides acc k l .v))
+  some-band = let h = z i sides lengths .some-high in omega arith
 
   pub accepted : check i ≡ Done
-  unfolding checks.checkOf planesOk
-  accepted = rw (sides, lengths, band-told i sides acc 0 some-band .settings, walk-fine, qps-fine i sides acc long-words, y-fine, u-fine, v-fine)
+  unfolding checks.checkOf checks.fromLengths planesOk
+  accepted =
+      rw (
+        mul-zero (i .w),
+        mul-zero (i .w / 2),
+        mul-zero (i .w / 4),
+        sides,
+        lengths,
+        each-told 0 some-band .settings,
+        walks-joined (i .splits) (i .w / 4) (i .h / 4) (pos i sides) walked,
+        qps-fine,
+        plane-fine luma-plane,
+        plane-fine u-plane,
+        plane-fine v-plane,
+      )
 
-  whole : outcome i ≡ done i
+  is-whole : outcome i ≡ done i
   unfolding outcome
-  whole = ap (afterChecks (refused i) (done i)) accepted
+  is-whole = ap (afterChecks (refused i) (done i)) accepted
 
-  abbrev fill : (c : Component) (at : ℕ → ℕ) (p : List ℕ) → length p ≡ placesOf c (i .w / 4) (i .h / 4)
-      → calledAll (mapsOf i) (i .strengths) at c (eqb (i .settings .limit) 5) (i .splits) (i .w / 4) (i .h / 4) (bands i) p ≡ deblocked i c at p
-  fill c at p l = calls-finished (mapsOf i) (i .strengths) at c (eqb (i .settings .limit) 5) (i .splits) (i .w / 4) (i .h / 4) (pos i sides acc) (walked i sides acc) p l
+  -- ---- the counts
 
-  abbrev keeps : (c : Component) (at : ℕ → ℕ) (p : List ℕ) → length p ≡ placesOf c (i .w / 4) (i .h / 4) → (k : ℕ) → k ≤ bands i → (j : ℕ) → j < final i k c
-      → getD (calledAll (mapsOf i) (i .strengths) at c (eqb (i .settings .limit) 5) (i .splits) (i .w / 4) (i .h / 4) k p) j 0 ≡ getD (deblocked i c at p) j 0
-  keeps c at p l k m j h =
-      calls-final (mapsOf i) (i .strengths) at c (eqb (i .settings .limit) 5) (i .splits) (i .w / 4) (i .h / 4) (pos i sides acc) (walked i sides acc) k m p l j h ∙ ap (λ (q : List ℕ). getD q j 0) (fill c at p l)
+  map-long : {A B : Type 0} (f : A → B) (l : List A) → length (map f l) ≡ length l
+  map-long f [] = refl
+  map-long f (a ∷ l) = ap suc (map-long f l)
+
+  lent-list : (d : Pass) (k : ℕ) → map (edgeDown (rowsBefore k)) (band.passEdges d (inputOf i k (stateAfter i k))) ≡ bandList d short (i .splits) (i .w / 4) (i .h / 4) k
+  lent-list d k = list-at (mapsOf i) (i .strengths) (qpY i) Luma short (i .splits) (i .w / 4) (i .h / 4) (pos i sides) walked d k
+
+  list-long : (d : Pass) (k : ℕ) → length (band.passEdges d (inputOf i k (stateAfter i k))) ≡ length (bandList d short (i .splits) (i .w / 4) (i .h / 4) k)
+  list-long d k = sym (map-long (edgeDown (rowsBefore k)) (band.passEdges d (inputOf i k (stateAfter i k)))) ∙ ap length (lent-list d k)
+
+  abbrev countIn : Pass → State → ℕ
+  countIn vertical s = s .vertical
+  countIn horizontal s = s .horizontal
+
+  counted-one : (d : Pass) (k : ℕ) → let s = stateAfter i k in countIn d (after i k s (band.done (inputOf i k s))) ≡ countIn d s + length (band.passEdges d (inputOf i k s))
+  counted-one vertical k = refl
+  counted-one horizontal k = refl
+
+  none-counted : (d : Pass) → countIn d (start i) ≡ 0
+  none-counted vertical = refl
+  none-counted horizontal = refl
+
+  counted : (d : Pass) (k : ℕ) → k ≤ bands i → countIn d (stateAfter i k) ≡ length (joined-lists (bandList d short (i .splits) (i .w / 4) (i .h / 4)) k)
+  unfolding stateAfter joined-lists
+  counted d zero l = none-counted d
+  counted d (suc k) l =
+      let f = bandList d short (i .splits) (i .w / 4) (i .h / 4) in
+      ap (λ (o : band.Outcome). countIn d (after i k (stateAfter i k) o)) (is-done _ (fine _ (acc k l)))
+      ∙ counted-one d k ∙ ap₂ _+_ (counted d k (omega arith)) (list-long d k) ∙ sym (length-append (joined-lists f k) (f k))
+
+  all-lists : (d : Pass) → passEdges d i ≡ joined-lists (bandList d short (i .splits) (i .w / 4) (i .h / 4)) (bands i)
+  all-lists d = lists-joined d short (i .splits) (i .w / 4) (i .h / 4) (pos i sides)
+
+  -- ---- all of it
+
+  outcome-plane : (x : Plane) → planeAfter x (done i) ≡ deblocked i (componentOf x) (mappedAs x i) (planeIn x i)
+  outcome-plane luma-plane = refl
+  outcome-plane u-plane = refl
+  outcome-plane v-plane = refl
+
+  abbrev fill : (x : Plane) → calledAll (mapsOf i) (i .strengths) (mappedAs x i) (componentOf x) short (i .splits) (i .w / 4) (i .h / 4) (bands i) (planeIn x i) ≡ planeAfter x (outcome i)
+  fill x =
+      calls-finished (mapsOf i) (i .strengths) (mappedAs x i) (componentOf x) short (i .splits) (i .w / 4) (i .h / 4) (pos i sides) walked (planeIn x i) (long-plane i sides lengths x)
+      ∙ sym (outcome-plane x) ∙ ap (planeAfter x) (sym is-whole)
 
   pub joined : Joined i
   joined =
-      let all : bands i ≤ bands i = omega arith in
       record {
-        accepted = ap (λ (o : Outcome). o .reading .number) whole;
-        y = after-y i sides acc long-words (bands i) all ∙ fill Luma (qpY i) (i .y) long-y ∙ ap (λ (o : Outcome). o .y) (sym whole);
-        u = after-u i sides acc long-words (bands i) all ∙ fill Chroma (qpU i) (i .u) long-u ∙ ap (λ (o : Outcome). o .u) (sym whole);
-        v = after-v i sides acc long-words (bands i) all ∙ fill Chroma (qpV i) (i .v) long-v ∙ ap (λ (o : Outcome). o .v) (sym whole);
-        words = words-done i sides acc long-words ∙ ap (λ (o : Outcome). o .words) (sym whole);
-        vertical = ups-counted i sides acc long-words (bands i) all ∙ ap length (sym (lists-joined vertical (eqb (i .settings .limit) 5) (i .splits) (i .w / 4) (i .h / 4) (pos i sides acc))) ∙ ap (λ (o : Outcome). o .reading .vertical) (sym whole);
-        horizontal = levels-counted i sides acc long-words (bands i) all ∙ ap length (sym (lists-joined horizontal (eqb (i .settings .limit) 5) (i .splits) (i .w / 4) (i .h / 4) (pos i sides acc))) ∙ ap (λ (o : Outcome). o .reading .horizontal) (sym whole);
-        next = position i sides acc;
-        final-y = λ k l j h. ap (λ (q : List ℕ). getD q j 0) (after-y i sides acc long-words k l) ∙ keeps Luma (qpY i) (i .y) long-y k l j h ∙ ap (λ (o : Outcome). getD (o .y) j 0) (sym whole);
-        final-u = λ k l j h. ap (λ (q : List ℕ). getD q j 0) (after-u i sides acc long-words k l) ∙ keeps Chroma (qpU i) (i .u) long-u k l j h ∙ ap (λ (o : Outcome). getD (o .u) j 0) (sym whole);
-        final-v = λ k l j h. ap (λ (q : List ℕ). getD q j 0) (after-v i sides acc long-words k l) ∙ keeps Chroma (qpV i) (i .v) long-v k l j h ∙ ap (λ (o : Outcome). getD (o .v) j 0) (sym whole);
+        accepted = ap (λ (o : Outcome). o .reading .number) is-whole;
+        planes = λ x. after-plane i sides words-long (bands i) all acc x (bands i) all ∙ fill x;
+        words = words-done ∙ ap (λ (o : Outcome). o .words) (sym is-whole);
+        vertical = counted vertical (bands i) all ∙ ap length (sym (all-lists vertical)) ∙ ap (λ (o : Outcome). o .reading .vertical) (sym is-whole);
+        horizontal = counted horizontal (bands i) all ∙ ap length (sym (all-lists horizontal)) ∙ ap (λ (o : Outcome). o .reading .horizontal) (sym is-whole);
+        next = position i sides words-long (bands i) all acc;
+        finals = λ x k l j h.
+            ap (λ (q : List ℕ). getD q j 0) (after-plane i sides words-long (bands i) all acc x k l)
+            ∙ calls-final (mapsOf i) (i .strengths) (mappedAs x i) (componentOf x) short (i .splits) (i .w / 4) (i .h / 4) (pos i sides) walked k l (planeIn x i) (long-plane i sides lengths x) j h
+            ∙ ap (λ (q : List ℕ). getD q j 0) (fill x);
+        edges = demand-3 short (i .splits) (i .w / 4) (i .h / 4) (pos i sides) (walks-joined (i .splits) (i .w / 4) (i .h / 4) (pos i sides) walked);
+        lists = all-lists;
+        lent-lists = λ d k l. lent-list d k;
       }

@@ -3,10 +3,11 @@ pub mod BandCalls
 pub mod Calls
 pub mod Demand3
 pub mod Edges
-pub mod Fronts
 pub mod Joined
 pub mod Lanes
+pub mod Lengths
 pub mod Listed
+pub mod Parted
 pub mod Plans
 pub mod Room
 pub mod Rows

@@ -3,29 +3,26 @@
 -- its top edge included; done is set in the band's units.
 -- Assumes nothing: these are definitions.
 use Prim.Native.Nat.{ℕ, _+_, _-_, _*_, _/_}
-use mathlib.Core.Bool.{Bool, _&&_}
-use mathlib.Core.List.{List, [], _∷_}
-use lib.Dec.{eqb, ltb}
+use mathlib.Core.List.{List}
+use lib.Dec.{eqb}
 use lib.IntN.{ℤ}
 use lib.ListN.{length, drop}
-use Rattle.laws.specs.Call.{unless, allOf}
 use Rattle.def.specs.Answers.{afterChecks}
-use Rattle.def.specs.Picture.{sizeOk, rootsAlong}
 use Rattle.def.specs.declared.Answer.{Answer}
-use Rattle.def.specs.declared.Answer.the-variants.{Done, Refused}
 use Rattle.def.specs.declared.Component.{Component}
 use Rattle.def.specs.declared.Component.the-variants.{Luma, Chroma}
 use Rattle.def.specs.declared.Refusal.{Refusal}
-use Rattle.def.specs.declared.Refusal.the-variants.{Size, Band, Length, Setting, Qp, Sample}
 use Rattle.def.specs.Refusals.{numberOf}
 use Rattle.split.specs.Edges.{Pass, vertical, horizontal, Edge}
-use Rattle.split.specs.Picture.{across, pictureWalk}
 use Rattle.strength.specs.ChromaQp.{mapped}
-use Rattle.df_check.specs.Checks.{settingsOk, qpsOk, planesOk}
+use Rattle.df_check.specs.BandCheck as bands
 use Rattle.df_check.specs.declared.Settings.{Settings}
 use Rattle.df_rules.specs.Filter.{finished}
 use Rattle.df_rules.specs.Strength.{Maps}
-use Rattle.bands_rules.specs.Bands.{bandRows, listFrom, rowsAbove, doneFrom, placesOf}
+use Rattle.df.specs.declared.band.Banded.{Banded}
+use Rattle.df.specs.declared.band.Banded.the-variants.{Done, Refused}
+use Rattle.bands_rules.specs.Bands.{listFrom, doneFrom, placesOf}
+use Rattle.df_check.specs.Rows.{bandRows, rowsAbove}
 
 pub record Input : Type 0 where
   pub next : ℕ
@@ -51,6 +48,10 @@ pub record Reading : Type 0 where
   pub horizontal : ℕ
   pub next : ℕ
 
+abbrev pub readingOf : Banded → Reading
+readingOf (Done m n p) = record { number = 0; vertical = m; horizontal = n; next = p .next }
+readingOf (Refused r p) = record { number = numberOf r; vertical = 0; horizontal = 0; next = p .next }
+
 pub record Outcome : Type 0 where
   pub reading : Reading
   pub y : List ℕ
@@ -68,30 +69,7 @@ rows i = bandRows (i .h / 4) (i .band)
 abbrev pub top : Input → ℕ
 top i = rowsAbove (i .band)
 
--- 14: the position's next, and not past the last
-unfoldable pub bandOk : (next band h : ℕ) → Bool
-bandOk next band h = eqb band next && ltb band (rootsAlong h)
-
--- 2: of the band above, if any, and the band; the split bytes of the band alone
-abbrev pub lengthTests : Input → List Bool
-lengthTests i =
-    let r = top i + rows i in
-    eqb (length (i .y)) (placesOf Luma (wide i) r)
-    ∷ eqb (length (i .u)) (placesOf Chroma (wide i) r)
-    ∷ eqb (length (i .v)) (placesOf Chroma (wide i) r)
-    ∷ eqb (length (i .words)) (r * wide i)
-    ∷ eqb (length (i .splits)) (1024 * rootsAlong (i .w))
-    ∷ eqb (length (i .motion)) (4 * (r * wide i))
-    ∷ eqb (length (i .refs)) (2 * (r * wide i))
-    ∷ eqb (length (i .table0)) 70
-    ∷ eqb (length (i .table1)) 70
-    ∷ eqb (length (i .strengths)) 208
-    ∷ []
-
-unfoldable pub lengthsOk : Input → Bool
-lengthsOk i = allOf (lengthTests i)
-
--- 6 and 7 of the band and the row of units above it: what lies before that row is not looked at
+-- 6 and 7 judge the band and the row of units above it: what lies before that row is not looked at
 abbrev pub unchecked : Input → ℕ
 unchecked i = top i - 1
 
@@ -102,17 +80,30 @@ abbrev pub checkedPlane : Input → Component → List ℕ → List ℕ
 checkedPlane i c p = drop (placesOf c (wide i) (unchecked i)) p
 
 -- 1, 14, 2, 3, 4 or 5 of the band's own walk, 6, 7
-unfoldable pub check : Input → Answer
-check i =
-    unless (sizeOk (i .w) (i .h)) (Refused Size)
-    (unless (bandOk (i .next) (i .band) (i .h)) (Refused Band)
-    (unless (lengthsOk i) (Refused Length)
-    (unless (settingsOk (i .settings)) (Refused Setting)
-    (afterChecks Refused
-    (unless (qpsOk (checkedWords i)) (Refused Qp)
-    (unless (planesOk (checkedPlane i Luma (i .y)) (checkedPlane i Chroma (i .u)) (checkedPlane i Chroma (i .v))) (Refused Sample)
-    Done))
-    (pictureWalk (i .splits) (wide i) (rows i) .answer)))))
+abbrev pub checked : Input → bands.Input
+checked i =
+    record {
+      next = i .next;
+      band = i .band;
+      lent = record {
+        w = i .w;
+        h = i .h;
+        y = i .y;
+        u = i .u;
+        v = i .v;
+        words = i .words;
+        splits = i .splits;
+        motion = length (i .motion);
+        refs = length (i .refs);
+        table0 = length (i .table0);
+        table1 = length (i .table1);
+        strengths = length (i .strengths);
+        settings = i .settings;
+      };
+    }
+
+abbrev pub check : Input → Answer
+check i = bands.checkOf (checked i)
 
 abbrev pub passEdges : Pass → Input → List Edge
 passEdges d i = listFrom d (eqb (i .settings .limit) 5) (top i) (i .splits) (wide i) (rows i)

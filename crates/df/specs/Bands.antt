@@ -1,16 +1,20 @@
--- A picture done by bands, and what is proved of it: `Joined`, whose proof is `joined`, in proofs/.
+-- A picture done by bands, and what is proved of it: `Joined`, whose proof is `joined`, in proofs/. And the other way round: `Parted`.
 -- Assumes nothing: these are definitions.
 use Prim.Native.Nat.{ℕ, zero, suc, _+_, _-_, _*_, _/_, _≤_, _<_}
-use mathlib.Core.List.{List, _++_}
+use mathlib.Core.List.{List, _++_, map}
 use mathlib.Core.Path.{_≡_}
+use lib.Dec.{eqb}
 use lib.ListN.{length, getD, take, drop}
 use Rattle.def.specs.declared.Component.{Component}
 use Rattle.def.specs.declared.Component.the-variants.{Luma, Chroma}
+use Rattle.split.specs.Edges.{Pass}
 use Rattle.split.specs.Picture.{across}
+use Rattle.df_rules.specs.Demand3.{Demand3}
 use Rattle.df_rules.specs.Places.{unitSide}
-use Rattle.bands_rules.specs.Bands.{bandRows, bandBytes, rowsAbove, rowsBefore, mapPart, placesOf}
+use Rattle.bands_rules.specs.Bands.{bandBytes, mapPart, placesOf, bandList, joined, edgeDown}
+use Rattle.df_check.specs.Rows.{bandRows, rowsAbove, rowsBefore}
 use Rattle.df.specs.Band as band
-use Rattle.df.specs.Deblock.{Input, outcome}
+use Rattle.df.specs.Deblock.{Input, Outcome, passEdges, qpY, qpU, qpV, outcome}
 
 -- what the calls leave, and what they answered: the picture's planes and words, the position, and the edges counted
 pub record State : Type 0 where
@@ -82,24 +86,64 @@ stateAfter i (suc n) = after i n (stateAfter i n) (band.outcome (inputOf i n (st
 abbrev pub bands : Input → ℕ
 bands i = across (i .h / 4)
 
--- every band's call was accepted
+-- the calls of the first n bands were accepted, and those of all
+abbrev pub AcceptedTo : Input → ℕ → Type 0
+AcceptedTo i n = (k : ℕ) → k < n → band.outcome (inputOf i k (stateAfter i k)) .reading .number ≡ 0
+
 abbrev pub Accepted : Input → Type 0
-Accepted i = (k : ℕ) → k < bands i → band.outcome (inputOf i k (stateAfter i k)) .reading .number ≡ 0
+Accepted i = AcceptedTo i (bands i)
+
+-- a picture that the call for the whole accepts has all its bands accepted. Its proof is `bands-accepted`, in proofs/
+abbrev pub Parted : Input → Type 0
+Parted i = outcome i .reading .number ≡ 0 → Accepted i
+
+-- ---- a plane, by its name: its component, what Q's QP is mapped to for it, and its samples wherever planes are held
+
+pub data Plane : Type 0 where
+  luma-plane u-plane v-plane : Plane
+
+abbrev pub componentOf : Plane → Component
+componentOf luma-plane = Luma
+componentOf u-plane = Chroma
+componentOf v-plane = Chroma
+
+abbrev pub mappedAs : Plane → Input → ℕ → ℕ
+mappedAs luma-plane i = qpY i
+mappedAs u-plane i = qpU i
+mappedAs v-plane i = qpV i
+
+abbrev pub planeIn : Plane → Input → List ℕ
+planeIn luma-plane i = i .y
+planeIn u-plane i = i .u
+planeIn v-plane i = i .v
+
+abbrev pub planeOf : Plane → State → List ℕ
+planeOf luma-plane s = s .y
+planeOf u-plane s = s .u
+planeOf v-plane s = s .v
+
+abbrev pub planeAfter : Plane → Outcome → List ℕ
+planeAfter luma-plane o = o .y
+planeAfter u-plane o = o .u
+planeAfter v-plane o = o .v
 
 -- the samples above the last two rows of the first k bands
 abbrev pub final : Input → ℕ → Component → ℕ
 final i k c = (unitSide c * (16 * k) - 2) * (unitSide c * (i .w / 4))
 
+-- of a picture all of whose bands were accepted
 pub record Joined (i : Input) : Type 0 where
+  -- the call for the whole picture accepts it, and leaves the same planes, words and counts
   pub accepted : outcome i .reading .number ≡ 0
-  pub y : stateAfter i (bands i) .y ≡ outcome i .y
-  pub u : stateAfter i (bands i) .u ≡ outcome i .u
-  pub v : stateAfter i (bands i) .v ≡ outcome i .v
+  pub planes : (x : Plane) → planeOf x (stateAfter i (bands i)) ≡ planeAfter x (outcome i)
   pub words : stateAfter i (bands i) .words ≡ outcome i .words
   pub vertical : stateAfter i (bands i) .vertical ≡ outcome i .reading .vertical
   pub horizontal : stateAfter i (bands i) .horizontal ≡ outcome i .reading .horizontal
+  -- the position is moved on by one
   pub next : (k : ℕ) → k ≤ bands i → stateAfter i k .next ≡ k
   -- after band k - 1 the rows above its last two are final
-  pub final-y : (k : ℕ) → k ≤ bands i → (j : ℕ) → j < final i k Luma → getD (stateAfter i k .y) j 0 ≡ getD (outcome i .y) j 0
-  pub final-u : (k : ℕ) → k ≤ bands i → (j : ℕ) → j < final i k Chroma → getD (stateAfter i k .u) j 0 ≡ getD (outcome i .u) j 0
-  pub final-v : (k : ℕ) → k ≤ bands i → (j : ℕ) → j < final i k Chroma → getD (stateAfter i k .v) j 0 ≡ getD (outcome i .v) j 0
+  pub finals : (x : Plane) (k : ℕ) → k ≤ bands i → (j : ℕ) → j < final i k (componentOf x) → getD (planeOf x (stateAfter i k)) j 0 ≡ getD (planeAfter x (outcome i)) j 0
+  -- demand 3 over the bands joined: the bands' lists, one after the other, are the picture's, and a call filters its band's where it lies in what is lent
+  pub edges : Demand3 (eqb (i .settings .limit) 5) (i .splits) (i .w / 4) (i .h / 4)
+  pub lists : (d : Pass) → passEdges d i ≡ joined (bandList d (eqb (i .settings .limit) 5) (i .splits) (i .w / 4) (i .h / 4)) (bands i)
+  pub lent-lists : (d : Pass) (k : ℕ) → k < bands i → map (edgeDown (rowsBefore k)) (band.passEdges d (inputOf i k (stateAfter i k))) ≡ bandList d (eqb (i .settings .limit) 5) (i .splits) (i .w / 4) (i .h / 4) k

@@ -1,4 +1,4 @@
-// Deblocking by bands: both passes over a band, on what its call is lent.
+// Deblocking by bands: a position by value, and the band that comes next. The Rust has no bands.
 ghost use mathlib.Core.Path.{_≡_};
 ghost use Prim.Native.Nat.{_+_, _*_, _/_, _≤_};
 ghost use lib.ListN.{length, take, drop};
@@ -6,8 +6,32 @@ ghost use Rattle.split.specs.Edges.{vertical, horizontal};
 ghost use Rattle.df_rules.specs.Frame.{Frame};
 ghost use Rattle.df_rules.specs.Leaves.{Accepted};
 ghost use Rattle.bands_rules.specs.Bands.{listFrom, Both};
+ghost use Rattle.laws.specs.Call.{Gives};
+ghost use Rattle.df.specs.Band as Band;
 use crate::Counts;
 use crate::both_passes;
+use crate::entries_by;
+use def::Answer;
+use def::Refusal;
+use df_check::Settings;
+use df_check::band_rows;
+use df_check::checked_band;
+use df_check::rows_above;
+
+// A position in a picture that is done by bands: the band that comes next.
+pub struct Bands {
+    pub next: usize,
+}
+
+// How many edges each pass filtered, and the position after the band; or why nothing was written, and the position as it was.
+pub enum Banded {
+    Done {
+        vertical: usize,
+        horizontal: usize,
+        next: Bands,
+    },
+    Refused(Refusal, Bands),
+}
 
 // Both passes over h rows of samples, below `top` rows of units. What is lent has `skip` more rows of units before these, which are not looked at.
 pub(crate) fn band_passes(
@@ -56,4 +80,101 @@ pub(crate) fn band_passes(
         &refs[refs_from..],
         entries,
     )
+}
+
+impl Bands {
+    // Band 0 comes next.
+    pub fn first() -> Bands
+        ensures { λ r. ⌜ r .next ≡ 0 ⌝ }
+    {
+        Bands { next: 0 }
+    }
+
+    // Deblocks band `band` of a picture of w by h: everything is checked before the first write.
+    pub fn deblock_band(
+        self,
+        band: usize,
+        w: usize,
+        h: usize,
+        y: &mut [u16],
+        u: &mut [u16],
+        v: &mut [u16],
+        words: &mut [u32],
+        splits: &[u8],
+        motion: &[i16],
+        refs: &[i8],
+        table0: &[i8],
+        table1: &[i8],
+        strengths: &[u8],
+        settings: Settings,
+    ) -> Banded
+        ensures { λ r. ⌜ Gives Band.outcome
+            (record {
+              next = self .next;
+              band = band;
+              w = w;
+              h = h;
+              y = now (y .entry);
+              u = now (u .entry);
+              v = now (v .entry);
+              words = now (words .entry);
+              splits = now (splits .entry);
+              motion = now (motion .entry);
+              refs = now (refs .entry);
+              table0 = now (table0 .entry);
+              table1 = now (table1 .entry);
+              strengths = now (strengths .entry);
+              settings = settings;
+            })
+            (record { reading = Band.readingOf r; y = now (y .exit); u = now (u .exit); v = now (v .exit); words = now (words .exit) }) ⌝ }
+    {
+        let next = self.next;
+        let found = checked_band(
+            next,
+            band,
+            w,
+            h,
+            &*y,
+            &*u,
+            &*v,
+            &*words,
+            splits,
+            motion.len(),
+            refs.len(),
+            table0.len(),
+            table1.len(),
+            strengths.len(),
+            settings,
+        );
+        if let Answer::Refused(r) = found {
+            return Banded::Refused(r, self);
+        }
+        let table = entries_by(settings, strengths, table0, table1);
+        let rows = band_rows(h, band);
+        let above = rows_above(band);
+        let top = above / 16;
+        let skip = above - top;
+        let own = 4 * rows;
+        let n = band_passes(
+            settings.limit == 5,
+            w,
+            own,
+            skip,
+            top,
+            y,
+            u,
+            v,
+            words,
+            splits,
+            motion,
+            refs,
+            &table,
+        );
+        let after = next + 1;
+        Banded::Done {
+            vertical: n.vertical,
+            horizontal: n.horizontal,
+            next: Bands { next: after },
+        }
+    }
 }

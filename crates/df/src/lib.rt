@@ -6,6 +6,7 @@ ghost use lib.ListN.{length};
 ghost use Rattle.laws.specs.Call.{Gives};
 ghost use Rattle.split.specs.Edges.{vertical, horizontal};
 ghost use Rattle.bands_rules.specs.Bands.{listFrom, Both};
+ghost use Rattle.strength.specs.Entries.{entriesOf};
 ghost use Rattle.df_rules.specs.Frame.{Frame};
 ghost use Rattle.df_rules.specs.Leaves.{Accepted};
 ghost use Rattle.df_rules.specs.Visit.{allDone};
@@ -24,12 +25,22 @@ mod place; // place.rt: the passes, and where an edge's lines lie
 mod plan; // plan.rt: the place of each edge's strength; no plane
 mod filter; // filter.rt: the edges of a list, filtered; no map
 mod pass; // pass.rt: a root's edges, and a pass over the picture
-mod band; // band.rt: both passes over a band, on what its call is lent
+mod band; // band.rt: a picture by bands
+
+pub use band::Banded;
+pub use band::Bands;
 
 // How many edges each pass filtered, or why nothing was written.
 pub enum Deblocked {
     Done { vertical: usize, horizontal: usize },
     Refused(Refusal),
+}
+
+// The strength entries of both passes, at the settings' offsets.
+pub(crate) fn entries_by(s: Settings, strengths: &[u8], table0: &[i8], table1: &[i8]) -> [u8; 624]
+    ensures { λ r. ⌜ r ≡ entriesOf (now (strengths .entry)) (now (table0 .entry)) (s .«u_offset») (now (table1 .entry)) (s .«v_offset») ⌝ }
+{
+    entries(strengths, table0, s.u_offset, table1, s.v_offset)
 }
 
 // Sets done in every unit.
@@ -160,13 +171,7 @@ pub fn deblock(
     if let Answer::Refused(r) = found {
         return Deblocked::Refused(r);
     }
-    let table = entries(
-        strengths,
-        table0,
-        settings.u_offset,
-        table1,
-        settings.v_offset,
-    );
+    let table = entries_by(settings, strengths, table0, table1);
     let n = both_passes(
         settings.limit == 5,
         w,

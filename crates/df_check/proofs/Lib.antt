@@ -1,2 +1,4 @@
 pub mod Passed
 pub mod Walked
+pub mod Fronts
+pub mod Bands

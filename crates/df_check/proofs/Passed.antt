@@ -1,18 +1,20 @@
 -- What checks that found nothing tell of all that is lent.
 --     lengths-told    the lengths, one by one
+--     rest-passed    what comes from the lengths on, from `fromLengths .. i ≡ Done`
 --     passed    everything, from `checkOf i ≡ Done`
---     any-qp    a QP read at any place, since past the words there is 0
+--     word-any    a QP read at any place, since past the words there is 0
 -- Assumes nothing.
 use Prim.Native.Nat.{ℕ, _*_, _/_, _≤_, _<_}
-use mathlib.Core.Path.{_≡_, refl}
+use mathlib.Core.Path.{_≡_, refl, subst}
 use mathlib.Core.Bool.{true}
-use mathlib.Core.List.{[], _∷_}
+use mathlib.Core.List.{List, [], _∷_}
+use native.Mathlib.Nat.{mul-zero}
 use native.Mathlib.Decide.{decLt}
 use native.Mathlib.Omega.{arith}
 use borrow.Author.Tests.{eqb-true, leb-true}
 use lib.Dec.{leb}
 use lib.IntN.{ℤ, pos, negsuc}
-use lib.ListN.{length, getD, List·getD-eq-default}
+use lib.ListN.{length, getD, drop, List·getD-eq-default}
 use lib.Signed.{leZ}
 use Rattle.laws.specs.Bits.{fieldOf}
 use Rattle.laws.proofs.Calls.{all-at}
@@ -27,37 +29,37 @@ use Rattle.samples.specs.Samples.{samplesOk}
 use Rattle.samples.proofs.Samples.{sample-any}
 use Rattle.split.specs.ListCall.{limitOk}
 use Rattle.split.specs.Picture.{pictureWalk}
-use Rattle.df_check.specs.Checks.{Input, lengthTests, lengthsOf, lengthsOk, offsetOk, settingsOk, qpsOk, planesOk, checkOf}
+use Rattle.df_check.specs.Checks.{Input, lengthTests, lengthsOf, lengthsOk, offsetOk, settingsOk, qpsOk, planesOk, fromLengths, checkOf}
 use Rattle.df_check.specs.declared.check.Lengths.{Lengths}
 
 -- ---- 2
 
-pub record LengthsTold (w h : ℕ) (n : Lengths) : Type 0 where
-  pub y : n .y ≡ lumaLength w h
-  pub u : n .u ≡ chromaLength w h
-  pub v : n .v ≡ chromaLength w h
-  pub words : n .words ≡ unitCount w h
-  pub splits : n .splits ≡ 1024 * rootCount w h
-  pub motion : n .motion ≡ 4 * unitCount w h
-  pub refs : n .refs ≡ 2 * unitCount w h
+pub record LengthsTold (w lent own : ℕ) (n : Lengths) : Type 0 where
+  pub y : n .y ≡ lumaLength w lent
+  pub u : n .u ≡ chromaLength w lent
+  pub v : n .v ≡ chromaLength w lent
+  pub words : n .words ≡ unitCount w lent
+  pub splits : n .splits ≡ 1024 * rootCount w own
+  pub motion : n .motion ≡ 4 * unitCount w lent
+  pub refs : n .refs ≡ 2 * unitCount w lent
   pub table0 : n .table0 ≡ 70
   pub table1 : n .table1 ≡ 70
   pub strengths : n .strengths ≡ 208
 
-pub lengths-told : (w h : ℕ) (n : Lengths) → lengthsOk w h n ≡ true → LengthsTold w h n
+pub lengths-told : (w lent own : ℕ) (n : Lengths) → lengthsOk w lent own n ≡ true → LengthsTold w lent own n
 unfolding lengthsOk
-lengths-told w h n e =
+lengths-told w lent own n e =
     record {
-      y = eqb-true _ _ (all-at (lengthTests w h n) 0 e);
-      u = eqb-true _ _ (all-at (lengthTests w h n) 1 e);
-      v = eqb-true _ _ (all-at (lengthTests w h n) 2 e);
-      words = eqb-true _ _ (all-at (lengthTests w h n) 3 e);
-      splits = eqb-true _ _ (all-at (lengthTests w h n) 4 e);
-      motion = eqb-true _ _ (all-at (lengthTests w h n) 5 e);
-      refs = eqb-true _ _ (all-at (lengthTests w h n) 6 e);
-      table0 = eqb-true _ _ (all-at (lengthTests w h n) 7 e);
-      table1 = eqb-true _ _ (all-at (lengthTests w h n) 8 e);
-      strengths = eqb-true _ _ (all-at (lengthTests w h n) 9 e);
+      y = eqb-true _ _ (all-at (lengthTests w lent own n) 0 e);
+      u = eqb-true _ _ (all-at (lengthTests w lent own n) 1 e);
+      v = eqb-true _ _ (all-at (lengthTests w lent own n) 2 e);
+      words = eqb-true _ _ (all-at (lengthTests w lent own n) 3 e);
+      splits = eqb-true _ _ (all-at (lengthTests w lent own n) 4 e);
+      motion = eqb-true _ _ (all-at (lengthTests w lent own n) 5 e);
+      refs = eqb-true _ _ (all-at (lengthTests w lent own n) 6 e);
+      table0 = eqb-true _ _ (all-at (lengthTests w lent own n) 7 e);
+      table1 = eqb-true _ _ (all-at (lengthTests w lent own n) 8 e);
+      strengths = eqb-true _ _ (all-at (lengthTests w lent own n) 9 e);
     }
 
 -- ---- all of them
@@ -82,41 +84,34 @@ onward : (walk k : Answer) → afterChecks Refused k walk ≡ Done → Onward wa
 onward Done k e = record { accepted = refl; rest = e }
 onward (Refused r) k e = record { accepted = e; rest = cc }
 
-pub record Passed (i : Input) : Type 0 where
-  pub size : sizeOk (i .w) (i .h) ≡ true
-  pub lengths : LengthsTold (i .w) (i .h) (lengthsOf i)
-  pub limit : limitOk (i .settings .limit) ≡ true
-  pub u-offset : Offset (i .settings .«u_offset»)
-  pub v-offset : Offset (i .settings .«v_offset»)
-  pub walk : pictureWalk (i .splits) (i .w / 4) (i .h / 4) .answer ≡ Done
-  pub qp : (k : ℕ) → k < length (i .words) → qpOf (getD (i .words) k 0) ≤ 51
-  pub y : (k : ℕ) → getD (i .y) k 0 ≤ 1023
-  pub u : (k : ℕ) → getD (i .u) k 0 ≤ 1023
-  pub v : (k : ℕ) → getD (i .v) k 0 ≤ 1023
+-- from the lengths on
+pub record Rest (lent own before : ℕ) (i : Input) : Type 0 where
+  pub lengths : LengthsTold (i .w) lent own (lengthsOf i)
+  pub settings : settingsOk (i .settings) ≡ true
+  pub walk : pictureWalk (i .splits) (i .w / 4) (own / 4) .answer ≡ Done
+  pub qps : qpsOk (drop (unitCount (i .w) before) (i .words)) ≡ true
+  pub y : samplesOk (drop (lumaLength (i .w) before) (i .y)) ≡ true
+  pub u : samplesOk (drop (chromaLength (i .w) before) (i .u)) ≡ true
+  pub v : samplesOk (drop (chromaLength (i .w) before) (i .v)) ≡ true
 
-pub passed : (i : Input) → checkOf i ≡ Done → Passed i
-unfolding checkOf settingsOk qpsOk planesOk
-passed i e =
-    let s = i .settings in
-    let size = passes _ _ _ e in
-    let lengths = passes _ _ _ (size .rest) in
+pub rest-passed : (lent own before : ℕ) (i : Input) → fromLengths lent own before i ≡ Done → Rest lent own before i
+unfolding fromLengths planesOk
+rest-passed lent own before i e =
+    let lengths = passes _ _ _ e in
     let settings = passes _ _ _ (lengths .rest) in
     let walk = onward _ _ (settings .rest) in
     let qps = passes _ _ _ (walk .rest) in
     let planes = passes _ _ _ (qps .rest) .holds in
-    let tests = limitOk (s .limit) ∷ offsetOk (s .«u_offset») ∷ offsetOk (s .«v_offset») ∷ [] in
-    let samples = samplesOk (i .y) ∷ samplesOk (i .u) ∷ samplesOk (i .v) ∷ [] in
+    let c = chromaLength (i .w) before in
+    let samples = samplesOk (drop (lumaLength (i .w) before) (i .y)) ∷ samplesOk (drop c (i .u)) ∷ samplesOk (drop c (i .v)) ∷ [] in
     record {
-      size = size .holds;
-      lengths = lengths-told (i .w) (i .h) (lengthsOf i) (lengths .holds);
-      limit = all-at tests 0 (settings .holds);
-      u-offset = offset-told (s .«u_offset») (all-at tests 1 (settings .holds));
-      v-offset = offset-told (s .«v_offset») (all-at tests 2 (settings .holds));
+      lengths = lengths-told (i .w) lent own (lengthsOf i) (lengths .holds);
+      settings = settings .holds;
       walk = walk .accepted;
-      qp = λ k p. leb-true _ _ (scan-at (λ (j : ℕ). leb (qpOf (getD (i .words) j 0)) 51) (length (i .words)) k p (qps .holds));
-      y = λ k. sample-any (i .y) k (all-at samples 0 planes);
-      u = λ k. sample-any (i .u) k (all-at samples 1 planes);
-      v = λ k. sample-any (i .v) k (all-at samples 2 planes);
+      qps = qps .holds;
+      y = all-at samples 0 planes;
+      u = all-at samples 1 planes;
+      v = all-at samples 2 planes;
     }
 
 -- the QP of no word
@@ -125,8 +120,42 @@ unfolding fieldOf
 no-word = omega arith
 
 -- a QP at any place: past the words there is 0
-pub any-qp : {i : Input} → Passed i → (k : ℕ) → qpOf (getD (i .words) k 0) ≤ 51
-any-qp {i} p k = go (decLt k (length (i .words))) where
-  go : Dec (k < length (i .words)) → qpOf (getD (i .words) k 0) ≤ 51
-  go (yes h) = p .qp k h
-  go (no h) = let out : length (i .words) ≤ k = omega arith in rw (List·getD-eq-default (i .words) 0 out) no-word
+pub word-any : (l : List ℕ) → qpsOk l ≡ true → (k : ℕ) → qpOf (getD l k 0) ≤ 51
+unfolding qpsOk
+word-any l e k = go (decLt k (length l)) where
+  go : Dec (k < length l) → qpOf (getD l k 0) ≤ 51
+  go (yes h) = leb-true _ _ (scan-at (λ (j : ℕ). leb (qpOf (getD l j 0)) 51) (length l) k h e)
+  go (no h) = let out : length l ≤ k = omega arith in rw (List·getD-eq-default l 0 out) no-word
+
+pub record Passed (i : Input) : Type 0 where
+  pub size : sizeOk (i .w) (i .h) ≡ true
+  pub lengths : LengthsTold (i .w) (i .h) (i .h) (lengthsOf i)
+  pub limit : limitOk (i .settings .limit) ≡ true
+  pub u-offset : Offset (i .settings .«u_offset»)
+  pub v-offset : Offset (i .settings .«v_offset»)
+  pub walk : pictureWalk (i .splits) (i .w / 4) (i .h / 4) .answer ≡ Done
+  pub qp : (k : ℕ) → qpOf (getD (i .words) k 0) ≤ 51
+  pub y : (k : ℕ) → getD (i .y) k 0 ≤ 1023
+  pub u : (k : ℕ) → getD (i .u) k 0 ≤ 1023
+  pub v : (k : ℕ) → getD (i .v) k 0 ≤ 1023
+
+pub passed : (i : Input) → checkOf i ≡ Done → Passed i
+unfolding checkOf settingsOk
+passed i e =
+    let s = i .settings in
+    let size = passes _ _ _ e in
+    let rest = rest-passed (i .h) (i .h) 0 i (size .rest) in
+    let words : qpsOk (i .words) ≡ true = subst (λ (n : ℕ). qpsOk (drop n (i .words)) ≡ true) (mul-zero (i .w / 4)) (rest .qps) in
+    let tests = limitOk (s .limit) ∷ offsetOk (s .«u_offset») ∷ offsetOk (s .«v_offset») ∷ [] in
+    record {
+      size = size .holds;
+      lengths = rest .lengths;
+      limit = all-at tests 0 (rest .settings);
+      u-offset = offset-told (s .«u_offset») (all-at tests 1 (rest .settings));
+      v-offset = offset-told (s .«v_offset») (all-at tests 2 (rest .settings));
+      walk = rest .walk;
+      qp = word-any (i .words) words;
+      y = λ k. sample-any (i .y) k (subst (λ (n : ℕ). samplesOk (drop n (i .y)) ≡ true) (mul-zero (i .w)) (rest .y));
+      u = λ k. sample-any (i .u) k (subst (λ (n : ℕ). samplesOk (drop n (i .u)) ≡ true) (mul-zero (i .w / 2)) (rest .u));
+      v = λ k. sample-any (i .v) k (subst (λ (n : ℕ). samplesOk (drop n (i .v)) ≡ true) (mul-zero (i .w / 2)) (rest .v));
+    }

@@ -1,11 +1,11 @@
--- What deblocking refuses: 1, 2, 3, then 4 or 5 as the walk meets them, 6, 7.
+-- What deblocking refuses, of a picture or of a part of it: 1, 2, 3, then 4 or 5 as the walk meets them, 6, 7.
 -- Assumes nothing: these are definitions.
 use Prim.Native.Nat.{ℕ, _*_, _/_}
 use mathlib.Core.Bool.{Bool, _&&_}
 use mathlib.Core.List.{List, [], _∷_}
 use lib.Dec.{leb, eqb}
 use lib.IntN.{ℤ, pos, negsuc}
-use lib.ListN.{length}
+use lib.ListN.{length, drop}
 use lib.Signed.{leZ}
 use Rattle.laws.specs.Call.{unless, allOf}
 use Rattle.laws.specs.Scan.{allIn}
@@ -21,23 +21,23 @@ use Rattle.split.specs.Picture.{pictureWalk}
 use Rattle.df_check.specs.declared.Settings.{Settings}
 use Rattle.df_check.specs.declared.check.Lengths.{Lengths}
 
--- 2: four numbers of motion and two references a unit, 1,024 split bytes a root, tables of 70, four rows of 52 entries
-abbrev pub lengthTests : (w h : ℕ) → Lengths → List Bool
-lengthTests w h n =
-    eqb (n .y) (lumaLength w h)
-    ∷ eqb (n .u) (chromaLength w h)
-    ∷ eqb (n .v) (chromaLength w h)
-    ∷ eqb (n .words) (unitCount w h)
-    ∷ eqb (n .splits) (1024 * rootCount w h)
-    ∷ eqb (n .motion) (4 * unitCount w h)
-    ∷ eqb (n .refs) (2 * unitCount w h)
+-- 2, of what is lent, `lent` rows of luma samples, and of the split bytes of the `own` among them: four numbers of motion and two references a unit, 1,024 split bytes a root, tables of 70, four rows of 52 entries
+abbrev pub lengthTests : (w lent own : ℕ) → Lengths → List Bool
+lengthTests w lent own n =
+    eqb (n .y) (lumaLength w lent)
+    ∷ eqb (n .u) (chromaLength w lent)
+    ∷ eqb (n .v) (chromaLength w lent)
+    ∷ eqb (n .words) (unitCount w lent)
+    ∷ eqb (n .splits) (1024 * rootCount w own)
+    ∷ eqb (n .motion) (4 * unitCount w lent)
+    ∷ eqb (n .refs) (2 * unitCount w lent)
     ∷ eqb (n .table0) 70
     ∷ eqb (n .table1) 70
     ∷ eqb (n .strengths) 208
     ∷ []
 
-unfoldable pub lengthsOk : (w h : ℕ) → Lengths → Bool
-lengthsOk w h n = allOf (lengthTests w h n)
+unfoldable pub lengthsOk : (w lent own : ℕ) → Lengths → Bool
+lengthsOk w lent own n = allOf (lengthTests w lent own n)
 
 -- 3: the transform limit, 5 or 6, and an offset, -12..12
 unfoldable pub offsetOk : ℤ → Bool
@@ -85,14 +85,18 @@ lengthsOf i =
       strengths = i .strengths;
     }
 
--- 4 and 5 are what the walk of the picture answers
-unfoldable pub checkOf : Input → Answer
-checkOf i =
-    unless (sizeOk (i .w) (i .h)) (Refused Size)
-    (unless (lengthsOk (i .w) (i .h) (lengthsOf i)) (Refused Length)
+-- from the lengths on, of a picture or of a part of it: of `lent` rows of luma samples that are lent the last `own` are the call's own, and the first
+-- `before` are not judged. 4 and 5 are what the walk of its own rows answers
+unfoldable pub fromLengths : (lent own before : ℕ) → Input → Answer
+fromLengths lent own before i =
+    unless (lengthsOk (i .w) lent own (lengthsOf i)) (Refused Length)
     (unless (settingsOk (i .settings)) (Refused Setting)
     (afterChecks Refused
-    (unless (qpsOk (i .words)) (Refused Qp)
-    (unless (planesOk (i .y) (i .u) (i .v)) (Refused Sample)
+    (unless (qpsOk (drop (unitCount (i .w) before) (i .words))) (Refused Qp)
+    (unless (planesOk (drop (lumaLength (i .w) before) (i .y)) (drop (chromaLength (i .w) before) (i .u)) (drop (chromaLength (i .w) before) (i .v))) (Refused Sample)
     Done))
-    (pictureWalk (i .splits) (i .w / 4) (i .h / 4) .answer))))
+    (pictureWalk (i .splits) (i .w / 4) (own / 4) .answer)))
+
+-- of a whole picture
+unfoldable pub checkOf : Input → Answer
+checkOf i = unless (sizeOk (i .w) (i .h)) (Refused Size) (fromLengths (i .h) (i .h) 0 i)

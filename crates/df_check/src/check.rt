@@ -1,8 +1,11 @@
 // What deblocking refuses, and in which order: 1, 2, 3, then 4 or 5 as the walk meets them, 6, 7. The Rust takes all of it to be right.
+ghost use mathlib.Core.Bool.{true};
 ghost use mathlib.Core.Path.{_≡_};
+ghost use Prim.Native.Nat.{_≤_};
 ghost use Rattle.laws.specs.Call.{Gives};
+ghost use Rattle.def.specs.Picture.{sizeOk};
 ghost use Rattle.def.proofs.Sizes.{Sized};
-ghost use Rattle.df_check.specs.Checks.{lengthsOk, offsetOk, settingsOk, qpsOk, planesOk, checkOf};
+ghost use Rattle.df_check.specs.Checks.{lengthsOk, offsetOk, settingsOk, qpsOk, planesOk, fromLengths, checkOf};
 use crate::Settings;
 use def::Answer;
 use def::Refusal;
@@ -23,14 +26,15 @@ struct Lengths {
     strengths: usize,
 }
 
-fn lengths_ok(w: usize, h: usize, n: Lengths) -> bool
-    requires { ⌜ Sized w h ⌝ }
-    ensures { λ r. ⌜ r ≡ lengthsOk w h n ⌝ }
+// Of planes and maps of `lent` rows of luma samples, and of the split bytes of `own` rows.
+fn lengths_ok(w: usize, lent: usize, own: usize, n: Lengths) -> bool
+    requires { ⌜ Sized w lent × Sized w own ⌝ }
+    ensures { λ r. ⌜ r ≡ lengthsOk w lent own n ⌝ }
 {
-    let chroma = w / 2 * (h / 2);
-    let units = w / 4 * (h / 4);
-    let roots = (w + 63) / 64 * ((h + 63) / 64);
-    (n.y == w * h)
+    let chroma = w / 2 * (lent / 2);
+    let units = w / 4 * (lent / 4);
+    let roots = (w + 63) / 64 * ((own + 63) / 64);
+    (n.y == w * lent)
         & (n.u == chroma)
         & (n.v == chroma)
         & (n.words == units)
@@ -80,9 +84,81 @@ fn planes_ok(y: &[u16], u: &[u16], v: &[u16]) -> bool
     samples::samples_ok(y) & samples::samples_ok(u) & samples::samples_ok(v)
 }
 
-// ---- all, in their order
+// ---- from the lengths on
 
-// Of motion, references, tables and strengths only the lengths are looked at.
+// Of `lent` rows of luma samples that are lent the last `own` are the call's own, and the first `before` are not judged. Of motion, references, tables and
+// strengths only the lengths are looked at.
+pub(crate) fn from_lengths(
+    w: usize,
+    h: usize,
+    lent: usize,
+    own: usize,
+    before: usize,
+    y: &[u16],
+    u: &[u16],
+    v: &[u16],
+    words: &[u32],
+    splits: &[u8],
+    motion: usize,
+    refs: usize,
+    table0: usize,
+    table1: usize,
+    strengths: usize,
+    settings: Settings,
+) -> Answer
+    requires { ⌜ (sizeOk w lent ≡ true) × (sizeOk w own ≡ true) × (before ≤ lent) ⌝ }
+    ensures { λ r. ⌜ r ≡ fromLengths lent own before
+        (record {
+          w = w;
+          h = h;
+          y = now (y .entry);
+          u = now (u .entry);
+          v = now (v .entry);
+          words = now (words .entry);
+          splits = now (splits .entry);
+          motion = motion;
+          refs = refs;
+          table0 = table0;
+          table1 = table1;
+          strengths = strengths;
+          settings = settings;
+        }) ⌝ }
+{
+    let lengths = Lengths {
+        y: y.len(),
+        u: u.len(),
+        v: v.len(),
+        words: words.len(),
+        splits: splits.len(),
+        motion,
+        refs,
+        table0,
+        table1,
+        strengths,
+    };
+    if !lengths_ok(w, lent, own, lengths) {
+        return Answer::Refused(Refusal::Length);
+    }
+    if !settings_ok(settings) {
+        return Answer::Refused(Refusal::Setting);
+    }
+    if let Answer::Refused(r) = split::check(w, own, splits) {
+        return Answer::Refused(r);
+    }
+    let units = w / 4 * (before / 4);
+    if !qps_ok(&words[units..]) {
+        return Answer::Refused(Refusal::Qp);
+    }
+    let luma = w * before;
+    let chroma = w / 2 * (before / 2);
+    if !planes_ok(&y[luma..], &u[chroma..], &v[chroma..]) {
+        return Answer::Refused(Refusal::Sample);
+    }
+    Answer::Done
+}
+
+// ---- a whole picture
+
 pub fn checked(
     w: usize,
     h: usize,
@@ -119,32 +195,22 @@ pub fn checked(
     if !def::size_ok(w, h) {
         return Answer::Refused(Refusal::Size);
     }
-    let lengths = Lengths {
-        y: y.len(),
-        u: u.len(),
-        v: v.len(),
-        words: words.len(),
-        splits: splits.len(),
+    from_lengths(
+        w,
+        h,
+        h,
+        h,
+        0,
+        y,
+        u,
+        v,
+        words,
+        splits,
         motion,
         refs,
         table0,
         table1,
         strengths,
-    };
-    if !lengths_ok(w, h, lengths) {
-        return Answer::Refused(Refusal::Length);
-    }
-    if !settings_ok(settings) {
-        return Answer::Refused(Refusal::Setting);
-    }
-    if let Answer::Refused(r) = split::check(w, h, splits) {
-        return Answer::Refused(r);
-    }
-    if !qps_ok(words) {
-        return Answer::Refused(Refusal::Qp);
-    }
-    if !planes_ok(y, u, v) {
-        return Answer::Refused(Refusal::Sample);
-    }
-    Answer::Done
+        settings,
+    )
 }

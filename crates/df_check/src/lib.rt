@@ -1,7 +1,11 @@
 // What stands before the first write of deblocking: its settings, what it refuses and in which order.
 // The Rust beside it: df.rs, which takes its input to be right.
-mod check;
+mod check; // check.rt: a picture's
+mod band; // band.rt: a band's
 
+pub use band::band_rows;
+pub use band::checked_band;
+pub use band::rows_above;
 pub use check::checked;
 
 // The transform limit, 5 or 6, and the offsets of U's QP and of V's, -12..12.

@@ -5,7 +5,7 @@ use native.Mathlib.Omega.{arith}
 use lib.ListN.{length}
 use borrow.Author.Needs.{needs}
 use Rattle.df_rules.specs.Visit.{allDone}
-use Rattle.df.proofs.Fronts.{end-put}
+use Rattle.df_check.proofs.Fronts.{end-put}
 use Rattle.df.proofs.Turns.{both-done, frame-done}
 use Rattle.df.proofs.both_passes.Statement.{statement}
 use Rattle.df.proofs.both_passes.Tie as tie

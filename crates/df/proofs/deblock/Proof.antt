@@ -3,14 +3,11 @@ use mathlib.Core.Path.{_≡_, sym, ap, _∙_}
 use borrow.Author.Needs.{needs}
 use denote.Ref.{now}
 use lib.ListN.{length}
-use mir.Syntax.{w8}
-use Rattle.laws.proofs.Widths.{back}
 use Rattle.def.specs.declared.Answer.the-variants.{Done}
-use Rattle.strength.specs.Entries.{entriesOf}
 use Rattle.strength.proofs.Strengths.{entries-long}
 use Rattle.df.specs.Deblock.{Input, check}
 use Rattle.bands_rules.proofs.Whole.{both-zero, frame-zero}
-use Rattle.df.proofs.Calls.{entriesIn, accepted, framed, deblock-done, deblock-refused}
+use Rattle.df.proofs.Calls.{accepted, framed, deblock-done, deblock-refused}
 use Rattle.df.proofs.deblock.Statement.{statement}
 use Rattle.df.proofs.deblock.Tie as tie
 
@@ -41,28 +38,17 @@ fine : (c : tie.After-enum-told) → check (inputOf (c .before .before .before .
 unfolding inputOf
 fine c = sym (c .before .before .checked .ensures) ∙ c .enum-told .given .1
 
--- the strength entries, at the settings' offsets
-made : (c : tie.After-entries) → c .entries .result ≡ entriesIn (inputOf (c .before .before .before .before .before .before .before .before .before .before .before .before .before .before .before .before))
-unfolding inputOf
-made c =
-    let a = c .before .before .before .before .before .before .before .before .before .before .before .before .before .before .before .before .args in
-    let s = a .settings in
-    let g = c .before .before .struct-told .given in
-    let u = back w8 (s .«u_offset») (record { sfits = g .1 .0 .1 }) in
-    let v = back w8 (s .«v_offset») (record { sfits = g .1 .1 .0 .1 }) in
-    c .entries .ensures ∙ (λ i. entriesOf (now (a .strengths)) (now (a .table0)) (u i) (now (a .table1)) (v i))
-
 both-passes-requires : tie.Need-both-passes-requires
 unfolding inputOf
 both-passes-requires c κs =
-    let i = inputOf (c .before .before .before .before .before .before .before .before .before .before .before .before .before .before .before .before .before .before .before .before .before .before) in
-    let e = fine (c .before .before .before .before .before .before .before .before .before) in
-    (frame-zero (framed i e _ (ap length (made (c .before .before .before .before .before .before)) ∙ entries-long _ _ _ _ _)), accepted i e)
+    let i = inputOf (c .before .before .before .before .before .before .before .before .before .before .before .before .before .before .before .before .before .before .before .before) in
+    let e = fine (c .before .before .before .before .before .before .before) in
+    (frame-zero (framed i e _ (ap length (c .before .before .before .before .before .before .entries-by .ensures) ∙ entries-long _ _ _ _ _)), accepted i e)
 
 returns-2 : tie.Need-returns-2
 unfolding inputOf
 returns-2 c =
-    deblock-done (inputOf (c .before .before .before .before .before .before .before .before .before .before .before .before .before .before .before .before .before .before .before .before .before .before .before .before .before .before .before .before .before .before .before)) (fine (c .before .before .before .before .before .before .before .before .before .before .before .before .before .before .before .before .before .before)) _ _ _ _ _ _ _ (made (c .before .before .before .before .before .before .before .before .before .before .before .before .before .before .before)) (both-zero _ _ _ (c .before .before .before .before .before .before .before .before .both-passes .ensures))
+    deblock-done (inputOf (c .before .before .before .before .before .before .before .before .before .before .before .before .before .before .before .before .before .before .before .before .before .before .before .before .before .before .before .before .before)) (fine (c .before .before .before .before .before .before .before .before .before .before .before .before .before .before .before .before)) _ _ _ _ _ _ _ (c .before .before .before .before .before .before .before .before .before .before .before .before .before .before .before .entries-by .ensures) (both-zero _ _ _ (c .before .before .before .before .before .before .before .before .both-passes .ensures))
 
 pub deblock-spec : {M : Type 1} → statement M
 deblock-spec =

@@ -3,7 +3,7 @@ use Prim.Native.Nat.{_-_, _*_, _/_}
 use lib.ListN.{length}
 use borrow.Author.Needs.{needs}
 use borrow.Rule.Slice.PartMut.{take-put}
-use Rattle.df.proofs.Fronts.{whole-end, end-drop}
+use Rattle.df_check.proofs.Fronts.{whole-end, end-drop}
 use Rattle.df.proofs.band.band_passes.Statement.{statement}
 use Rattle.df.proofs.band.band_passes.Tie as tie
 

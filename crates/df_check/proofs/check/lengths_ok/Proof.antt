@@ -10,27 +10,27 @@ use Rattle.df_check.proofs.check.lengths_ok.Statement.{statement}
 use Rattle.df_check.proofs.check.lengths_ok.Tie as tie
 
 mul-chroma : tie.Need-mul-chroma
-mul-chroma c = omega (arith, mul-le-mul {n₁ = c .args .w / 2} {m₁ = c .args .h / 2} {n₂ = 2048} {m₂ = 2048} (omega arith) (omega arith))
+mul-chroma c = omega (arith, c .pre .0 .wide, c .pre .0 .high, mul-le-mul {n₁ = c .args .w / 2} {m₁ = c .args .lent / 2} {n₂ = 2048} {m₂ = 2048} (omega arith) (omega arith))
 
 mul-units : tie.Need-mul-units
-mul-units c = omega (arith, few-units (c .pre))
+mul-units c = omega (arith, few-units (c .pre .0))
 
 mul-roots : tie.Need-mul-roots
-mul-roots c = omega (arith, few-roots (c .args .w) (c .args .h) (c .pre .wide) (c .pre .high))
+mul-roots c = omega (arith, few-roots (c .args .w) (c .args .own) (c .pre .1 .wide) (c .pre .1 .high))
 
 mul-result : tie.Need-mul-result
-mul-result c = omega (arith, mul-le-mul (c .pre .wide) (c .pre .high))
+mul-result c = omega (arith, mul-le-mul (c .pre .0 .wide) (c .pre .0 .high))
 
 mul-result-2 : tie.Need-mul-result-2
 mul-result-2 c =
     let s = c .before .before .before .before in
-    omega (arith, few-roots (s .args .w) (s .args .h) (s .pre .wide) (s .pre .high))
+    omega (arith, few-roots (s .args .w) (s .args .own) (s .pre .1 .wide) (s .pre .1 .high))
 
 mul-result-3 : tie.Need-mul-result-3
-mul-result-3 c = omega (arith, few-units (c .before .before .before .before .before .pre))
+mul-result-3 c = omega (arith, few-units (c .before .before .before .before .before .pre .0))
 
 mul-result-4 : tie.Need-mul-result-4
-mul-result-4 c = omega (arith, few-units (c .before .before .before .before .before .before .pre))
+mul-result-4 c = omega (arith, few-units (c .before .before .before .before .before .before .pre .0))
 
 returns : tie.Need-returns
 unfolding lengthsOk

@@ -1,0 +1,130 @@
+-- `df::band::Bands::deblock_band` meets its contract: nothing is written before all checks passed, and then both passes over the band follow.
+-- Assumes nothing.
+use Prim.Native.Nat.{ℕ, zero, suc, _+_, _-_, _*_, _/_, _≤_}
+use mathlib.Core.Path.{_≡_, refl, sym, ap, _∙_}
+use native.Mathlib.Omega.{arith}
+use borrow.Author.Needs.{needs}
+use denote.Ref.{now}
+use lib.ListN.{length}
+use Rattle.def.specs.declared.Answer.the-variants.{Done}
+use Rattle.def.proofs.Sizes.{sized}
+use Rattle.strength.proofs.Strengths.{entries-long}
+use Rattle.df_check.specs.Rows.{bandRows, rowsAbove}
+use Rattle.df_check.proofs.Bands.{few-rows}
+use Rattle.split.proofs.Roots.{some-wide}
+use Rattle.df.specs.Band.{Input, check, wide}
+use Rattle.df.proofs.BandCalls.{near, near-skip, band-refused, accepted, framed, Skipped, skipped, band-done, luma-rows, chroma-rows}
+use Rattle.df.proofs.Joined.{told, next-few}
+use Rattle.df.proofs.band.Bands.deblock_band.Statement.{statement}
+use Rattle.df.proofs.band.Bands.deblock_band.Tie as tie
+
+inputOf : tie.Start → Input
+inputOf s =
+    let a = s .args in
+    record {
+      next = a .self .next;
+      band = a .band;
+      w = a .w;
+      h = a .h;
+      y = now (a .y);
+      u = now (a .u);
+      v = now (a .v);
+      words = now (a .words);
+      splits = now (a .splits);
+      motion = now (a .motion);
+      refs = now (a .refs);
+      table0 = now (a .table0);
+      table1 = now (a .table1);
+      strengths = now (a .strengths);
+      settings = a .settings;
+    }
+
+returns : tie.Need-returns
+unfolding inputOf
+returns c = band-refused (inputOf (c .before .before .before .before .before .before .before .before .before .before .before .before .before .before)) _ (c .before .before .before .checked-band .ensures) _ (c .before .found .given .1)
+
+-- the checks found nothing
+fine : (c : tie.After-enum-told) → check (inputOf (c .before .before .before .before .before .before .before .before .before .before .before .before .before)) ≡ Done
+unfolding inputOf
+fine c = sym (c .before .before .checked-band .ensures) ∙ c .enum-told .given .1
+
+some : (c : tie.After-enum-told) → 1 ≤ wide (inputOf (c .before .before .before .before .before .before .before .before .before .before .before .before .before))
+unfolding inputOf
+some c = let i = inputOf (c .before .before .before .before .before .before .before .before .before .before .before .before .before) in some-wide (sized (i .w) (i .h) (told i (fine c) .size))
+
+-- of the rows above, the one that is handed on
+one-above : (k : ℕ) → rowsAbove k / 16 ≡ near k
+one-above zero = refl
+one-above (suc k) = refl
+
+rest-above : (k : ℕ) → rowsAbove k - rowsAbove k / 16 ≡ rowsAbove k - 1
+rest-above zero = refl
+rest-above (suc k) = refl
+
+top-is : (c : tie.After-rows-above) → c .rows-above .result / 16 ≡ near (c .before .before .before .before .before .before .before .before .before .before .before .before .before .before .before .before .args .band)
+top-is c = ap (λ (n : ℕ). n / 16) (c .rows-above .ensures) ∙ one-above (c .before .before .before .before .before .before .before .before .before .before .before .before .before .before .before .before .args .band)
+
+skip-is : (c : tie.After-rows-above) → c .rows-above .result - c .rows-above .result / 16 ≡ rowsAbove (c .before .before .before .before .before .before .before .before .before .before .before .before .before .before .before .before .args .band) - 1
+skip-is c = ap (λ (n : ℕ). n - n / 16) (c .rows-above .ensures) ∙ rest-above (c .before .before .before .before .before .before .before .before .before .before .before .before .before .before .before .before .args .band)
+
+own-is : (c : tie.After-rows-above) → 4 * c .before .band-rows .result ≡ 4 * bandRows (c .before .before .before .before .before .before .before .before .before .before .before .before .before .before .before .before .args .h / 4) (c .before .before .before .before .before .before .before .before .before .before .before .before .before .before .before .before .args .band)
+own-is c = ap (λ (n : ℕ). 4 * n) (c .before .band-rows .ensures)
+
+own-units : (c : tie.After-rows-above) → 4 * c .before .band-rows .result / 4 ≡ bandRows (c .before .before .before .before .before .before .before .before .before .before .before .before .before .before .before .before .args .h / 4) (c .before .before .before .before .before .before .before .before .before .before .before .before .before .before .before .before .args .band)
+own-units c = omega (arith, c .before .band-rows .ensures)
+
+mul-own : tie.Need-mul-own
+mul-own c = let a = c .before .before .before .before .before .before .before .before .before .before .before .before .before .before .before .before .args in omega (arith, c .before .band-rows .ensures, few-rows (a .h / 4) (a .band))
+
+band-passes-requires : tie.Need-band-passes-requires
+unfolding inputOf
+band-passes-requires c κs =
+    let d = c .before .before .before .before .before .before in
+    let e = fine (c .before .before .before .before .before .before .before .before .before) in
+    let p = some (c .before .before .before .before .before .before .before .before .before) in
+    let i = inputOf (c .before .before .before .before .before .before .before .before .before .before .before .before .before .before .before .before .before .before .before .before .before .before) in
+    let f = framed i e p _ (ap length (c .before .before .before .before .before .before .before .before .entries-by .ensures) ∙ entries-long _ _ _ _ _) in
+    let k = skipped i e p in
+    rw (skip-is d, top-is d, own-units d, own-is d)
+    ((f, accepted i e p), (omega (arith, k .y), omega (arith, k .u), omega (arith, k .v), omega (arith, k .words), omega (arith, k .motion), omega (arith, k .refs), k .few))
+
+add-after : tie.Need-add-after
+unfolding inputOf
+add-after c = omega (arith, next-few (told (inputOf (c .before .before .before .before .before .before .before .before .before .before .before .before .before .before .before .before .before .before .before .before .before .before .before .before .before .before .before .before .before .before .before)) (fine (c .before .before .before .before .before .before .before .before .before .before .before .before .before .before .before .before .before .before))))
+
+returns-2 : tie.Need-returns-2
+unfolding inputOf
+returns-2 c =
+    let d = c .before .before .before .before .before .before .before .before .before .before .before .before .before .before .before in
+    let i = inputOf (c .before .before .before .before .before .before .before .before .before .before .before .before .before .before .before .before .before .before .before .before .before .before .before .before .before .before .before .before .before .before .before) in
+    let e = fine (c .before .before .before .before .before .before .before .before .before .before .before .before .before .before .before .before .before .before) in
+    let p = some (c .before .before .before .before .before .before .before .before .before .before .before .before .before .before .before .before .before .before) in
+    let s = rowsAbove (c .before .before .before .before .before .before .before .before .before .before .before .before .before .before .before .before .before .before .before .before .before .before .before .before .before .before .before .before .before .before .before .args .band) - 1 in
+    let b = rw (skip-is d, top-is d, own-units d, c .before .before .before .before .before .before .before .before .before .before .before .before .before .before .before .before .before .entries-by .ensures) at (c .before .before .before .before .before .before .before .before .band-passes .ensures) in
+    band-done i e p _ _ (luma-rows s (wide i)) (chroma-rows s (wide i)) _ _ _ _ _ _ (b .0) (b .1) (b .2) (b .3) (b .4)
+
+pub deblock-band-spec : {M : Type 1} → statement M
+deblock-band-spec =
+    tie.close
+    (tie.spec
+    (λ c κs. search needs)
+    (λ c. search needs)
+    (λ c. search needs)
+    (λ c. search needs)
+    (λ c. search needs)
+    (λ c. search needs)
+    returns
+    (λ c. search needs)
+    (λ c κs. search needs)
+    (λ c κs. search needs)
+    (λ c κs. search needs)
+    (λ c. search needs)
+    mul-own
+    (λ c. search needs)
+    band-passes-requires
+    add-after
+    (λ c. search needs)
+    (λ c. search needs)
+    (λ c. search needs)
+    (λ c. search needs)
+    returns-2)

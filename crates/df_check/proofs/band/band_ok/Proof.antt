@@ -1,0 +1,13 @@
+-- `df_check::band::band_ok` meets its contract: the code is the two tests. Assumes nothing.
+use mathlib.Core.Path.{refl}
+use borrow.Author.Needs.{needs}
+use Rattle.df_check.specs.BandCheck.{bandOk}
+use Rattle.df_check.proofs.band.band_ok.Statement.{statement}
+use Rattle.df_check.proofs.band.band_ok.Tie as tie
+
+returns : tie.Need-returns
+unfolding bandOk
+returns c = refl
+
+pub band-ok-spec : {M : Type 1} → statement M
+band-ok-spec = tie.close (tie.spec (λ c. search needs) returns)
