@@ -1,13 +1,15 @@
--- No call refuses always: each has an input that it accepts, here with the number of its outcome. (What `listing` accepts is what `edgelist` prints.)
+-- No call refuses always: each has an input that it accepts, here with the number of its outcome. (What `listing` accepts is what `edgelist` prints, and what
+-- `reconstruct` and `checked_leaves` accept is in `replay_driver`.)
 -- Assumes nothing.
 use mathlib.Core.Path.{_≡_, refl}
 use mathlib.Core.Bool.{true, false}
 use mathlib.Core.List.{List, [], _∷_}
 use Prim.Native.Nat.{ℕ}
-use lib.IntN.{pos}
+use lib.IntN.{ℤ, pos}
 use lib.ListN.{replicate}
 use Rattle.laws.specs.Bits.{fieldOf}
 use Rattle.laws.specs.Scan.{allBelow}
+use Rattle.def.specs.Answers.{answerNumber}
 use Rattle.def.specs.Blocks.{blockSideOk, componentSideOk, blockOk, unitOk}
 use Rattle.def.specs.Picture.{sizeOk}
 use Rattle.def.specs.Word.{flagAt}
@@ -24,9 +26,15 @@ use Rattle.ipred.specs.Predict as predict
 use Rattle.recon.specs.Plane as plane
 use Rattle.recon.specs.Recon as recon
 use Rattle.rank.specs.RankCall as rank
+use Rattle.df_check.specs.BandCheck as band-checks
+use Rattle.df_check.specs.Checks as checks
+use Rattle.df_check.specs.Rows.{bandRows}
+use Rattle.df.specs.Band as band
+use Rattle.df.specs.Deblock as deblock
 use Rattle.split.specs.CheckCall as check
 use Rattle.split.specs.LeavesCall as leaves
 use Rattle.split.specs.ListCall as list
+use Rattle.split.specs.RootCall as root-list
 use Rattle.split.specs.Walk.{onward, inTurn, leafWalk, byByte, walk}
 
 abbrev points : Points
@@ -38,6 +46,48 @@ block = record { w = 4; h = 4; words = 0 ∷ []; x = 0; y = 0; side = 4 }
 
 abbrev cut : List ℕ
 cut = replicate 1024 1
+
+-- that picture for deblocking, whole and as band 0
+abbrev table : List ℤ
+table = replicate 70 (pos 0)
+
+abbrev picture : deblock.Input
+picture =
+    record {
+      w = 4;
+      h = 4;
+      y = replicate 16 0;
+      u = replicate 4 0;
+      v = replicate 4 0;
+      words = 0 ∷ [];
+      splits = cut;
+      motion = replicate 4 (pos 0);
+      refs = replicate 2 (pos 0);
+      table0 = table;
+      table1 = table;
+      strengths = replicate 208 0;
+      settings = record { limit = 6; «u_offset» = pos 0; «v_offset» = pos 0 };
+    }
+
+abbrev part : band.Input
+part =
+    record {
+      next = 0;
+      band = 0;
+      w = 4;
+      h = 4;
+      y = picture .y;
+      u = picture .u;
+      v = picture .v;
+      words = picture .words;
+      splits = cut;
+      motion = picture .motion;
+      refs = picture .refs;
+      table0 = table;
+      table1 = table;
+      strengths = picture .strengths;
+      settings = picture .settings;
+    }
 
 abbrev given : List ℕ
 given =
@@ -56,8 +106,13 @@ given =
     ∷ check.outcome (record { w = 4; h = 4; splits = cut }) .number
     ∷ rank.outcome (record { x = 15; y = 15 }) .reading .number
     ∷ list.outcome (record { w = 4; h = 4; splits = cut; limit = 5; vertical = 0 ∷ 0 ∷ []; horizontal = 0 ∷ 0 ∷ [] }) .reading .number
+    ∷ root-list.outcome (record { w = 4; h = 4; splits = cut; x = 0; y = 0; horizontal = false; short = false; top = 0; out = replicate 512 0 }) .reading .number
+    ∷ answerNumber (deblock.check picture)
+    ∷ deblock.outcome picture .reading .number
+    ∷ answerNumber (band.check part)
+    ∷ band.outcome part .reading .number
     ∷ []
 
-pub accepted : given ≡ replicate 12 0
-unfolding derived.outcome points-check.check points-check.lengthsOk points-check.pointsOk points-check.pivotsOk points-check.pivotOk inOf outOf avail.intraOutcome avail.interOutcome avail.checkOf ranks.numberOutcome ranks.check ranks.lengthsOk ranks.modesOk gather.outcome gather.checkOf gather.lengthsOk gather.samplesOk gather.runAt gather.nearAt predict.outcome predict.lengthsOk recon.outcome recon.blockCheck recon.lengthsOk plane.outcome plane.planeCheck plane.blockLengthsOk leaves.outcome leaves.checkOf leaves.lengthsOk leaves.rootOk check.outcome check.check rank.outcome rank.check list.outcome list.checkOf list.lengthsOk list.limitOk sizeOk blockOk blockSideOk componentSideOk unitOk samplesOk flagAt fieldOf allBelow walk byByte inTurn onward leafWalk
+pub accepted : given ≡ replicate 17 0
+unfolding derived.outcome points-check.check points-check.lengthsOk points-check.pointsOk points-check.pivotsOk points-check.pivotOk inOf outOf avail.intraOutcome avail.interOutcome avail.checkOf ranks.numberOutcome ranks.check ranks.lengthsOk ranks.modesOk gather.outcome gather.checkOf gather.lengthsOk gather.samplesOk gather.runAt gather.nearAt predict.outcome predict.lengthsOk recon.outcome recon.blockCheck recon.lengthsOk plane.outcome plane.planeCheck plane.blockLengthsOk leaves.outcome leaves.checkOf leaves.lengthsOk leaves.rootOk check.outcome check.check rank.outcome rank.check list.outcome list.checkOf list.lengthsOk list.limitOk root-list.outcome root-list.checkOf checks.checkOf checks.fromLengths checks.lengthsOk checks.settingsOk checks.offsetOk checks.qpsOk checks.planesOk deblock.outcome band-checks.checkOf band-checks.bandOk bandRows band.outcome sizeOk blockOk blockSideOk componentSideOk unitOk samplesOk flagAt fieldOf allBelow walk byByte inTurn onward leafWalk
 accepted = refl
