@@ -1,7 +1,7 @@
 /* The decoder's calls for C. `rt staticlib decoder_c` writes the archive to link, target/staticlib/libdecoder_c.a.
  *
  * Every call answers a number: 0 is done, any other a refusal. Every input is accepted, and a refused call writes to no lent slice;
- * the values that it hands back through a pointer are then 0.
+ * the values that it hands back through a pointer are then 0, and a position that goes in and out through one is as it was.
  *
  * A slice is a pointer to its first element and its length in elements. The caller sees to these, which no call can test:
  * a pointer is not NULL, also where the length is 0, and that many elements lie behind it; a slice that is written overlaps no other
@@ -35,6 +35,7 @@ enum {
     LOMSAKEUN_PIVOT = 11,   /* a pivot outside -12..57 */
     LOMSAKEUN_SHEET = 12,   /* a malformed sheet */
     LOMSAKEUN_RECORD = 13,  /* the leaf or residual list's length, a mask or a spare byte */
+    LOMSAKEUN_BAND = 14,    /* a band that is not the position's next, or is past the last */
     LOMSAKEUN_OLD = 20      /* a sheet of the time when V read table0 on vertical edges; the listing's text has it */
 };
 
@@ -133,6 +134,31 @@ uint8_t lomsakeun_reconstruct(
 /* Deblocks a picture (df): its planes are filtered and done is set in every word; how many edges each pass visited.
  * U's QP is mapped by table0, V's by table1. */
 uint8_t lomsakeun_deblock(
+    size_t w, size_t h, uint16_t *y, size_t y_len, uint16_t *u, size_t u_len, uint16_t *v, size_t v_len,
+    uint32_t *words, size_t words_len, const uint8_t *splits, size_t splits_len,
+    const int16_t *motion, size_t motion_len, const int8_t *refs, size_t refs_len,
+    const int8_t *table0, size_t table0_len, const int8_t *table1, size_t table1_len,
+    const uint8_t *strengths, size_t strengths_len,
+    uint8_t limit, int8_t u_offset, int8_t v_offset, size_t *vertical_count, size_t *horizontal_count);
+
+/* Deblocks one band of a picture (df). A band is 64 luma rows, the last one maybe fewer; they are numbered from 0, from the top. w and h are
+ * the whole picture's sides, and band is the number of the band.
+ *
+ * Lent are the rows of the band above, if any, followed by those of the band: for band 0 its own rows alone, for any other 64 rows and its
+ * own. y, u and v (half as many rows), words, motion and refs cover just these rows. splits has the band's own bytes alone, 1024 for each of
+ * its roots. Tables, strengths and settings are as for a picture.
+ *
+ * next is the position: set it to 0 before band 0, and hand it to each call as the call before left it. A call that is done moves it on by
+ * one; a refused one leaves it, so that the same band can be mended and called again. A band other than next, or past the last, is 14.
+ *
+ * The band's vertical edges are filtered and then its horizontal ones, the edge above it included; of the band above, the last two rows of
+ * each plane may be written. Done is set in the band's own words, and the counts are the band's. QPs and samples are checked in the band and in
+ * the 4 luma rows above it, with their units and their chroma rows, and no further up.
+ *
+ * After a band, all its rows but its last two luma rows and its last two chroma rows are final, and so are all rows above it. After the last
+ * band all rows are final, and equal what one call over the picture makes of it, where nothing was altered between the calls. */
+uint8_t lomsakeun_deblock_band(
+    size_t *next, size_t band,
     size_t w, size_t h, uint16_t *y, size_t y_len, uint16_t *u, size_t u_len, uint16_t *v, size_t v_len,
     uint32_t *words, size_t words_len, const uint8_t *splits, size_t splits_len,
     const int16_t *motion, size_t motion_len, const int8_t *refs, size_t refs_len,

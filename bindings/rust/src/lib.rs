@@ -1,5 +1,5 @@
 //! Safe calls of the Lomsakeun decoder, whose proved archive this crate links: chroma QP tables, neighbour availability, mode ranks,
-//! gathering, intra prediction, residual addition, the split tree with its edges, the block driver and deblocking.
+//! gathering, intra prediction, residual addition, the split tree with its edges, the block driver, and deblocking, of a picture at once or by bands.
 //!
 //! Every call accepts every input. A bad one answers a [`Refusal`] and leaves every lent slice as it was; nothing is trusted, and each
 //! slice's length goes with it. Places and sizes are in luma samples unless a call says units (4x4 luma samples); planes and maps are flat,
@@ -37,6 +37,7 @@
 //! ```
 #![deny(missing_docs)]
 
+mod bands;
 mod blocks;
 mod chroma;
 mod deblock;
@@ -47,6 +48,7 @@ mod refusal;
 pub mod sys;
 mod tree;
 
+pub use bands::Bands;
 pub use blocks::{get_nbr, ipred_b, recon, recon_plane, Component};
 pub use chroma::{derived_chroma_qp_mapping_tables, Points};
 pub use deblock::{deblock, Maps, Settings};

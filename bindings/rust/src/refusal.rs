@@ -31,6 +31,8 @@ pub enum Refusal {
     Sheet = 12,
     /// The leaf or residual list's length, a mask or a spare byte.
     Record = 13,
+    /// A band that is not the position's next, or is past the last.
+    Band = 14,
     /// A sheet of the time when V read table 0 on vertical edges.
     Old = 20,
 }
@@ -51,6 +53,7 @@ impl Refusal {
         Refusal::Pivot,
         Refusal::Sheet,
         Refusal::Record,
+        Refusal::Band,
         Refusal::Old,
     ];
 
@@ -81,6 +84,7 @@ impl fmt::Display for Refusal {
             Refusal::Pivot => "a pivot outside -12..57",
             Refusal::Sheet => "a malformed sheet",
             Refusal::Record => "the leaf or residual list",
+            Refusal::Band => "a band out of turn, or past the last",
             Refusal::Old => "an old sheet",
         };
         write!(f, "refused={}: {what}", self.number())

@@ -226,6 +226,88 @@ fn deblocking() {
     assert_eq!(run(3), [100, 100, 103, 107, 113, 117, 120, 120].repeat(8));
 }
 
+/// The split bytes of a picture of 68 by 136, six roots: blocks of 32 in the first column, of 4 and of 8 where the picture ends.
+fn tall_splits() -> Vec<u8> {
+    let mut splits = vec![9; 6 * 1024];
+    let mut set = |root: usize, level: usize, units: &[usize], cut: u8| {
+        units.iter().for_each(|unit| splits[1024 * root + 256 * level + unit] = cut);
+    };
+    for root in [0, 2] {
+        set(root, 0, &[136], 1);
+        set(root, 1, &[68, 76, 196, 204], 0);
+        // beside it a column of blocks of 4
+        set(root + 1, 0, &[136], 1);
+        set(root + 1, 1, &[68, 196], 1);
+        set(root + 1, 2, &[34, 98, 162, 226], 1);
+        set(root + 1, 3, &[17, 49, 81, 113, 145, 177, 209, 241], 1);
+    }
+    set(4, 0, &[136], 1);
+    set(4, 1, &[68, 76], 1);
+    set(4, 2, &[34, 38, 42, 46], 1);
+    set(4, 3, &[17, 19, 21, 23, 25, 27, 29, 31], 0);
+    set(5, 0, &[136], 1);
+    set(5, 1, &[68], 1);
+    set(5, 2, &[34], 1);
+    set(5, 3, &[17], 1);
+    splits
+}
+
+/// A picture of 68 by 136 in three bands, the last of 8 rows, beside the whole: planes, words and counts, and after each band the rows that are
+/// final.
+#[test]
+fn deblocking_by_bands() {
+    let (w, h, across) = (68, 136, 17);
+    let noise = |i: usize| 500 + (i * 7919 % 31) as u16;
+    let before: [Vec<u16>; 3] = [w * h, w * h / 4, w * h / 4].map(|n| (0..n).map(noise).collect());
+    let units: Vec<u32> = (0..across * 34).map(|i| (20 + i % 32) << 16 | (i % 5 / 4) << 15).map(|i| i as u32).collect();
+    let motion: Vec<i16> = (0..4 * units.len()).map(|i| (i % 7) as i16).collect();
+    let refs: Vec<i8> = (0..2 * units.len()).map(|i| (i % 3) as i8 - 1).collect();
+    let (splits, tables, strengths) = (tall_splits(), [[35; 70], [45; 70]], [5; 208]);
+    let settings = Settings { limit: 5, u_offset: 1, v_offset: -1 };
+    let maps = |splits, motion, refs| Maps {
+        splits,
+        motion,
+        refs,
+        tables: tables.each_ref().map(|t| &t[..]),
+        strengths: &strengths,
+    };
+
+    let ([mut y, mut u, mut v], mut words) = (before.clone(), units.clone());
+    let picture = Picture { w, h, y: &mut y, u: &mut u, v: &mut v, words: &mut words };
+    let (vertical, horizontal) = deblock(picture, maps(&splits, &motion, &refs), settings).unwrap();
+    let whole = [y, u, v];
+    assert!((0..3).all(|i| whole[i] != before[i]));
+
+    let (mut bands, mut sums, mut planes, mut done) = (Bands::first(), (0, 0), before, units);
+    for band in 0..3 {
+        // the rows of units that are lent
+        let (from, to) = (16 * usize::saturating_sub(band, 1), 34.min(16 * band + 16));
+        let [y, u, v] = &mut planes;
+        let (luma, chroma) = (16 * across * from..16 * across * to, 4 * across * from..4 * across * to);
+        let part = Picture {
+            w,
+            h,
+            y: &mut y[luma],
+            u: &mut u[chroma.clone()],
+            v: &mut v[chroma.clone()],
+            words: &mut done[across * from..across * to],
+        };
+        let refs = &refs[2 * across * from..2 * across * to];
+        let own = maps(&splits[2048 * band..2048 * (band + 1)], &motion[chroma], refs);
+        let (m, n) = bands.deblock(band, part, own, settings).unwrap();
+        sums = (sums.0 + m, sums.1 + n);
+        assert_eq!(bands.next(), band + 1);
+        let rows_left = if band < 2 { 2 } else { 0 };
+        for (i, row) in [(0, w), (1, w / 2), (2, w / 2)] {
+            let rows = (if i == 0 { 4 } else { 2 }) * to - rows_left;
+            assert_eq!(planes[i][..rows * row], whole[i][..rows * row]);
+        }
+        assert!(done.iter().enumerate().all(|(i, word)| (word & DONE != 0) == (i < across * to)));
+    }
+    assert_eq!((planes, done), (whole, words));
+    assert_eq!(sums, (vertical, horizontal));
+}
+
 /// A plane of n by n with these values in its four quarters.
 fn quarters(n: usize, values: [u16; 4]) -> Vec<u16> {
     (0..n * n).map(|i| values[i / n / (n / 2) * 2 + i % n / (n / 2)]).collect()

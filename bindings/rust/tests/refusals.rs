@@ -3,8 +3,8 @@ use lomsakeun::Points as Given;
 use lomsakeun::Refusal::{self, *};
 use lomsakeun::{
     check, deblock, derived_chroma_qp_mapping_tables, get_avail_inter, get_avail_intra, get_mpm, get_nbr, ipred_b,
-    leaves, list_edges, listing, recon, recon_plane, reconstruct, visiting_rank, Blocks, Component, Maps, Picture,
-    Settings, LISTING_LENGTH,
+    leaves, list_edges, listing, recon, recon_plane, reconstruct, visiting_rank, Bands, Blocks, Component, Maps,
+    Picture, Settings, LISTING_LENGTH,
 };
 use std::fmt::Debug;
 
@@ -46,12 +46,12 @@ const BAD_SIZES: [(usize, usize); 8] =
 #[test]
 fn numbers() {
     let numbers: Vec<u8> = Refusal::ALL.iter().map(|refusal| refusal.number()).collect();
-    assert_eq!(numbers, (1..=13).chain([20]).collect::<Vec<u8>>());
+    assert_eq!(numbers, (1..=14).chain([20]).collect::<Vec<u8>>());
     for &refusal in Refusal::ALL {
         assert_eq!(Refusal::from_number(refusal.number()), Some(refusal));
         assert!(refusal.to_string().starts_with(&format!("refused={}: ", refusal.number())));
     }
-    assert_eq!([0, 14, 21, 255].map(Refusal::from_number), [None; 4]);
+    assert_eq!([0, 15, 21, 255].map(Refusal::from_number), [None; 4]);
 }
 
 /// Derives tables of these lengths from these points.
@@ -365,6 +365,140 @@ fn deblocking() {
     Deblock::refused(Split, |case| case.splits[136] = 2);
     Deblock::refused(Leaf, |case| case.splits[136] = 0);
     Deblock::refused(Qp, |case| case.words[3] = 52 << 16);
+}
+
+/// A band of a picture of 8 by 72, and what is lent for it: band 0 has 64 rows, band 1 has 8 and the 64 above.
+#[derive(Clone)]
+struct Band {
+    band: usize,
+    lent: Deblock,
+}
+
+impl Band {
+    /// All blocks are of 8.
+    fn good(band: usize) -> Band {
+        let (lent, own) = if band == 0 { (16, 16) } else { (18, 2) };
+        let mut splits = root(&[(136, 1), (256 + 68, 1)]);
+        if own == 16 {
+            splits[256 + 196] = 1;
+        }
+        (0..own / 2).for_each(|i| splits[512 + 16 * (i / 2 * 4 + 2) + 2] = 1);
+        let planes = [vec![9; 32 * lent], vec![9; 8 * lent], vec![9; 8 * lent]];
+        let words = vec![51 << 16; 2 * lent];
+        let (motion, refs) = (vec![0; 8 * lent], vec![0; 4 * lent]);
+        Band { band, lent: Deblock { h: 72, planes, words, splits, motion, refs, ..Deblock::good() } }
+    }
+
+    fn run(&mut self, bands: &mut Bands) -> Result<(usize, usize), Refusal> {
+        let case = &mut self.lent;
+        let [y, u, v] = &mut case.planes;
+        let part = Picture { w: case.w, h: case.h, y, u, v, words: &mut case.words };
+        let maps = Maps {
+            splits: &case.splits,
+            motion: &case.motion,
+            refs: &case.refs,
+            tables: case.tables.each_ref().map(|table| &table[..]),
+            strengths: &case.strengths,
+        };
+        bands.deblock(self.band, part, maps, case.settings)
+    }
+
+    /// Requires that it is refused at this position with this change, that nothing was written, and that the position stays.
+    fn refused(refusal: Refusal, next: usize, band: usize, change: impl FnOnce(&mut Band)) {
+        let mut bands = position(next);
+        let mut case = Band::good(band);
+        change(&mut case);
+        let before = case.clone();
+        assert_eq!(case.run(&mut bands), Err(refusal));
+        assert_eq!((case.lent.planes, case.lent.words), (before.lent.planes, before.lent.words));
+        assert_eq!(bands, position(next));
+    }
+}
+
+/// The position after so many bands of such a picture.
+fn position(next: usize) -> Bands {
+    let mut bands = Bands::first();
+    (0..next).for_each(|band| assert_eq!(Band::good(band).run(&mut bands), Ok([(0, 14), (0, 2)][band])));
+    assert_eq!(bands.next(), next);
+    bands
+}
+
+#[test]
+fn bands_out_of_turn() {
+    for (next, band) in [(1, 0), (0, 1), (2, 0), (2, 1)] {
+        Band::refused(Refusal::Band, next, band, |_| {});
+    }
+    // past the last: also where it is the position's next
+    for band in [2, 3, 64, usize::MAX] {
+        Band::refused(Refusal::Band, 2, 1, |case| case.band = band);
+        Band::refused(Refusal::Band, 0, 0, |case| case.band = band);
+    }
+    // after 1 and before 2
+    Band::refused(Size, 1, 0, |case| case.lent.h = 70);
+    Band::refused(Refusal::Band, 1, 0, |case| case.lent.words.clear());
+}
+
+#[test]
+fn bands() {
+    for band in [0, 1] {
+        for (w, h) in BAD_SIZES {
+            Band::refused(Size, band, band, |case| (case.lent.w, case.lent.h) = (w, h));
+        }
+        for i in 0..3 {
+            Band::refused(Length, band, band, |case| {
+                case.lent.planes[i].pop();
+            });
+            Band::refused(Sample, band, band, |case| *case.lent.planes[i].last_mut().unwrap() = 1024);
+        }
+        for i in 0..2 {
+            Band::refused(Length, band, band, |case| case.lent.tables[i].push(0));
+        }
+        Band::refused(Length, band, band, |case| case.lent.words.push(0));
+        Band::refused(Length, band, band, |case| case.lent.splits.push(0));
+        Band::refused(Length, band, band, |case| case.lent.motion.clear());
+        Band::refused(Length, band, band, |case| case.lent.refs.clear());
+        Band::refused(Length, band, band, |case| case.lent.strengths.clear());
+        Band::refused(Setting, band, band, |case| case.lent.settings.limit = 7);
+        Band::refused(Setting, band, band, |case| case.lent.settings.u_offset = 13);
+        Band::refused(Setting, band, band, |case| case.lent.settings.v_offset = -13);
+        Band::refused(Split, band, band, |case| case.lent.splits[136] = 2);
+        Band::refused(Leaf, band, band, |case| case.lent.splits[136] = 0);
+        Band::refused(Qp, band, band, |case| *case.lent.words.last_mut().unwrap() = 52 << 16);
+    }
+    // the whole picture's split bytes, or its rows, are too many
+    Band::refused(Length, 1, 1, |case| case.lent.splits.resize(2048, 0));
+    Band::refused(Length, 0, 0, |case| case.lent.planes = Band::good(1).lent.planes);
+}
+
+/// The row of units above a band is checked, and no row above that.
+#[test]
+fn the_row_above_a_band() {
+    for (i, row) in [(0, 8), (1, 4), (2, 4)] {
+        let rows = if i == 0 { 60 } else { 30 };
+        Band::refused(Sample, 1, 1, |case| case.lent.planes[i][row * rows] = 1024);
+        let mut higher = Band::good(1);
+        higher.lent.planes[i][row * rows - 1] = 1024;
+        assert_eq!(higher.run(&mut position(1)), Ok((0, 2)));
+        assert_eq!(higher.lent.planes[i][row * rows - 1], 1024);
+    }
+    Band::refused(Qp, 1, 1, |case| case.lent.words[30] = 52 << 16);
+    let mut higher = Band::good(1);
+    higher.lent.words[29] = 52 << 16;
+    assert_eq!(higher.run(&mut position(1)), Ok((0, 2)));
+    assert_eq!((higher.lent.words[29], higher.lent.words[31]), (52 << 16, 51 << 16));
+    assert_eq!(higher.lent.words[32..], [51 << 16 | DONE; 4]);
+}
+
+/// A band that was refused is mended and called again.
+#[test]
+fn a_band_mended() {
+    let mut bands = position(1);
+    let mut case = Band::good(1);
+    case.lent.words[30] = 52 << 16;
+    assert_eq!(case.run(&mut bands), Err(Qp));
+    case.lent.words[30] = 51 << 16;
+    assert_eq!(case.run(&mut bands), Ok((0, 2)));
+    assert_eq!(bands.next(), 2);
 }
 
 /// A picture of 8 by 8 that is accepted, and what it is made from: one block of 8, and its residual.

@@ -1,0 +1,132 @@
+//! Deblocking by bands.
+use crate::deblock::{Maps, Settings};
+use crate::picture::Picture;
+use crate::refusal::{answer, Refusal};
+use crate::sys;
+
+/// A picture that is deblocked by bands, from the top: which band comes next. A band is 64 luma rows, the last one maybe fewer; they are
+/// numbered from 0. Two of them are in memory at a time: the band that a call does, and the band above it.
+///
+/// ```
+/// use lomsakeun::{Bands, Maps, Picture, Refusal, Settings};
+///
+/// // A picture of 64 by 160, all intra at QP 40, each band lighter by 20. Its rows come from here, and go to `shown` when they are final.
+/// let (w, h) = (64, 160);
+/// let sample = |band: usize| 100 + 20 * band as u16;
+/// let mut shown: Vec<u16> = Vec::new();
+/// let mut counts = Vec::new();
+///
+/// let (tables, strengths) = ([40; 70], [3; 208]);
+/// let settings = Settings { limit: 6, u_offset: 0, v_offset: 0 };
+/// let mut bands = Bands::first();
+/// let (mut y, mut u, mut v, mut words) = (vec![], vec![], vec![], vec![]);
+/// for band in 0..3 {
+///     // The band's rows follow those of the band above.
+///     let rows = if band < 2 { 64 } else { 32 };
+///     y.resize(y.len() + w * rows, sample(band));
+///     u.resize(u.len() + w * rows / 4, 500);
+///     v.resize(v.len() + w * rows / 4, 500);
+///     words.resize(words.len() + w * rows / 16, 40 << 16 | 1 << 15);
+///     // Its own split bytes: one block of 64, and in the last band two of 32.
+///     let mut splits = [0; 1024];
+///     splits[136] = (rows < 64) as u8;
+///     let (motion, refs) = (vec![0; 4 * words.len()], vec![0; 2 * words.len()]);
+///
+///     let part = Picture { w, h, y: &mut y, u: &mut u, v: &mut v, words: &mut words };
+///     let maps = Maps { splits: &splits, motion: &motion, refs: &refs, tables: [&tables; 2], strengths: &strengths };
+///     counts.push(bands.deblock(band, part, maps, settings)?);
+///
+///     // The band above is final and is let go; the band itself is the next one's band above.
+///     let above = y.len() - w * rows;
+///     shown.extend(y.drain(..above));
+///     u.drain(..above / 4);
+///     v.drain(..above / 4);
+///     words.drain(..above / 16);
+/// }
+/// shown.extend(y);
+///
+/// assert_eq!(bands.next(), 3);
+/// assert_eq!(counts, [(0, 0), (0, 16), (8, 16)]);
+/// let column: Vec<u16> = (0..h).map(|row| shown[row * w]).collect();
+/// assert_eq!(column[60..68], [100, 100, 103, 107, 113, 117, 120, 120]);
+/// assert_eq!(column[124..132], [120, 120, 123, 127, 133, 137, 140, 140]);
+/// # Ok::<(), Refusal>(())
+/// ```
+#[derive(Clone, Debug, PartialEq, Eq)]
+pub struct Bands {
+    next: usize,
+}
+
+impl Bands {
+    /// Band 0 comes next.
+    #[inline]
+    pub fn first() -> Bands {
+        Bands { next: 0 }
+    }
+
+    /// The band that comes next.
+    #[inline]
+    pub fn next(&self) -> usize {
+        self.next
+    }
+
+    /// Deblocks this band, sets done in its words, and answers how many of its edges each pass visited; the one above it is among them. Then
+    /// the next band comes next; after a refusal the same.
+    ///
+    /// `part.w` and `part.h` are the whole picture's sides. The planes, words, motion and references are those of the lent rows: the 64 of the
+    /// band above, if any, followed by the band's own. The split bytes are the band's own.
+    ///
+    /// After a band all rows but its last two luma rows and its last two chroma rows are final. After the last one all are, and equal those
+    /// of [`deblock`](crate::deblock()) over the picture, where nothing was altered between the calls.
+    ///
+    /// Refusals: [`Size`](Refusal::Size), [`Band`](Refusal::Band), [`Length`](Refusal::Length), [`Setting`](Refusal::Setting),
+    /// [`Split`](Refusal::Split), [`Leaf`](Refusal::Leaf), and [`Qp`](Refusal::Qp) and [`Sample`](Refusal::Sample) in the band and in the 4
+    /// luma rows above it.
+    #[inline]
+    pub fn deblock(
+        &mut self,
+        band: usize,
+        part: Picture,
+        maps: Maps,
+        settings: Settings,
+    ) -> Result<(usize, usize), Refusal> {
+        let Picture { w, h, y, u, v, words } = part;
+        let Maps { splits, motion, refs, tables: [table0, table1], strengths } = maps;
+        let (mut vertical, mut horizontal) = (0, 0);
+        // Each pointer comes from a slice that lives through the call, with its own length, from a local, or from the position.
+        let number = unsafe {
+            sys::lomsakeun_deblock_band(
+                &mut self.next,
+                band,
+                w,
+                h,
+                y.as_mut_ptr(),
+                y.len(),
+                u.as_mut_ptr(),
+                u.len(),
+                v.as_mut_ptr(),
+                v.len(),
+                words.as_mut_ptr(),
+                words.len(),
+                splits.as_ptr(),
+                splits.len(),
+                motion.as_ptr(),
+                motion.len(),
+                refs.as_ptr(),
+                refs.len(),
+                table0.as_ptr(),
+                table0.len(),
+                table1.as_ptr(),
+                table1.len(),
+                strengths.as_ptr(),
+                strengths.len(),
+                settings.limit,
+                settings.u_offset,
+                settings.v_offset,
+                &mut vertical,
+                &mut horizontal,
+            )
+        };
+        answer(number, (vertical, horizontal))
+    }
+}
