@@ -1,6 +1,7 @@
 //! The product, the Rust and the model on random inputs, at scale: every call, inside the Rust's domain, outside it and damaged.
 use crate::cases::tape::{Case, Line};
 use crate::cases::*;
+use crate::model::NUMBERS;
 use crate::product::Lending;
 use crate::rng::Rng;
 use crate::small;
@@ -37,10 +38,12 @@ pub const CALLS: [Call; 12] = [
 ];
 
 /// The calls over whole pictures: each has all of a run's pictures.
-pub const PICTURES: [Call; 3] = [
+pub const PICTURES: [Call; 5] = [
     call("deblock", deblock_cases::draw, deblock_cases::damaged, 1000),
     call("deblock_quiet", deblock_cases::draw_quiet, deblock_cases::damaged_quiet, 1000),
     call("driver", driver_cases::draw, driver_cases::damaged, 1000),
+    call("deblock_band", bands_cases::draw, bands_cases::damaged, 1000),
+    call("deblock_bands", bands_cases::draw_all, bands_cases::damaged_all, 1000),
 ];
 
 /// Two answers to one input that are not the same.
@@ -82,7 +85,7 @@ pub fn judge(case: &dyn Case) -> Result<Same, Difference> {
 struct Tally {
     rust: usize,
     accepted: usize,
-    refused: [usize; 14],
+    refused: [usize; NUMBERS],
     differences: usize,
 }
 
@@ -118,7 +121,7 @@ fn say(name: &str, draw: Draw, own: u64) {
     }
 }
 
-fn refusals(refused: &[usize; 14]) -> String {
+fn refusals(refused: &[usize; NUMBERS]) -> String {
     let each = |(number, &times): (usize, &usize)| (times > 0).then(|| format!("{number}: {times}"));
     refused.iter().enumerate().filter_map(each).collect::<Vec<_>>().join(", ")
 }

@@ -1,6 +1,7 @@
 //! The exported calls on arbitrary inputs, each slice an allocation of exactly its length: to be run under valgrind, which then sees every
 //! read and write outside the lent slices.
 use crate::all::{Call, Draw, CALLS, PICTURES};
+use crate::model::NUMBERS;
 use crate::product::Lending;
 use crate::rng::Rng;
 
@@ -15,7 +16,7 @@ fn draws(calls: &[Call]) -> Vec<Draw> {
 /// Calls each in turn, accepted and damaged inputs by turns. True if no slice lent to be read was written.
 pub fn fuzz(calls: usize, seed: u64) -> bool {
     let (singles, pictures) = (draws(&CALLS), draws(&PICTURES));
-    let (mut numbers, mut good) = ([0usize; 14], true);
+    let (mut numbers, mut good) = ([0usize; NUMBERS], true);
     for i in 0..calls {
         let own = Rng::new(seed.wrapping_add(i as u64)).next();
         let draw = if i % PICTURE_EACH == 0 {

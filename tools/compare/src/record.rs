@@ -5,7 +5,7 @@ use std::path::Path;
 
 type Recorder = fn(&mut Tape);
 
-const ALL: [(&str, Recorder); 10] = [
+const ALL: [(&str, Recorder); 11] = [
     ("chroma_qp", chroma_qp::record),
     ("avail", avail::record),
     ("ranks", ranks::record),
@@ -14,6 +14,7 @@ const ALL: [(&str, Recorder); 10] = [
     ("recon_block", recon::record_block),
     ("recon_plane", recon::record_plane),
     ("deblock", deblock_cases::record),
+    ("bands", bands_cases::record),
     ("driver", driver_cases::record),
     ("sheet", sheet::record),
 ];

@@ -24,7 +24,7 @@ pub struct Picture {
 }
 
 impl Picture {
-    fn given(&self) -> Given<'_> {
+    pub fn given(&self) -> Given<'_> {
         Given {
             w: self.w,
             h: self.h,

@@ -61,7 +61,7 @@ pub fn strip(rng: &mut Rng) -> (usize, usize) {
 }
 
 /// A picture with both chroma tables alike or not, with the Rust's strengths or others, with motion that fits or does not.
-fn varied(rng: &mut Rng, (w, h): (usize, usize), i: usize) -> Picture {
+pub fn varied(rng: &mut Rng, (w, h): (usize, usize), i: usize) -> Picture {
     let taste = trees::taste(rng);
     let mut picture = picture(rng, w, h, taste);
     if i % 4 == 0 {
@@ -305,6 +305,12 @@ pub fn damaged_quiet(rng: &mut Rng) -> Box<dyn Case> {
 pub fn damaged(rng: &mut Rng) -> Box<dyn Case> {
     let size = square(rng, 24);
     let mut case = varied(rng, size, 1);
+    harm(rng, &mut case);
+    Box::new(case)
+}
+
+/// Damages one or two things.
+pub fn harm(rng: &mut Rng, case: &mut Picture) {
     for _ in 0..1 + rng.below(2) {
         let plane = rng.below(3);
         let table = rng.below(2);
@@ -328,5 +334,4 @@ pub fn damaged(rng: &mut Rng) -> Box<dyn Case> {
     if rng.one_in(3) {
         case.splits.iter_mut().for_each(|byte| *byte = rng.pick(&[0, 1, 1, 1, 1, 1, 1, 2]));
     }
-    Box::new(case)
 }

@@ -1,5 +1,8 @@
 //! Each call's cases: how its inputs are drawn and damaged, what each side answers, and which of them are recorded.
 pub mod avail;
+mod bands;
+pub mod bands_cases;
+mod bands_refusals;
 pub mod chroma_qp;
 mod data;
 pub mod deblock;

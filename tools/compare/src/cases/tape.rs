@@ -224,7 +224,7 @@ impl Tape {
         println!(
             "{}: {} cases ({} from the Rust, {} refusals and {} accepted from the model), {} + {} bytes; \
              in the domain Rust and model compared {} times, {} differences; \
-             outside it the Rust panicked {} times, answered the same {}, another {}",
+             outside it the Rust gave no answer {} times, the same {}, another {}",
             self.name,
             recorded,
             self.from_rust,

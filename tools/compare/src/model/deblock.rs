@@ -16,14 +16,31 @@ pub struct Given<'a> {
     pub offsets: [i64; 2],
 }
 
+/// The luma rows that planes and maps are lent for: so many, of which the last are the call's own, and of which the first are not judged.
+pub struct Rows {
+    pub lent: usize,
+    pub own: usize,
+    pub unjudged: usize,
+}
+
 /// The number and the two passes' edge counts.
 pub fn deblock(given: &Given, planes: [&mut [u16]; 3], words: &mut [u32]) -> (u32, usize, usize) {
-    let leaves = match check(given, [&*planes[0], &*planes[1], &*planes[2]], words) {
+    if !size_ok(given.w, given.h) {
+        return (SIZE, 0, 0);
+    }
+    deblock_rows(given, &Rows { lent: given.h, own: given.h, unjudged: 0 }, planes, words)
+}
+
+/// The same of some rows of a picture, its size being right: those edges that lie on the left or on top of a leaf of the call's own rows.
+pub fn deblock_rows(given: &Given, rows: &Rows, planes: [&mut [u16]; 3], words: &mut [u32]) -> (u32, usize, usize) {
+    let leaves = match check(given, rows, [&*planes[0], &*planes[1], &*planes[2]], words) {
         Ok(leaves) => leaves,
         Err(number) => return (number, 0, 0),
     };
+    let above = rows.lent - rows.own;
+    let leaves: Vec<Leaf> = leaves.into_iter().map(|leaf| Leaf { y: above + leaf.y, ..leaf }).collect();
     let [y, u, v] = planes;
-    let vertical = walk::vertical(given.w, given.h, &leaves, given.limit);
+    let vertical = walk::vertical(given.w, rows.lent, &leaves, given.limit);
     let horizontal = walk::horizontal(&leaves, given.limit);
     for (edges, along) in [(&vertical, false), (&horizontal, true)] {
         for &(qx, qy) in edges {
@@ -34,36 +51,35 @@ pub fn deblock(given: &Given, planes: [&mut [u16]; 3], words: &mut [u32]) -> (u3
             edge.filter(v, given.w / 2, edge.entry(Some((1, 1))), place, 2);
         }
     }
-    words.iter_mut().for_each(|word| *word |= 1 << 31);
+    words[(given.w / 4) * (above / 4)..].iter_mut().for_each(|word| *word |= 1 << 31);
     (DONE, vertical.len(), horizontal.len())
 }
 
-/// The checks in their order; the leaves of an accepted walk.
-fn check(given: &Given, planes: [&[u16]; 3], words: &[u32]) -> Result<Vec<Leaf>, u32> {
-    if !size_ok(given.w, given.h) {
-        return Err(SIZE);
-    }
-    if !lengths_ok(given, planes, words) {
+/// The checks from the lengths on, in their order; the leaves of an accepted walk over the call's own rows.
+fn check(given: &Given, rows: &Rows, planes: [&[u16]; 3], words: &[u32]) -> Result<Vec<Leaf>, u32> {
+    if !lengths_ok(given, rows, planes, words) {
         return Err(LENGTH);
     }
     let offsets_ok = given.offsets.iter().all(|offset| (-12..=12).contains(offset));
     if ![5, 6].contains(&given.limit) || !offsets_ok {
         return Err(SETTING);
     }
-    let leaves = walk::leaves(given.w, given.h, walk::cut_by(given.splits, given.w))?;
-    if !words.iter().all(|&word| qp_of(word) <= 51) {
+    let leaves = walk::leaves(given.w, rows.own, walk::cut_by(given.splits, given.w))?;
+    let units = (given.w / 4) * (rows.unjudged / 4);
+    if !words[units..].iter().all(|&word| qp_of(word) <= 51) {
         return Err(QP);
     }
-    if !planes.iter().all(|plane| samples_ok(plane)) {
+    let judged = |(plane, chroma): (&&[u16], bool)| samples_ok(&plane[plane_len(chroma, given.w, rows.unjudged)..]);
+    if !planes.iter().zip([false, true, true]).all(judged) {
         return Err(SAMPLE);
     }
     Ok(leaves)
 }
 
-fn lengths_ok(given: &Given, planes: [&[u16]; 3], words: &[u32]) -> bool {
-    let (w, h) = (given.w, given.h);
+fn lengths_ok(given: &Given, rows: &Rows, planes: [&[u16]; 3], words: &[u32]) -> bool {
+    let (w, h) = (given.w, rows.lent);
     let units = (w / 4) * (h / 4);
-    let roots = w.div_ceil(64) * h.div_ceil(64);
+    let roots = w.div_ceil(64) * rows.own.div_ceil(64);
     planes.iter().zip([false, true, true]).all(|(plane, chroma)| plane.len() == plane_len(chroma, w, h))
         && words.len() == units
         && given.splits.len() == 1024 * roots

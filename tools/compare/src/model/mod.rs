@@ -2,6 +2,7 @@
 //! Exact numbers throughout, checks in the paper's order, nothing written on a refusal. It answers for the
 //! refusals and for the accepted inputs that lie outside the Rust's domain.
 pub mod avail;
+pub mod bands;
 pub mod chroma;
 pub mod deblock;
 pub mod driver;
@@ -27,7 +28,10 @@ pub const POINTS: u32 = 10;
 pub const PIVOT: u32 = 11;
 pub const SHEET: u32 = 12;
 pub const RECORD: u32 = 13;
+pub const BAND: u32 = 14;
 pub const OLD: u32 = 20;
+/// One more than the largest number.
+pub const NUMBERS: usize = 21;
 
 /// Width and height: multiples of 4, from 4 to 4096.
 pub fn size_ok(w: usize, h: usize) -> bool {
