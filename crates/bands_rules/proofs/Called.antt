@@ -24,10 +24,10 @@ use Rattle.df_rules.specs.Window.{Samples}
 use Rattle.df_rules.specs.Strength.{Maps}
 use Rattle.df_rules.proofs.Alikes.{Alikes, alikes-at, strength-alike}
 use Rattle.df_rules.proofs.Planes.{run-same, finished-long, finished-small}
-use Rattle.bands_rules.specs.Bands.{edgeDown, bandBytes, listFrom, bandList, mapsPart, placesOf, inPart, called, calledAll}
+use Rattle.bands_rules.specs.Bands.{edgeDown, bandBytes, listFrom, bandList, mapsPart, placesOf, inPart, called, calledAll, joined}
 use Rattle.df_check.specs.Rows.{bandRows, rowsAbove, rowsBefore}
 use Rattle.bands_rules.proofs.Down.{band}
-use Rattle.bands_rules.proofs.Joined.{lastTwo, banded, bands-finished, bands-final, bands-below}
+use Rattle.bands_rules.proofs.Joined.{lastTwo, banded, bands-joined, bands-finished, bands-final, bands-below}
 use Rattle.bands_rules.proofs.Lists.{BandDone, Lies, list-in}
 use Rattle.bands_rules.proofs.Parts.{Keeps, finished-part, list-down}
 
@@ -87,6 +87,10 @@ module _ (m : Maps) (t : List ℕ) (at : ℕ → ℕ) (c : Component) (short : B
   calls-banded (suc n) l p long =
       called-finished n l _ (calls-long n (omega arith) p long)
       ∙ ap (finished m t at c w (bandList vertical short s w h n) (bandList horizontal short s w h n)) (calls-banded n (omega arith) p long)
+
+  pub calls-joined : (n : ℕ) → n ≤ across h → (p : List ℕ) → length p ≡ placesOf c w h
+      → calledAll m t at c short s w h n p ≡ finished m t at c w (joined (bandList vertical short s w h) n) (joined (bandList horizontal short s w h) n) p
+  calls-joined n l p long = calls-banded n l p long ∙ bands-joined m t at c short s w h pos walked n l p
 
   pub calls-finished : (p : List ℕ) → length p ≡ placesOf c w h
       → calledAll m t at c short s w h (across h) p ≡ finished m t at c w (edgeList vertical short s w h) (edgeList horizontal short s w h) p

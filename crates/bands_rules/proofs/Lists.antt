@@ -6,7 +6,7 @@
 use mathlib.Core.Bool.{Bool, true, false, _&&_}
 use mathlib.Core.Logic.{_⊎_, inl, inr, ⊎-elim}
 use mathlib.Core.Path.{_≡_, refl, sym, ap, ap₂, _∙_, subst}
-use mathlib.Core.List.{List, [], _∷_, _++_, map, append-nil, List·Memᴰ, List·Memᴰ·head, List·Memᴰ·tail, List·Memᴰ·not-nil, List·Memᴰ·cases-cons, List·Memᴰ·append-cases, List·Memᴰ·eq-of-singleton}
+use mathlib.Core.List.{List, [], _∷_, _++_, map, append-nil, List·Memᴰ, List·Memᴰ·head, List·Memᴰ·tail, List·Memᴰ·not-nil, List·Memᴰ·cases-cons, List·Memᴰ·append-cases, List·Memᴰ·eq-of-singleton, Memᴰ·append-left}
 use Prim.Native.Nat.{ℕ, zero, suc, _+_, _-_, _*_, _/_, _%_, _^_, _≤_, _<_}
 use native.Mathlib.Nat.{mul-comm, zero-mul, mod-lt, div-lt-iff-lt-mul, div-add-mod'}
 use native.Mathlib.Omega.{arith}
@@ -17,7 +17,7 @@ use lib.Pow.{pow-pos}
 use Rattle.def.specs.declared.Answer.{Answer}
 use Rattle.def.specs.declared.Answer.the-variants.{Done, Refused}
 use Rattle.laws.specs.Index.{pick}
-use Rattle.laws.specs.Orders.{each}
+use Rattle.laws.specs.Orders.{each, Pairwise}
 use Rattle.laws.proofs.Orders.{each-append, each-mem}
 use Rattle.split.specs.Edges.{Pass, vertical, horizontal, Edge, edge, edgeAt, Visit, visit, halves, visitOf, stretch, nearEdge, edgesOf, edgeList}
 use Rattle.split.specs.Picture.{across, roots, rootWalk, leavesOf, allLeaves, pictureWalk}
@@ -28,6 +28,7 @@ use Rattle.split.proofs.Induct.{test}
 use Rattle.split.proofs.Sides.{and-true}
 use Rattle.split.proofs.Walks.{each-done, turn-done}
 use Rattle.split.specs.RootCall.{leafDown}
+use Rattle.df_rules.specs.Moves.{Once}
 use Rattle.bands_rules.specs.Bands.{walkDown, bandBytes, listFrom, bandList, joined}
 use Rattle.df_check.specs.Rows.{bandRows}
 use Rattle.bands_rules.proofs.Down.{Band, band, root-down, band-leaves}
@@ -48,6 +49,25 @@ first-lists d short s w h pos (suc n) l =
 pub lists-joined : (d : Pass) (short : Bool) (s : List ℕ) (w h : ℕ) → 1 ≤ w → edgeList d short s w h ≡ joined (bandList d short s w h) (across h)
 lists-joined d short s w h pos =
     ap (λ (i : ℕ). edgesOf d short (leavesOf s w h i)) (mul-comm (across w) (across h)) ∙ first-lists d short s w h pos (across h) (omega arith)
+
+-- the lists of the first n bands are the front of the picture's
+front-pair : {E : Type 0} (R : E → E → Type 0) (l m : List E) → Pairwise R (l ++ m) → Pairwise R l
+front-pair R [] m p = tt
+front-pair R (a ∷ l) m p = (λ f i. p .0 f (Memᴰ·append-left m i), front-pair R l m (p .1))
+
+fronts : (d : Pass) (short : Bool) (s : List ℕ) (w h n r : ℕ) → Once d w (joined (bandList d short s w h) (n + r)) → Once d w (joined (bandList d short s w h) n)
+unfolding joined
+fronts d short s w h n zero o = let e : n + 0 ≡ n = omega arith in subst (λ (k : ℕ). Once d w (joined (bandList d short s w h) k)) e o
+fronts d short s w h n (suc r) o =
+    let e : n + suc r ≡ suc (n + r) = omega arith in
+    let q : Once d w (joined (bandList d short s w h) (suc (n + r))) = subst (λ (k : ℕ). Once d w (joined (bandList d short s w h) k)) e o in
+    let f = bandList d short s w h in
+    fronts d short s w h n r (record { inner = λ x i. q .inner x (Memᴰ·append-left (f (n + r)) i); apart = front-pair _ (joined f (n + r)) (f (n + r)) (q .apart) })
+
+pub first-once : (d : Pass) (short : Bool) (s : List ℕ) (w h : ℕ) → 1 ≤ w → (n : ℕ) → n ≤ across h → Once d w (edgeList d short s w h) → Once d w (joined (bandList d short s w h) n)
+first-once d short s w h pos n l o =
+    let e : n + (across h - n) ≡ across h = omega arith in
+    fronts d short s w h n (across h - n) (subst (λ (k : ℕ). Once d w (joined (bandList d short s w h) k)) (sym e) (subst (Once d w) (lists-joined d short s w h pos) o))
 
 -- ---- the walks
 

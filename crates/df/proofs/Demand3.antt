@@ -9,7 +9,7 @@ use Rattle.df.specs.Deblock.{Input, Outcome, qpY, qpU, qpV, mapsOf, chec
 use Rattle.df.specs.Demand3.{Kept}
 use Rattle.df.proofs.Calls.{accepted}
 
-is-done : (i : Input) → check i ≡ Done → outcome i ≡ done i
+pub is-done : (i : Input) → check i ≡ Done → outcome i ≡ done i
 unfolding outcome
 is-done i fine = rw fine
 

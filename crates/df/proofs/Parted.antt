@@ -72,11 +72,11 @@ bytes-long i sides lengths n less =
     ∙ sym ((λ k. 1024 * (wide k * one k)) ∙ omega arith)
 
 module _ (i : Input) (ok : check i ≡ Done) where
-  size : sizeOk (i .w) (i .h) ≡ true
+  pub size : sizeOk (i .w) (i .h) ≡ true
   unfolding checks.checkOf
   size = passes (sizeOk (i .w) (i .h)) Size (checks.fromLengths (i .h) (i .h) 0 (checked i)) ok .holds
 
-  onward : checks.fromLengths (i .h) (i .h) 0 (checked i) ≡ Done
+  pub onward : checks.fromLengths (i .h) (i .h) 0 (checked i) ≡ Done
   unfolding checks.checkOf
   onward = passes (sizeOk (i .w) (i .h)) Size (checks.fromLengths (i .h) (i .h) 0 (checked i)) ok .rest
 
@@ -84,7 +84,7 @@ module _ (i : Input) (ok : check i ≡ Done) where
   rest = rest-passed (i .h) (i .h) 0 (checked i) onward
 
   -- the lengths, as a test and one by one
-  lengths : checks.lengthsOk (i .w) (i .h) (i .h) (checks.lengthsOf (checked i)) ≡ true
+  pub lengths : checks.lengthsOk (i .w) (i .h) (i .h) (checks.lengthsOf (checked i)) ≡ true
   unfolding checks.fromLengths
   lengths = passes (checks.lengthsOk (i .w) (i .h) (i .h) (checks.lengthsOf (checked i))) Length _ onward .holds
 
@@ -103,7 +103,7 @@ module _ (i : Input) (ok : check i ≡ Done) where
   abbrev words-long : length (i .words) ≡ rows * W
   words-long = long-words i size lengths
 
-  abbrev walked : (k : ℕ) → k < bands i → BandDone (i .splits) W rows (pos i size) k
+  abbrev pub walked : (k : ℕ) → k < bands i → BandDone (i .splits) W rows (pos i size) k
   walked = walks-apart (i .splits) W rows (pos i size) (rest .walk)
 
   words-fine : (k : ℕ) → qpOf (getD (i .words) k 0) ≤ 51

@@ -5,7 +5,9 @@ pub mod Finished
 pub mod Frames
 pub mod Lanes
 pub mod Local
+pub mod Moves
 pub mod Planes
+pub mod Reached
 pub mod Rows
 pub mod Strengths
 pub mod Windows

@@ -28,18 +28,18 @@ use Rattle.df_rules.proofs.Local.{Local, Keyed, commute, window-local}
 -- ---- where a window lies
 
 -- of a place in a plane of `wide` a row: its row in the vertical pass, its column in the horizontal one
-abbrev digitAlong : Pass → (wide i : ℕ) → ℕ
+abbrev pub digitAlong : Pass → (wide i : ℕ) → ℕ
 digitAlong vertical wide i = i / wide
 digitAlong horizontal wide i = i % wide
 
-digit-along : (d : Pass) (wide c a : ℕ) → edgeAt d c a .x < wide → digitAlong d wide (a * stepAlong d wide + c * stepAcross d wide) ≡ a
+pub digit-along : (d : Pass) (wide c a : ℕ) → edgeAt d c a .x < wide → digitAlong d wide (a * stepAlong d wide + c * stepAcross d wide) ≡ a
 digit-along vertical wide c a p = rw (mul-one c) (digits-div a p)
 digit-along horizontal wide c a p =
     let e : a * 1 + c * wide ≡ c * wide + a = omega (arith, mul-one a) in
     ap (λ (i : ℕ). i % wide) e ∙ digits-mod c p
 
 -- sample j of line k
-sample-at : (d : Pass) (wide c a k j : ℕ) → lineStart d wide c a + k * stepAlong d wide + j * stepAcross d wide ≡ (a + k) * stepAlong d wide + (c - 2 + j) * stepAcross d wide
+pub sample-at : (d : Pass) (wide c a k j : ℕ) → lineStart d wide c a + k * stepAlong d wide + j * stepAcross d wide ≡ (a + k) * stepAlong d wide + (c - 2 + j) * stepAcross d wide
 sample-at d wide c a k j = omega (arith, add-mul a k (stepAlong d wide), add-mul (c - 2) j (stepAcross d wide))
 
 -- the row of units, or the column of units, of a place in a plane of w units a row, of m samples a side
@@ -48,7 +48,7 @@ unitAlong d m w i = digitAlong d (m * w) i / m
 
 module _ (m w : ℕ) (two : 2 ≤ m) where
   -- no sample of an edge lies past its row's end
-  in-row : (d : Pass) (e : Edge) (k j : ℕ) → 0 < crossOf d e → e .x < w → k < m → j < 4 → edgeAt d (m * crossOf d e - 2 + j) (m * alongOf d e + k) .x < m * w
+  pub in-row : (d : Pass) (e : Edge) (k j : ℕ) → 0 < crossOf d e → e .x < w → k < m → j < 4 → edgeAt d (m * crossOf d e - 2 + j) (m * alongOf d e + k) .x < m * w
   in-row vertical e k j o p hk hj = omega (arith, starts m w w two (e .x) o, next-in m w w two (e .x) w p)
   in-row horizontal e k j o p hk hj = omega (arith, last-in m w w two (e .x) w p)
 
@@ -59,7 +59,7 @@ module _ (m w : ℕ) (two : 2 ≤ m) where
       ∙ ap (λ (i : ℕ). i / m) (digit-along d (m * w) (m * crossOf d e - 2 + j) (m * alongOf d e + k) (in-row d e k j o p hk hj))
       ∙ ap (λ (i : ℕ). (i + k) / m) (mul-comm m (alongOf d e)) ∙ digits-div (alongOf d e) hk
 
-two-samples : (c : Component) → 2 ≤ unitSide c
+pub two-samples : (c : Component) → 2 ≤ unitSide c
 two-samples Luma = omega arith
 two-samples Chroma = omega arith
 

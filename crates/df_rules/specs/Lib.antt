@@ -3,6 +3,7 @@ pub mod Filter
 pub mod Frame
 pub mod Lanes
 pub mod Leaves
+pub mod Moves
 pub mod Places
 pub mod Strength
 pub mod Visit
