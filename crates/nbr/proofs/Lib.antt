@@ -1,6 +1,6 @@
 pub mod Arms
 pub mod Sides
 pub mod Around
-pub mod Puts
+pub mod Joins
 pub mod Runs
 pub mod Gathered

@@ -1,9 +1,9 @@
 -- The whole run from its three arms, written one after the other and joined.
---     run-made, run-of
+--     run-of, joined-of    the whole run written arm by arm, and joined
 --     run-long, run-samples    what callers may cite: the run's length, and that its elements are samples
 -- Assumes nothing.
 use Prim.Native.Nat.{ℕ, _+_, _-_, _*_, _/_, _≤_, _<_}
-use mathlib.Core.Path.{_≡_, refl, sym, _∙_}
+use mathlib.Core.Path.{_≡_, sym, ap, _∙_, subst}
 use mathlib.Core.Bool.{true}
 use mathlib.Core.List.{List}
 use native.Mathlib.Nat.{zero-add}
@@ -14,16 +14,17 @@ use lib.Dec.{leb}
 use lib.ListN.{length, getD}
 use Rattle.laws.proofs.Calls.{all-at}
 use Rattle.laws.proofs.Tabulate.{is-tabulate, length-tabulate, getD-tabulate}
+use Rattle.laws.specs.Plane.{withRow}
+use Rattle.laws.proofs.Parts.{rowed-part, scan-alike}
+use Rattle.laws.proofs.Planes.{Rowed, rowed-none}
 use Rattle.laws.proofs.Scans.{scan-at}
 use Rattle.def.specs.declared.Component.{Component}
 use Rattle.samples.specs.Samples.{sampleOk}
-use Rattle.samples.proofs.Samples.{joined}
 use Rattle.nbr.specs.Gather.{Around, unitSide, sideOf, runAt, runOf, runLength, samplesOk, lengthTests, lengthsOk}
 use Rattle.nbr.specs.declared.Arm.{Arm}
-use Rattle.nbr.specs.Puts.{Put}
 use Rattle.nbr.specs.Arms.{armAt, Within, leftArm, cornerArm, upArm, BlockOf, Lent}
 use Rattle.nbr.proofs.Sides.{scaled-le, unit-sided}
-use Rattle.nbr.proofs.Puts.{putting-none, putting-part}
+use Rattle.nbr.proofs.Joins.{Joined, join-part}
 use Rattle.nbr.proofs.Around.{Beside, beside, left-is, corner-is, up-is, left-within, corner-within, up-within}
 
 module _ (i : Around) (b : Beside (i .component) (i .w) (i .h) (i .x) (i .y) (i .side)) where
@@ -64,20 +65,33 @@ module _ (i : Around) (b : Beside (i .component) (i .w) (i .h) (i .x) (i .y) (i 
       let f : 2 * n + 1 + j - 2 * n ≡ j + 1 = omega arith in
       up-is i b j ∙ sym (rw (le-ltb (2 * n + 1 + j) (2 * n) (omega arith), f))
 
-  -- what is written into l arm by arm, and joined, is the run
-  pub run-made :
-      (l l₁ l₂ l₃ : List ℕ) (d e f : ℕ)
+  -- what is written into l arm by arm is the run
+  run-written :
+      (l l₁ l₂ l₃ : List ℕ)
       → length l ≡ runLength (i .component) (i .side)
-      → Put 0 m left l l₁ d
-      → Put (2 * n) (1 * 1) corner l₁ l₂ e
-      → Put (2 * n + 1) m up l₂ l₃ f
-      → (l₃ ≡ runOf i) × (sampleOk (bitOr (bitOr d e) f) ≡ samplesOk i)
-  unfolding runOf samplesOk
-  run-made l l₁ l₂ l₃ d e f long h₁ h₂ h₃ =
-      let r = putting-part 0 (runAt i) l l l₁ 0 0 0 m (2 * n) d d left refl (omega (arith, m-is)) (omega arith) left-run refl h₁ (putting-none 0 (runAt i) l) in
-      let s = putting-part 0 (runAt i) l l₁ l₂ d (2 * n) (2 * n) (1 * 1) (2 * n + 1) e (bitOr d e) corner (sym (zero-add (2 * n))) refl (omega arith) corner-run (joined d e) h₂ r in
-      let t = putting-part 0 (runAt i) l l₂ l₃ (bitOr d e) (2 * n + 1) (2 * n + 1) m (runLength (i .component) (i .side)) f (bitOr (bitOr d e) f) up (sym (zero-add (2 * n + 1))) (omega (arith, m-is)) (omega arith) up-run (joined (bitOr d e) f) h₃ s in
-      (is-tabulate (runAt i) (runLength (i .component) (i .side)) l₃ 0 (t .rows .long ∙ long) (λ k p. rw (zero-add k) at (t .rows .done k p)), t .tested)
+      → l₁ ≡ withRow 0 0 m left l
+      → l₂ ≡ withRow 0 (2 * n) (1 * 1) corner l₁
+      → l₃ ≡ withRow 0 (2 * n + 1) m up l₂
+      → l₃ ≡ runOf i
+  unfolding runOf
+  run-written l l₁ l₂ l₃ long h₁ h₂ h₃ =
+      let e₁ : 0 + m ≡ 2 * n = omega (arith, m-is) in
+      let r = subst (Rowed 0 0 (runAt i) l l₁) e₁ (rw h₁ (rowed-part 0 0 (runAt i) l l 0 m left (omega (arith, m-is)) left-run (rowed-none 0 0 (runAt i) l))) in
+      let at₂ : l₂ ≡ withRow 0 (0 + 2 * n) (1 * 1) corner l₁ = rw (zero-add (2 * n)) h₂ in
+      let s : Rowed 0 0 (runAt i) l l₂ (2 * n + 1 * 1) = rw at₂ (rowed-part 0 0 (runAt i) l l₁ (2 * n) (1 * 1) corner (omega arith) corner-run r) in
+      let at₃ : l₃ ≡ withRow 0 (0 + (2 * n + 1)) m up l₂ = rw (zero-add (2 * n + 1)) h₃ in
+      let t : Rowed 0 0 (runAt i) l l₃ (2 * n + 1 + m) = rw at₃ (rowed-part 0 0 (runAt i) l l₂ (2 * n + 1) m up (omega (arith, m-is)) up-run s) in
+      is-tabulate (runAt i) (runLength (i .component) (i .side)) l₃ 0 (t .long ∙ long) (λ k p. rw (zero-add k) at (t .done k (omega (arith, m-is))))
+
+  -- and what is joined arm by arm tests it
+  run-joined : (d e f : ℕ) → Joined left d m → Joined corner e (1 * 1) → Joined up f m → sampleOk (bitOr (bitOr d e) f) ≡ samplesOk i
+  unfolding samplesOk
+  run-joined d e f h₁ h₂ h₃ =
+      let r : Joined (runAt i) d (2 * n) = h₁ ∙ rw m-is (scan-alike _ _ (2 * n) (λ j p. ap sampleOk (left-run j (omega (arith, m-is)) ∙ ap (runAt i) (zero-add j)))) in
+      let s = join-part (runAt i) corner d (2 * n) e (1 * 1) corner-run h₂ r in
+      let t = join-part (runAt i) up (bitOr d e) (2 * n + 1) f m up-run h₃ s in
+      let z : 2 * n + 1 + m ≡ runLength (i .component) (i .side) = omega (arith, m-is) in
+      rw z at t
 
 -- ---- the same, from what the code computed: the three arms, a unit's side and the block's
 
@@ -86,14 +100,17 @@ module _ (i : Around) (block : BlockOf (i .w) (i .h) (i .x) (i .y) (i .side)) (l
   of a n k = armAt a n (i .constrained) (i .plane) (i .words) k
 
   pub run-of :
-      (n : ℕ) → n ≡ sideOf (i .component) (i .side) → (r₀ r₁ r₂ r₃ : List ℕ) (d e f : ℕ)
+      (n : ℕ) → n ≡ sideOf (i .component) (i .side) → (r₀ r₁ r₂ r₃ : List ℕ)
       → length r₀ ≡ runLength (i .component) (i .side)
-      → Put 0 (i .side / 2 * u) (of l u) r₀ r₁ d
-      → Put (2 * n) (1 * 1) (of c 1) r₁ r₂ e
-      → Put (2 * n + 1) (i .side / 2 * u) (of p u) r₂ r₃ f
-      → (r₃ ≡ runOf i) × (sampleOk (bitOr (bitOr d e) f) ≡ samplesOk i)
-  run-of n en r₀ r₁ r₂ r₃ d e f long h₁ h₂ h₃ =
-      run-made i (beside _ _ _ _ _ _ block) r₀ r₁ r₂ r₃ d e f long (rw (el, eu) at h₁) (rw (ec, en) at h₂) (rw (ep, eu, en) at h₃)
+      → r₁ ≡ withRow 0 0 (i .side / 2 * u) (of l u) r₀
+      → r₂ ≡ withRow 0 (2 * n) (1 * 1) (of c 1) r₁
+      → r₃ ≡ withRow 0 (2 * n + 1) (i .side / 2 * u) (of p u) r₂
+      → r₃ ≡ runOf i
+  run-of n en r₀ r₁ r₂ r₃ long h₁ h₂ h₃ =
+      run-written i (beside _ _ _ _ _ _ block) r₀ r₁ r₂ r₃ long (rw (el, eu) at h₁) (rw (ec, en) at h₂) (rw (ep, eu, en) at h₃)
+
+  pub joined-of : (d e f : ℕ) → Joined (of l u) d (i .side / 2 * u) → Joined (of c 1) e (1 * 1) → Joined (of p u) f (i .side / 2 * u) → sampleOk (bitOr (bitOr d e) f) ≡ samplesOk i
+  joined-of d e f h₁ h₂ h₃ = run-joined i (beside _ _ _ _ _ _ block) d e f (rw (el, eu) at h₁) (rw ec at h₂) (rw (ep, eu) at h₃)
 
 -- a plane and words that pass
 pub lent-of : (c : Component) (w h : ℕ) (plane words : List ℕ) → lengthsOk c w h (length plane) (length words) ≡ true → Lent c w h plane words

@@ -1,4 +1,3 @@
 pub mod Gather
 pub mod Checks
-pub mod Puts
 pub mod Arms

@@ -4,11 +4,11 @@ ghost use Prim.Native.Nat.{ℕ, _+_, _*_, _≤_, _<_};
 ghost use lib.ListN.{length, getD};
 ghost use Rattle.laws.specs.Plane.{withRow};
 ghost use Rattle.laws.specs.Call.{Gives};
+ghost use Rattle.laws.specs.Scan.{allBelow};
 ghost use Rattle.def.specs.Answers.{answerNumber};
 ghost use Rattle.samples.specs.Samples.{sampleOk};
 ghost use Rattle.nbr.specs.Gather.{runLength, runOf, samplesOk, lengthsOk, outcome};
 ghost use Rattle.nbr.specs.Checks.{formOf, gathered};
-ghost use Rattle.nbr.specs.Puts.{Put};
 ghost use Rattle.nbr.specs.Arms.{presentIn, armAt, Within, noArm, leftOf, cornerOf, upOf, Stands, LentTo, aroundOf};
 use def::Answer;
 use def::Component;
@@ -50,24 +50,33 @@ fn put_missing(run: &mut [u16], to: usize, n: usize)
     }
 }
 
-// n samples of the plane, `step` apart from `from`, into run from `to`; the answer is them joined by `|`.
-// What is joined is at most 1023 exactly where each sample is, as 1023 is 2^10 - 1: so the samples are read once, and tested once.
-fn put_samples(run: &mut [u16], to: usize, plane: &[u16], from: usize, step: usize, n: usize) -> u16
+// n samples of the plane, `step` apart from `from`, into run from `to`.
+fn put_samples(run: &mut [u16], to: usize, plane: &[u16], from: usize, step: usize, n: usize)
     requires { ⌜ (to + n ≤ length (now run)) × ((j : ℕ) → j < n → from + j * step < length (now plane)) ⌝ }
-    ensures { λ r. ⌜ Put to n (λ (j : ℕ). getD (now (plane .entry)) (from + j * step) 0) (now (run .entry)) (now (run .exit)) r ⌝ }
+    ensures { λ _. ⌜ now (run .exit) ≡ withRow 0 to n (λ (j : ℕ). getD (now (plane .entry)) (from + j * step) 0) (now (run .entry)) ⌝ }
+{
+    let mut j = 0;
+    while j < n {
+        run[to + j] = plane[from + j * step];
+        j += 1;
+    }
+}
+
+// The same samples joined by `|`: at most 1023 exactly where each of them is, as 1023 is 2^10 - 1. So they are tested at once.
+fn join_samples(plane: &[u16], from: usize, step: usize, n: usize) -> u16
+    requires { ⌜ ((j : ℕ) → j < n → from + j * step < length (now plane)) ⌝ }
+    ensures { λ r. ⌜ sampleOk r ≡ allBelow (λ (j : ℕ). sampleOk (getD (now (plane .entry)) (from + j * step) 0)) n ⌝ }
 {
     let mut all: u16 = 0;
     let mut j = 0;
     while j < n {
-        let sample = plane[from + j * step];
-        run[to + j] = sample;
-        all = all | sample;
+        all = all | plane[from + j * step];
         j += 1;
     }
     all
 }
 
-// Unit i of an arm into run from `to`: its n samples, joined, or as many missing ones, which join nothing.
+// Unit i of an arm into run from `to`: its n samples, or as many missing ones.
 fn put_unit(
     plane: &[u16],
     map_scu: &[u32],
@@ -77,19 +86,31 @@ fn put_unit(
     constrained: bool,
     run: &mut [u16],
     to: usize,
-) -> u16
+)
     requires { ⌜ Within arm n (now plane) (now «map_scu») × (to + n ≤ length (now run)) ⌝ }
-    ensures { λ r. ⌜ Put to n (λ (j : ℕ). armAt arm n constrained (now (plane .entry)) (now («map_scu» .entry)) (i * n + j)) (now (run .entry)) (now (run .exit)) r ⌝ }
+    ensures { λ _. ⌜ now (run .exit) ≡ withRow 0 to n (λ (j : ℕ). armAt arm n constrained (now (plane .entry)) (now («map_scu» .entry)) (i * n + j)) (now (run .entry)) ⌝ }
 {
     if !present(map_scu, arm, i, constrained) {
         put_missing(run, to, n);
+        return;
+    }
+    let from = arm.from + i * n * arm.step;
+    put_samples(run, to, plane, from, arm.step, n);
+}
+
+// Its samples joined. Missing ones join nothing.
+fn join_unit(plane: &[u16], map_scu: &[u32], arm: Arm, i: usize, n: usize, constrained: bool) -> u16
+    requires { ⌜ Within arm n (now plane) (now «map_scu») ⌝ }
+    ensures { λ r. ⌜ sampleOk r ≡ allBelow (λ (j : ℕ). sampleOk (armAt arm n constrained (now (plane .entry)) (now («map_scu» .entry)) (i * n + j))) n ⌝ }
+{
+    if !present(map_scu, arm, i, constrained) {
         return 0;
     }
     let from = arm.from + i * n * arm.step;
-    put_samples(run, to, plane, from, arm.step, n)
+    join_samples(plane, from, arm.step, n)
 }
 
-// An arm of `units` units of n samples, joined, into run from `to`.
+// An arm of `units` units of n samples into run from `to`.
 fn put_units(
     plane: &[u16],
     map_scu: &[u32],
@@ -99,40 +120,45 @@ fn put_units(
     constrained: bool,
     run: &mut [u16],
     to: usize,
-) -> u16
+)
     requires { ⌜ Within arm n (now plane) (now «map_scu») × (to + units * n ≤ length (now run)) ⌝ }
-    ensures { λ r. ⌜ Put to (units * n) (armAt arm n constrained (now (plane .entry)) (now («map_scu» .entry))) (now (run .entry)) (now (run .exit)) r ⌝ }
+    ensures { λ _. ⌜ now (run .exit) ≡ withRow 0 to (units * n) (armAt arm n constrained (now (plane .entry)) (now («map_scu» .entry))) (now (run .entry)) ⌝ }
 {
-    let mut all: u16 = 0;
     let mut i = 0;
     while i < units {
-        all = all | put_unit(plane, map_scu, arm, i, n, constrained, run, to + i * n);
+        put_unit(
+            plane,
+            map_scu,
+            arm,
+            i,
+            n,
+            constrained,
+            &mut *run,
+            to + i * n,
+        );
         i += 1;
     }
-    all
 }
 
-// The same. A unit's samples are told apart here, so that the loops over them have a length that is known.
-fn put_arm(
+// Its samples joined.
+fn join_units(
     plane: &[u16],
     map_scu: &[u32],
     arm: Arm,
     units: usize,
     n: usize,
     constrained: bool,
-    run: &mut [u16],
-    to: usize,
 ) -> u16
-    requires { ⌜ Within arm n (now plane) (now «map_scu») × (to + units * n ≤ length (now run)) × ((n ≡ 4 → ⊥) → (n ≡ 2 → ⊥) → n ≡ 1) ⌝ }
-    ensures { λ r. ⌜ Put to (units * n) (armAt arm n constrained (now (plane .entry)) (now («map_scu» .entry))) (now (run .entry)) (now (run .exit)) r ⌝ }
+    requires { ⌜ Within arm n (now plane) (now «map_scu») ⌝ }
+    ensures { λ r. ⌜ sampleOk r ≡ allBelow (λ (k : ℕ). sampleOk (armAt arm n constrained (now (plane .entry)) (now («map_scu» .entry)) k)) (units * n) ⌝ }
 {
-    if n == 4 {
-        put_units(plane, map_scu, arm, units, 4, constrained, run, to)
-    } else if n == 2 {
-        put_units(plane, map_scu, arm, units, 2, constrained, run, to)
-    } else {
-        put_units(plane, map_scu, arm, units, 1, constrained, run, to)
+    let mut all: u16 = 0;
+    let mut i = 0;
+    while i < units {
+        all = all | join_unit(plane, map_scu, arm, i, n, constrained);
+        i += 1;
     }
+    all
 }
 
 // ---- the three arms of a block
@@ -252,73 +278,40 @@ fn lengths_ok(block: Block, plane: usize, words: usize) -> bool
     (plane == w * h) & (words == (block.w / 4) * (block.h / 4))
 }
 
-// The run, past the checks of its form: left downwards, the corner, up rightwards. The answer is all of it joined.
-fn put_run(plane: &[u16], map_scu: &[u32], block: Block, constrained: bool, run: &mut [u16]) -> u16
+// The samples of a block's run joined: number 7 is tested before anything is written.
+fn join_run(plane: &[u16], map_scu: &[u32], block: Block, constrained: bool) -> u16
+    requires { ⌜ Stands block × LentTo block (now plane) (now «map_scu») ⌝ }
+    ensures { λ r. ⌜ sampleOk r ≡ samplesOk (aroundOf block (now (plane .entry)) (now («map_scu» .entry)) constrained) ⌝ }
+{
+    let component = block.component;
+    let n = def::in_component(component, 4);
+    let units = block.side / 2;
+    let left = left_arm(block);
+    let corner = corner_arm(block);
+    let up = up_arm(block);
+    join_units(plane, map_scu, left, units, n, constrained)
+        | join_units(plane, map_scu, corner, 1, 1, constrained)
+        | join_units(plane, map_scu, up, units, n, constrained)
+}
+
+// The run, straight from the plane: left downwards, the corner, up rightwards.
+fn put_run(plane: &[u16], map_scu: &[u32], block: Block, constrained: bool, run: &mut [u16])
     requires { ⌜ Stands block × LentTo block (now plane) (now «map_scu») × (length (now run) ≡ runLength (block .component) (block .side)) ⌝ }
-    ensures { λ r. ⌜ (now (run .exit) ≡ runOf (aroundOf block (now (plane .entry)) (now («map_scu» .entry)) constrained)) × (sampleOk r ≡ samplesOk (aroundOf block (now (plane .entry)) (now («map_scu» .entry)) constrained)) ⌝ }
+    ensures { λ _. ⌜ now (run .exit) ≡ runOf (aroundOf block (now (plane .entry)) (now («map_scu» .entry)) constrained) ⌝ }
 {
     let component = block.component;
     let n = def::in_component(component, 4);
     let units = block.side / 2;
     let at = 2 * def::in_component(component, block.side);
     let left = left_arm(block);
-    let mut all = put_arm(plane, map_scu, left, units, n, constrained, run, 0);
+    put_units(plane, map_scu, left, units, n, constrained, &mut *run, 0);
     let corner = corner_arm(block);
-    all = all | put_arm(plane, map_scu, corner, 1, 1, constrained, run, at);
+    put_units(plane, map_scu, corner, 1, 1, constrained, &mut *run, at);
     let up = up_arm(block);
-    all | put_arm(plane, map_scu, up, units, n, constrained, run, at + 1)
+    put_units(plane, map_scu, up, units, n, constrained, &mut *run, at + 1);
 }
 
-// All of `own` into run.
-fn copy(own: &[u16], run: &mut [u16])
-    requires { ⌜ length (now own) ≡ length (now run) ⌝ }
-    ensures { λ _. ⌜ now (run .exit) ≡ now (own .entry) ⌝ }
-{
-    let mut k = 0;
-    while k < run.len() {
-        run[k] = own[k];
-        k += 1;
-    }
-}
-
-// The run by way of `own`: the lent one is written only where every sample passes.
-fn gather_by(
-    plane: &[u16],
-    map_scu: &[u32],
-    block: Block,
-    constrained: bool,
-    own: &mut [u16],
-    run: &mut [u16],
-) -> Answer
-    requires { ⌜ Stands block × LentTo block (now plane) (now «map_scu») ⌝ }
-    requires { ⌜ (length (now own) ≡ length (now run)) × (length (now run) ≡ runLength (block .component) (block .side)) ⌝ }
-    ensures { λ r. ⌜ Gives gathered
-        (record { around = aroundOf block (now (plane .entry)) (now («map_scu» .entry)) constrained; run = now (run .entry) })
-        (record { number = answerNumber r; run = now (run .exit) }) ⌝ }
-{
-    let all = put_run(plane, map_scu, block, constrained, &mut *own);
-    if 1023 < all {
-        return Answer::Refused(Refusal::Sample);
-    }
-    copy(&*own, run);
-    Answer::Done
-}
-
-// Room for the run of a block of up to 8 samples a side.
-fn small_room() -> [u16; 33]
-    ensures { λ r. ⌜ 33 ≡ length r ⌝ }
-{
-    [0u16; 33]
-}
-
-// Room for any run.
-fn own_room() -> [u16; 257]
-    ensures { λ r. ⌜ 257 ≡ length r ⌝ }
-{
-    [0u16; 257]
-}
-
-// The same, with an array of its own: a small one for a small block, where clearing it counts.
+// The run, past the checks of its form.
 fn gather(
     plane: &[u16],
     map_scu: &[u32],
@@ -331,13 +324,12 @@ fn gather(
         (record { around = aroundOf block (now (plane .entry)) (now («map_scu» .entry)) constrained; run = now (run .entry) })
         (record { number = answerNumber r; run = now (run .exit) }) ⌝ }
 {
-    let n = run.len();
-    if n <= 33 {
-        let mut small = small_room();
-        return gather_by(plane, map_scu, block, constrained, &mut small[0..n], run);
+    let all = join_run(plane, map_scu, block, constrained);
+    if 1023 < all {
+        return Answer::Refused(Refusal::Sample);
     }
-    let mut own = own_room();
-    gather_by(plane, map_scu, block, constrained, &mut own[0..n], run)
+    put_run(plane, map_scu, block, constrained, run);
+    Answer::Done
 }
 
 // The checks of the form, by the lengths of the plane, the words and the run.

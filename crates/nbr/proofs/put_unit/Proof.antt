@@ -7,9 +7,9 @@ use borrow.Author.Needs.{needs}
 use borrow.Author.Tests.{not-true, not-false}
 use denote.Ref.{now}
 use lib.ListN.{length}
+use Rattle.laws.proofs.Whole.{row-same}
 use Rattle.nbr.specs.Arms.{presentIn}
 use Rattle.nbr.proofs.Arms.{unit-missing, unit-sample, unit-in, unit-few}
-use Rattle.nbr.proofs.Puts.{put-missing, put-alike}
 use Rattle.nbr.proofs.put_unit.Statement.{statement}
 use Rattle.nbr.proofs.put_unit.Tie as tie
 
@@ -35,7 +35,7 @@ present-requires c κs = c .before .before .before .pre .0 .words-in (c .before 
 returns : tie.Need-returns
 returns c =
     let d = c .before .before .before .before in
-    put-alike _ _ _ _ _ _ _ (λ j p. sym (unit-missing _ _ _ _ _ _ j p (absent d))) (put-missing _ _ _ _ (c .before .before .put-missing .ensures))
+    c .before .before .put-missing .ensures ∙ row-same _ _ _ _ _ _ (λ j p. sym (unit-missing _ _ _ _ _ _ j p (absent d)))
 
 mul-from : tie.Need-mul-from
 mul-from c = omega (arith, few c)
@@ -54,7 +54,7 @@ put-samples-requires c κs =
 returns-2 : tie.Need-returns-2
 returns-2 c =
     let d = c .before .before .before .before .before .before in
-    put-alike _ _ _ _ _ _ _ (λ j p. sym (unit-sample _ _ _ _ _ _ j p (there d))) (c .before .before .put-samples .ensures)
+    c .before .before .put-samples .ensures ∙ row-same _ _ _ _ _ _ (λ j p. sym (unit-sample _ _ _ _ _ _ j p (there d)))
 
 pub put-unit-spec : {M : Type 1} → statement M
 put-unit-spec =
