@@ -3,11 +3,12 @@
 use Prim.Native.Nat.{ℕ, _+_, _*_, _≤_}
 use mathlib.Core.Path.{_≡_}
 use mathlib.Core.Bool.{true}
-use mathlib.Core.List.{List}
-use lib.ListN.{length}
+use mathlib.Core.List.{List, []}
+use lib.ListN.{length, getD}
+use Rattle.laws.specs.Plane.{withBlock}
 use Rattle.def.specs.Blocks.{blockOk}
 use Rattle.def.specs.Picture.{sizeOk}
-use Rattle.nbr.specs.Gather.{Around}
+use Rattle.nbr.specs.Gather.{Around, across, column, row, sideOf}
 use Rattle.driver_rules.specs.Asked.{LentAsked}
 use Rattle.driver.specs.declared.component.Block.{Block}
 
@@ -34,7 +35,7 @@ pub record Stands (b : Block) : Type 0 where
 abbrev pub LentTo : Block → List ℕ → Type 0
 LentTo b lent = LentAsked (b .component) (b .w) (b .h) lent
 
--- the block of n by n samples at column x, row y of a lent plane of rows of w, and room for it
+-- the block of n by n samples at column x, row y of a plane of rows of w, and a list of its samples
 pub record Copied (w x y n : ℕ) (lent pred : List ℕ) : Type 0 where
   pub across : x + n ≤ w
   pub down : (y + n) * w ≤ length lent
@@ -42,3 +43,10 @@ pub record Copied (w x y n : ℕ) (lent pred : List ℕ) : Type 0 where
   pub some : 2 ≤ n
   pub most : n ≤ 64
   pub room : length pred ≡ n * n
+
+-- the plane with the block's prediction in it
+abbrev pub laidOf : Block → (pred plane : List ℕ) → List ℕ
+laidOf b pred plane =
+    let a = aroundBlock b plane [] in
+    let n = sideOf (b .component) (b .side) in
+    withBlock 0 (across a) (column a) (row a) n n (λ (r c : ℕ). getD pred (r * n + c) 0) plane

@@ -109,6 +109,7 @@ fn tell(map_scu: &mut [u32], modes: &mut [u8], w: usize, leaf: Leaf, said: Recor
 // ---- a leaf
 
 // Its three components, by one kind, from place `at` of the residual list on. The answer is where its residuals end.
+// `run` and `room` have place for the run and the prediction of any block: one of each for a picture, cleared once.
 fn leaf_planes(
     w: usize,
     h: usize,
@@ -124,6 +125,8 @@ fn leaf_planes(
     y: &mut [u16],
     u: &mut [u16],
     v: &mut [u16],
+    run: &mut [u16; 257],
+    room: &mut [u16; 4096],
 ) -> usize
     requires { ⌜ PlanesAsked (givenOf w h constrained [] (now residual) (now «pred_y») (now «pred_u») (now «pred_v»)) (leaf .x .0) (leaf .z .0) (leaf .side) (now «map_scu») (now y) (now u) (now v) × (endV at (said .mask) (leaf .side) ≤ length (now residual)) ⌝ }
     ensures { λ r. ⌜ Drawn (givenOf w h constrained [] (now (residual .entry)) (now («pred_y» .entry)) (now («pred_u» .entry)) (now («pred_v» .entry))) (leaf .x .0) (leaf .z .0) (leaf .side) (said .kind) (said .mask) at (now («map_scu» .entry))
@@ -152,9 +155,42 @@ fn leaf_planes(
         side,
         constrained,
     };
-    let a = component(luma, kind, coded_y(mask), pred_y, residual, at, map_scu, y);
-    let b = component(chroma, kind, coded_u(mask), pred_u, residual, a, map_scu, u);
-    component(chroma, kind, coded_v(mask), pred_v, residual, b, map_scu, v)
+    let a = component(
+        luma,
+        kind,
+        coded_y(mask),
+        pred_y,
+        residual,
+        at,
+        map_scu,
+        y,
+        &mut *run,
+        &mut *room,
+    );
+    let b = component(
+        chroma,
+        kind,
+        coded_u(mask),
+        pred_u,
+        residual,
+        a,
+        map_scu,
+        u,
+        &mut *run,
+        &mut *room,
+    );
+    component(
+        chroma,
+        kind,
+        coded_v(mask),
+        pred_v,
+        residual,
+        b,
+        map_scu,
+        v,
+        run,
+        room,
+    )
 }
 
 // ---- the leaves of a list
@@ -178,6 +214,8 @@ fn draw_leaves(
     v: &mut [u16],
     map_scu: &mut [u32],
     modes: &mut [u8],
+    run: &mut [u16; 257],
+    room: &mut [u16; 4096],
 ) -> usize
     requires { ⌜ GivenAsked (givenOf w h constrained (now leaves) (now residual) (now «pred_y») (now «pred_u») (now «pred_v»)) ⌝ }
     requires { ⌜ StateAsked (givenOf w h constrained (now leaves) (now residual) (now «pred_y») (now «pred_u») (now «pred_v»)) (stateOf (now y) (now u) (now v) (now «map_scu») (now modes) at k) ⌝ }
@@ -205,6 +243,8 @@ fn draw_leaves(
             &mut *y,
             &mut *u,
             &mut *v,
+            &mut *run,
+            &mut *room,
         );
         tell(&mut *map_scu, &mut *modes, w, leaf, said);
     }
@@ -265,6 +305,8 @@ pub(crate) fn draw_picture(
 {
     let roots = (w + 63) / 64 * ((h + 63) / 64);
     let mut list = [0u16; 768];
+    let mut run = [0u16; 257];
+    let mut room = [0u16; 4096];
     let mut at = 0;
     let mut k = 0;
     for i in 0..roots {
@@ -287,6 +329,8 @@ pub(crate) fn draw_picture(
             &mut *v,
             &mut *map_scu,
             &mut *modes,
+            &mut run,
+            &mut room,
         );
         k += n;
     }

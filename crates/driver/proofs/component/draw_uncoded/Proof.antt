@@ -1,37 +1,38 @@
--- `driver::component::draw_uncoded` meets its contract: whatever is lent as the residual is not read. Assumes nothing.
-use Prim.Native.Nat.{_≤_}
-use mathlib.Core.Path.{_∙_}
+-- `driver::component::draw_uncoded` meets its contract: the prediction is a part of the room, and is laid as it is. Assumes nothing.
+use Prim.Native.Nat.{ℕ}
+use mathlib.Core.List.{List}
+use mathlib.Core.Path.{ap, _∙_}
 use native.Mathlib.Omega.{arith}
 use borrow.Author.Needs.{needs}
-use lib.ListN.{length-take}
-use Rattle.driver_rules.proofs.Components.{samples-few, plane-uncoded}
+use denote.Ref.{now}
+use lib.ListN.{length, length-take}
+use Rattle.driver_rules.specs.Steps.{planeOf}
+use Rattle.driver_rules.proofs.Components.{samples-few, prediction-long}
+use Rattle.driver.specs.Blocks.{laidOf}
 use Rattle.driver.proofs.component.draw_uncoded.Statement.{statement}
 use Rattle.driver.proofs.component.draw_uncoded.Tie as tie
 
+-- the room holds any block's prediction
+fits : tie.Need-part-pred-end
+fits c = let s = c .before .before .before .before .before in omega (arith, s .pre .0 .2, s .pre .1 .1, samples-few (s .args .block .component) _ _ _ _ _ (s .pre .0 .0 .block))
+
+prediction-requires : tie.Need-prediction-requires
+prediction-requires c κs =
+    let s = c .before .before .before .before .before .before .before .before .before in
+    (s .pre .0 .0, s .pre .0 .1, simp length-take (omega (arith, s .pre .0 .2, s .pre .1 .1, samples-few (s .args .block .component) _ _ _ _ _ (s .pre .0 .0 .block))), s .pre .1 .0)
+
+lay-requires : tie.Need-lay-requires
+lay-requires c κs =
+    let s = c .before .before .before .before .before .before .before .before .before .before .before .before .before .before .before .before in
+    (record { size = s .pre .0 .0 .size; block = s .pre .0 .0 .block }, s .pre .0 .0 .plane-long, ap length (c .before .before .before .before .before .before .prediction .ensures) ∙ prediction-long _ _ (s .args .kind))
+
 returns : tie.Need-returns
-returns c = c .before .before .draw .ensures ∙ plane-uncoded _ _ _ _ _
-
-returns-2 : tie.Need-returns-2
-returns-2 c = c .before .before .draw2 .ensures ∙ plane-uncoded _ _ _ _ _
-
-returns-3 : tie.Need-returns-3
-returns-3 c = c .before .before .draw3 .ensures ∙ plane-uncoded _ _ _ _ _
-
-few : (s : tie.Start) → s .args .long ≤ 4096
-few s = omega (arith, s .pre .2, samples-few (s .args .block .component) _ _ _ _ _ (s .pre .0 .block))
-
-draw-requires : tie.Need-draw-requires
-draw-requires c κs = let p = c .before .before .before .before .before .before .before .before .pre in (p .0, p .1, simp length-take (omega (arith, p .2, c .before .before .before .before .if1 .taken)))
-
-draw-requires-2 : tie.Need-draw-requires-2
-draw-requires-2 c κs = let p = c .before .before .before .before .before .before .before .before .before .pre in (p .0, p .1, simp length-take (omega (arith, p .2, c .before .before .before .before .if2 .taken)))
-
-draw-requires-3 : tie.Need-draw-requires-3
-draw-requires-3 c κs = let p = c .before .before .before .before .before .before .before .before .before .pre in (p .0, p .1, simp length-take (omega (arith, p .2, few (c .before .before .before .before .before .before .before .before .before))))
+unfolding planeOf
+returns c =
+    let s = c .before .before .before .before .before .before .before .before .before .before .before .before .before .before .before .before .before .before .before .before .before in
+    c .before .before .before .before .lay .ensures ∙ ap (λ (p : List ℕ). laidOf (s .args .block) p (now (s .args .plane))) (c .before .before .before .before .before .before .before .before .before .before .before .prediction .ensures)
 
 pub draw-uncoded-spec : {M : Type 1} → statement M
 draw-uncoded-spec =
     tie.close
-    (tie.spec (λ c κs. search needs) (λ c. omega arith) (λ c. omega arith) (λ c. omega arith) draw-requires (λ c. c .before .before .draw .kept .1 .1 .1 .1 .1 .1 .0) returns
-    (λ c κs. search needs) (λ c. omega arith) (λ c. omega arith) (λ c. omega arith) draw-requires-2 (λ c. c .before .before .draw2 .kept .1 .1 .1 .1 .1 .1 .0) returns-2
-    (λ c κs. search needs) (λ c. omega arith) (λ c. omega arith) (λ c. omega (arith, few (c .before .before .before .before .before .before .before))) draw-requires-3 (λ c. c .before .before .draw3 .kept .1 .1 .1 .1 .1 .1 .0) returns-3)
+    (tie.spec (λ c. search needs) (λ c. search needs) fits prediction-requires lay-requires (λ c. search needs) (λ c. search needs) (λ c. search needs) returns)

@@ -15,13 +15,12 @@ use Rattle.driver.proofs.walk.draw_leaves.Statement.{statement}
 use Rattle.driver.proofs.walk.draw_leaves.Tie as tie
 
 abbrev Inv-loop : tie.InvT-loop
-Inv-loop w h constrained list n leaves k pred-y pred-u pred-v residual at y₀ u₀ v₀ words₀ modes₀ end₀ j₀ y u v words modes end j =
+Inv-loop w h constrained list n leaves k pred-y pred-u pred-v residual at y₀ u₀ v₀ words₀ modes₀ run₀ room₀ end₀ j₀ y u v words modes run room end j =
     (j ≤ n) × Stepped (givenOf w h constrained leaves residual pred-y pred-u pred-v) (leavesFrom list j) (stateOf y₀ u₀ v₀ words₀ modes₀ at k) (stateOf y u v words modes end (k + j))
 
 abbrev μ-loop : tie.MeasureT-loop
-μ-loop w h constrained list n leaves k pred-y pred-u pred-v residual at y₀ u₀ v₀ words₀ modes₀ end₀ j₀ y u v words modes end j = n - j
+μ-loop w h constrained list n leaves k pred-y pred-u pred-v residual at y₀ u₀ v₀ words₀ modes₀ run₀ room₀ end₀ j₀ y u v words modes run room end j = n - j
 
--- src/walk.rt:189:5
 loop-holds : tie.Need-loop-holds Inv-loop μ-loop
 loop-holds c = let s = c .before .before .before .before .before .before .before .before .before .before in (omega arith, leaves-start (s .args .list .now) (s .args .k) (s .pre .1 .0))
 
@@ -43,20 +42,20 @@ block c = let e = c .leaf-at .ensures in rw (e .0, e .1, e .2) (c .before .befor
 
 leaf-planes-requires : tie.Need-leaf-planes-requires Inv-loop μ-loop
 leaf-planes-requires c κs =
-    let s = c .before .before .before .before .before .before .before .before .before .before .before .before .before .before .before .before .before .before in
-    (planes-asked _ _ _ (s .pre .0) (c .before .before .before .before .before .before .before .loop .inv .1 .asked) (block (c .before .before .before .before .before)), rw (c .before .before .before .before .record-at .ensures .2, c .before .before .before .before .before .leaf-at .ensures .2) (reached (c .before .before .before .before .before .before) .residuals))
+    let s = c .before .before .before .before .before .before .before .before .before .before .before .before .before .before .before .before .before .before .before .before in
+    (planes-asked _ _ _ (s .pre .0) (c .before .before .before .before .before .before .before .before .before .loop .inv .1 .asked) (block (c .before .before .before .before .before .before .before)), rw (c .before .before .before .before .before .before .record-at .ensures .2, c .before .before .before .before .before .before .before .leaf-at .ensures .2) (reached (c .before .before .before .before .before .before .before .before) .residuals))
 
 tell-requires : tie.Need-tell-requires Inv-loop μ-loop
 tell-requires c κs =
-    let a = c .before .before .before .before .before .before .before .before .before .before .before .before .before .before .before .before .loop .inv .1 .asked in
-    told _ _ _ _ _ _ _ (c .before .before .before .before .before .before .before .before .before .before .before .before .before .before .before .before .before .before .before .before .before .before .before .before .before .before .before .pre .0 .size) (block (c .before .before .before .before .before .before .before .before .before .before .before .before .before .before)) (a .words-long) (a .modes-long)
+    let a = c .before .before .before .before .before .before .before .before .before .before .before .before .before .before .before .before .before .before .loop .inv .1 .asked in
+    told _ _ _ _ _ _ _ (c .before .before .before .before .before .before .before .before .before .before .before .before .before .before .before .before .before .before .before .before .before .before .before .before .before .before .before .before .before .pre .0 .size) (block (c .before .before .before .before .before .before .before .before .before .before .before .before .before .before .before .before)) (a .words-long) (a .modes-long)
 
 loop-again : tie.Need-loop-again Inv-loop μ-loop
 loop-again c =
-    let s = c .before .before .before .before .before .before .before .before .before .before .before .before .before .before .before .before .before .before .before .before .before .before .before .before .before .before .before .before .before .before .before .before in
-    let l = c .before .before .before .before .before .before .before .before .before .before .before .before .before .before .before .before .before .before .before .before .before .loop in (
-      omega (arith, c .before .before .before .before .before .before .before .before .before .before .before .before .before .before .before .before .before .before .before .before .loop-test .taken),
-      leaves-next (givenOf (s .args .w) (s .args .h) (s .args .constrained) (s .args .leaves .now) (s .args .residual .now) (s .args .pred-y .now) (s .args .pred-u .now) (s .args .pred-v .now)) (s .args .list .now) (s .args .k) (l .j) (s .pre .0) (block (c .before .before .before .before .before .before .before .before .before .before .before .before .before .before .before .before .before .before .before)) (c .before .before .before .before .before .before .before .before .before .before .before .before .before .before .before .before .before .before .before .leaf-at .ensures) (c .before .before .before .before .before .before .before .before .before .before .before .before .before .before .before .before .before .before .record-at .ensures) (c .before .before .before .before .before .before .before .before .before .before .before .before .before .leaf-planes .ensures) (c .before .before .before .before .tell .ensures) (l .inv .1),
+    let s = c .before .before .before .before .before .before .before .before .before .before .before .before .before .before .before .before .before .before .before .before .before .before .before .before .before .before .before .before .before .before .before .before .before .before in
+    let l = c .before .before .before .before .before .before .before .before .before .before .before .before .before .before .before .before .before .before .before .before .before .before .before .loop in (
+      omega (arith, c .before .before .before .before .before .before .before .before .before .before .before .before .before .before .before .before .before .before .before .before .before .before .loop-test .taken),
+      leaves-next (givenOf (s .args .w) (s .args .h) (s .args .constrained) (s .args .leaves .now) (s .args .residual .now) (s .args .pred-y .now) (s .args .pred-u .now) (s .args .pred-v .now)) (s .args .list .now) (s .args .k) (l .j) (s .pre .0) (block (c .before .before .before .before .before .before .before .before .before .before .before .before .before .before .before .before .before .before .before .before .before)) (c .before .before .before .before .before .before .before .before .before .before .before .before .before .before .before .before .before .before .before .before .before .leaf-at .ensures) (c .before .before .before .before .before .before .before .before .before .before .before .before .before .before .before .before .before .before .before .before .record-at .ensures) (c .before .before .before .before .before .before .before .before .before .before .before .before .before .leaf-planes .ensures) (c .before .before .before .before .tell .ensures) (l .inv .1),
     )
 
 -- at the end
@@ -69,9 +68,14 @@ returns c =
     let e : l .j ≡ c .before .before .before .before .before .before .before .before .before .before .before .before .args .n = omega (arith, l .inv .0, c .loop-test .left) in
     rw (← e) (l .inv .1)
 
+add-j : tie.Need-add-j Inv-loop μ-loop
+add-j c = omega (arith, c .before .before .before .before .before .before .before .before .before .before .before .before .before .before .before .before .before .before .before .before .before .before .loop-test .taken, c .before .before .before .before .before .before .before .before .before .before .before .before .before .before .before .before .before .before .before .before .before .before .before .before .before .before .before .before .before .before .before .before .before .before .pre .1 .1 .0 .few)
+
+loop-less : tie.Need-loop-less Inv-loop μ-loop
+loop-less c = omega (arith, c .before .before .before .before .before .before .before .before .before .before .before .before .before .before .before .before .before .before .before .before .before .before .loop-test .taken)
+
 pub draw-leaves-spec : {M : Type 1} → statement M
 draw-leaves-spec =
     tie.close
     (tie.spec Inv-loop μ-loop loop-holds (λ c κs. in-list c) (λ c. omega (arith, reached (c .before) .records)) (λ c κs. reached (c .before) .records) leaf-planes-requires tell-requires
-    (λ c. omega (arith, c .before .before .before .before .before .before .before .before .before .before .before .before .before .before .before .before .before .before .before .before .loop-test .taken, c .before .before .before .before .before .before .before .before .before .before .before .before .before .before .before .before .before .before .before .before .before .before .before .before .before .before .before .before .before .before .before .before .pre .1 .1 .0 .few)) (λ c. omega (arith, c .before .before .before .before .before .before .before .before .before .before .before .before .before .before .before .before .before .before .before .before .loop-test .taken)) loop-again
-    (λ c. lengths c .y-kept) (λ c. lengths c .u-kept) (λ c. lengths c .v-kept) (λ c. lengths c .words-kept) (λ c. lengths c .modes-kept) returns)
+    add-j loop-less loop-again (λ c. lengths c .y-kept) (λ c. lengths c .u-kept) (λ c. lengths c .v-kept) (λ c. lengths c .words-kept) (λ c. lengths c .modes-kept) returns)
