@@ -1,6 +1,6 @@
 -- An arm unit by unit: sample j of unit i is sample i * n + j of the arm.
 --     unit-missing, unit-sample    where the unit is not present, and where it is
---     unit-in, unit-few    where it is, its samples lie within the plane
+--     in-picture, unit-in, unit-few    where it is, it lies in the picture and its samples within the plane
 -- Assumes nothing.
 use Prim.Native.Nat.{ℕ, _+_, _*_, _/_, _≤_, _<_}
 use mathlib.Core.Path.{_≡_, _∙_, subst}
@@ -21,7 +21,7 @@ unit-of : (i j n : ℕ) → j < n → (i * n + j) / n ≡ i
 unit-of i j n p = mul-add-div-right {m = n} (omega arith) i j ∙ rw (div-eq-of-lt p) (add-zero i)
 
 -- a unit that is present lies in the picture
-in-picture : (a : Arm) (constrained : Bool) (words : List ℕ) (i : ℕ) → presentIn a constrained words i ≡ true → i < a .there
+pub in-picture : (a : Arm) (constrained : Bool) (words : List ℕ) (i : ℕ) → presentIn a constrained words i ≡ true → i < a .there
 unfolding presentIn
 in-picture a constrained words i e =
     ltb-true i (a .there) (all-at (ltb i (a .there) ∷ counts constrained (getD words (a .word + i * a .next) 0) ∷ []) 0 e)

@@ -1,7 +1,7 @@
 -- Gathering by its checks: those of the form, and past them that of the samples.
 --     formed    where the form passes: the block, the lent slices and the run's length
 --     form-refused, form-passed    a call's outcome, by what the checks of its form answered
---     samples-refused, samples-passed    and past those, by what was joined
+--     samples-refused, samples-passed    and past those, by whether its samples passed
 --     gathered-long, gathered-samples    what callers may cite of an answer of 0: the run's length, and that its elements are samples
 --     refused-kept    any other answer leaves the run
 -- Assumes nothing.
@@ -10,7 +10,7 @@ use mathlib.Core.Path.{_≡_, refl, sym, _∙_}
 use mathlib.Core.Bool.{Bool, true, false}
 use mathlib.Core.List.{List}
 use native.Mathlib.Omega.{arith}
-use borrow.Author.Tests.{eqb-true, le-leb, lt-leb}
+use borrow.Author.Tests.{eqb-true}
 use lib.Dec.{eqb}
 use lib.ListN.{length, getD}
 use Rattle.laws.specs.Call.{unless}
@@ -23,7 +23,6 @@ use Rattle.def.specs.declared.Answer.{Answer}
 use Rattle.def.specs.declared.Answer.the-variants.{Done, Refused}
 use Rattle.def.proofs.Answers.{number-some}
 use Rattle.def.proofs.Ladders.{passes}
-use Rattle.samples.specs.Samples.{sampleOk}
 use Rattle.nbr.specs.Gather.{Around, Input, Outcome, runLength, runOf, lengthsOk, samplesOk, checkOf, check, refused, done, outcome}
 use Rattle.nbr.specs.Checks.{formOf, samplesCheck, gathered}
 use Rattle.nbr.specs.Arms.{BlockOf, Lent}
@@ -79,14 +78,14 @@ module _ (i : Input) where
   unfolding outcome gathered
   form-passed a e q = rw (check-is (i .around) (length (i .run)), sym e ∙ q)
 
-  -- and `all` what was joined
-  pub samples-refused : (all : ℕ) → sampleOk all ≡ samplesOk (i .around) → 1023 < all → refused i Sample ≡ gathered i
+  -- and `pass` what its samples did
+  pub samples-refused : (pass : Bool) → pass ≡ samplesOk (i .around) → pass ≡ false → refused i Sample ≡ gathered i
   unfolding gathered
-  samples-refused all e h = rw (sym e ∙ lt-leb all 1023 h)
+  samples-refused pass e h = rw (sym e ∙ h)
 
-  pub samples-passed : (all : ℕ) (l : List ℕ) → sampleOk all ≡ samplesOk (i .around) → all ≤ 1023 → l ≡ runOf (i .around) → _≡_ {A = Outcome} (record { number = 0; run = l }) (gathered i)
+  pub samples-passed : (pass : Bool) (l : List ℕ) → pass ≡ samplesOk (i .around) → pass ≡ true → l ≡ runOf (i .around) → _≡_ {A = Outcome} (record { number = 0; run = l }) (gathered i)
   unfolding gathered
-  samples-passed all l e h q = rw (sym e ∙ le-leb all 1023 h, q)
+  samples-passed pass l e h q = rw (sym e ∙ h, q)
 
 -- ---- the promises
 

@@ -34,7 +34,7 @@ pub record Within (a : Arm) (n : ℕ) (plane words : List ℕ) : Type 0 where
 -- ---- the three arms of a block at (x, y) in luma
 
 abbrev pub noArm : Arm
-noArm = record { from = 0; step = 0; word = 0; next = 0; there = 0 }
+noArm = record { from = 0; step = 1; word = 0; next = 0; there = 0 }
 
 -- down the column left of the block
 unfoldable pub leftArm : Component → (w h x y : ℕ) → Arm

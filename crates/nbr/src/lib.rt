@@ -1,5 +1,6 @@
 // Neighbour gathering: evc_get_nbr_b of ipred.rs. The Rust's three loops are one over an arm, with a start and a stride.
 ghost use mathlib.Core.Path.{_≡_};
+ghost use mathlib.Core.Bool.{true};
 ghost use Prim.Native.Nat.{ℕ, _+_, _*_, _≤_, _<_};
 ghost use lib.ListN.{length, getD};
 ghost use Rattle.laws.specs.Plane.{withRow};
@@ -140,6 +141,29 @@ fn put_units(
     }
 }
 
+// The same. A unit's samples are told apart here, so that the loops over them have a length that is known.
+fn put_arm(
+    plane: &[u16],
+    map_scu: &[u32],
+    arm: Arm,
+    units: usize,
+    n: usize,
+    constrained: bool,
+    run: &mut [u16],
+    to: usize,
+)
+    requires { ⌜ Within arm n (now plane) (now «map_scu») × (to + units * n ≤ length (now run)) × ((n ≡ 4 → ⊥) → (n ≡ 2 → ⊥) → n ≡ 1) ⌝ }
+    ensures { λ _. ⌜ now (run .exit) ≡ withRow 0 to (units * n) (armAt arm n constrained (now (plane .entry)) (now («map_scu» .entry))) (now (run .entry)) ⌝ }
+{
+    if n == 4 {
+        put_units(plane, map_scu, arm, units, 4, constrained, run, to)
+    } else if n == 2 {
+        put_units(plane, map_scu, arm, units, 2, constrained, run, to)
+    } else {
+        put_units(plane, map_scu, arm, units, 1, constrained, run, to)
+    }
+}
+
 // Its samples joined.
 fn join_units(
     plane: &[u16],
@@ -159,6 +183,18 @@ fn join_units(
         i += 1;
     }
     all
+}
+
+// The samples of its first `units` units that lie in the picture joined, present or not: few steps, and where these pass so do those of the run.
+fn join_near(plane: &[u16], arm: Arm, units: usize, n: usize) -> u16
+    requires { ⌜ (n ≤ 4) × (units ≤ 32) × ((k : ℕ) → k < arm .there * n → arm .from + k * arm .step < length (now plane)) ⌝ }
+    ensures { λ r. ⌜ (sampleOk r ≡ true → (k : ℕ) → k < units * n → k < arm .there * n → sampleOk (getD (now (plane .entry)) (arm .from + k * arm .step) 0) ≡ true) ⌝ }
+{
+    let there = arm.there;
+    if there < units {
+        return join_samples(plane, arm.from, arm.step, there * n);
+    }
+    join_samples(plane, arm.from, arm.step, units * n)
 }
 
 // ---- the three arms of a block
@@ -181,13 +217,13 @@ fn flat(n: usize, c: usize, r: usize) -> usize
     r * n + c
 }
 
-// An arm that the picture has nothing of.
+// An arm that the picture has nothing of. Its step is that of the row above, which then is a number that the compiler knows.
 fn no_arm() -> Arm
     ensures { λ r. ⌜ r ≡ noArm ⌝ }
 {
     Arm {
         from: 0,
-        step: 0,
+        step: 1,
         word: 0,
         next: 0,
         there: 0,
@@ -278,10 +314,11 @@ fn lengths_ok(block: Block, plane: usize, words: usize) -> bool
     (plane == w * h) & (words == (block.w / 4) * (block.h / 4))
 }
 
-// The samples of a block's run joined: number 7 is tested before anything is written.
-fn join_run(plane: &[u16], map_scu: &[u32], block: Block, constrained: bool) -> u16
+// Whether number 7 is not given: tested before anything is written. All samples near the block are joined first, whatever their units;
+// where one of those is over 1023 it may be that of a unit that is missing, and the units are asked one by one.
+fn samples_pass(plane: &[u16], map_scu: &[u32], block: Block, constrained: bool) -> bool
     requires { ⌜ Stands block × LentTo block (now plane) (now «map_scu») ⌝ }
-    ensures { λ r. ⌜ sampleOk r ≡ samplesOk (aroundOf block (now (plane .entry)) (now («map_scu» .entry)) constrained) ⌝ }
+    ensures { λ r. ⌜ r ≡ samplesOk (aroundOf block (now (plane .entry)) (now («map_scu» .entry)) constrained) ⌝ }
 {
     let component = block.component;
     let n = def::in_component(component, 4);
@@ -289,9 +326,16 @@ fn join_run(plane: &[u16], map_scu: &[u32], block: Block, constrained: bool) -> 
     let left = left_arm(block);
     let corner = corner_arm(block);
     let up = up_arm(block);
-    join_units(plane, map_scu, left, units, n, constrained)
+    let near = join_near(plane, left, units, n)
+        | join_near(plane, corner, 1, 1)
+        | join_near(plane, up, units, n);
+    if near <= 1023 {
+        return true;
+    }
+    let all = join_units(plane, map_scu, left, units, n, constrained)
         | join_units(plane, map_scu, corner, 1, 1, constrained)
-        | join_units(plane, map_scu, up, units, n, constrained)
+        | join_units(plane, map_scu, up, units, n, constrained);
+    all <= 1023
 }
 
 // The run, straight from the plane: left downwards, the corner, up rightwards.
@@ -304,11 +348,11 @@ fn put_run(plane: &[u16], map_scu: &[u32], block: Block, constrained: bool, run:
     let units = block.side / 2;
     let at = 2 * def::in_component(component, block.side);
     let left = left_arm(block);
-    put_units(plane, map_scu, left, units, n, constrained, &mut *run, 0);
+    put_arm(plane, map_scu, left, units, n, constrained, &mut *run, 0);
     let corner = corner_arm(block);
-    put_units(plane, map_scu, corner, 1, 1, constrained, &mut *run, at);
+    put_arm(plane, map_scu, corner, 1, 1, constrained, &mut *run, at);
     let up = up_arm(block);
-    put_units(plane, map_scu, up, units, n, constrained, &mut *run, at + 1);
+    put_arm(plane, map_scu, up, units, n, constrained, &mut *run, at + 1);
 }
 
 // The run, past the checks of its form.
@@ -324,8 +368,7 @@ fn gather(
         (record { around = aroundOf block (now (plane .entry)) (now («map_scu» .entry)) constrained; run = now (run .entry) })
         (record { number = answerNumber r; run = now (run .exit) }) ⌝ }
 {
-    let all = join_run(plane, map_scu, block, constrained);
-    if 1023 < all {
+    if !samples_pass(plane, map_scu, block, constrained) {
         return Answer::Refused(Refusal::Sample);
     }
     put_run(plane, map_scu, block, constrained, run);

@@ -1,17 +1,17 @@
--- `nbr::gather` meets its contract: what is joined tells whether the run is written. Assumes nothing.
-use native.Mathlib.Omega.{arith}
+-- `nbr::gather` meets its contract: whether its samples pass tells whether the run is written. Assumes nothing.
 use borrow.Author.Needs.{needs}
+use borrow.Author.Tests.{not-true, not-false}
 use Rattle.nbr.proofs.Gathered.{samples-refused, samples-passed}
 use Rattle.nbr.proofs.gather.Statement.{statement}
 use Rattle.nbr.proofs.gather.Tie as tie
 
 returns : tie.Need-returns
-returns c = let e = c .before in samples-refused _ (e .join-run .result) (e .join-run .ensures) (omega arith)
+returns c = let e = c .before .samples-pass in samples-refused _ (e .result) (e .ensures) (not-true _ (c .if1 .taken))
 
 returns-2 : tie.Need-returns-2
 returns-2 c =
-    let e = c .before .before .before .before .before in
-    samples-passed _ (e .join-run .result) _ (e .join-run .ensures) (omega arith) (c .before .before .put-run .ensures)
+    let e = c .before .before .before .before .before .samples-pass in
+    samples-passed _ (e .result) _ (e .ensures) (not-false _ (c .before .before .before .before .if1 .left)) (c .before .before .put-run .ensures)
 
 pub gather-spec : {M : Type 1} → statement M
 gather-spec =
