@@ -7,6 +7,14 @@
  * a pointer is not NULL, also where the length is 0, and that many elements lie behind it; a slice that is written overlaps no other
  * argument; a bool is true or false.
  *
+ * No call allocates or keeps anything from one call to the next: what it works on is lent to it or lies on its stack. So calls on different
+ * slices may run on different threads at the same time; a slice that is only read may be lent to several.
+ *
+ * Bytes of stack that each call was measured to need, its arguments and its return address among them (tools/stack/run,
+ * docs/SPEED.md): derived_chroma_qp_mapping_tables 272, get_avail_intra 72, get_avail_inter 80, get_mpm 56, get_nbr 624, ipred_b 144,
+ * recon 24, recon_plane 241, check 2,400, leaves 2,456, visiting_rank 272, list_edges 4,328, reconstruct 13,192, deblock 6,656,
+ * listing 53,568.
+ *
  * Sizes, lengths and their order are in specs/ of the crate that each call names; w and h are the picture's sides in luma samples. */
 #ifndef LOMSAKEUN_DECODER_H
 #define LOMSAKEUN_DECODER_H

@@ -14,6 +14,8 @@ use std::{fs, io};
 
 /// Square pictures of these sides.
 const SIZES: [usize; 5] = [256, 512, 1024, 2048, 4096];
+/// Blocks of these sides are gathered around and predicted.
+const SIDES: [usize; 5] = [4, 8, 16, 32, 64];
 /// What the leaves of a picture are.
 const LEAVES: [(&str, trees::Taste); 3] =
     [("16 and 8", trees::SIXTEENS), ("all 4", trees::FINEST), ("all 64", trees::UNCUT)];
@@ -76,6 +78,19 @@ fn predicted(rng: &mut Rng, size: usize, side: usize) -> (f64, f64) {
     );
     let count = (size * size) as f64;
     (theirs / count, ours / count)
+}
+
+/// Gathering with prediction alone, at two sizes: for two archives, one run after the other. Nanoseconds a luma sample, the Rust's and the product's.
+pub fn gathering() -> bool {
+    for side in SIDES {
+        let rng = &mut Rng::new(1);
+        let line = [256, 1024].map(|size| {
+            let (rust, ours) = predicted(rng, size, side);
+            format!("{size}: {rust:.3}, {ours:.3}")
+        });
+        println!("blocks of {side:>2}   {}", line.join("   "));
+    }
+    true
 }
 
 /// The residual of every block of a picture, added into its three planes.
@@ -243,7 +258,7 @@ pub fn bench(dir: &Path) -> io::Result<bool> {
         let what = format!("block driver, intra, leaves {leaves}");
         all.push(series(&what, |size| bench_driver::driven(rng, size, taste)));
     }
-    for side in [4, 16, 64] {
+    for side in SIDES {
         all.push(series(&format!("gathering and prediction, blocks of {side}"), |size| predicted(rng, size, side)));
     }
     for side in [4, 16, 64] {

@@ -23,7 +23,7 @@ use std::path::Path;
 use std::process::exit;
 
 const USAGE: &str =
-    "usage: record NAME OUTDIR | record all CRATESDIR | all CALLS PICTURES SEED | fuzz CALLS SEED | bench OUTDIR | count [KIND]";
+    "usage: record NAME OUTDIR | record all CRATESDIR | all CALLS PICTURES SEED | fuzz CALLS SEED | bench OUTDIR | gather | count [KIND]";
 
 fn main() {
     // A panic of the Rust is an answer here, not a message: one of revc's files, or of the library below them.
@@ -43,6 +43,8 @@ fn main() {
         ["fuzz", calls, seed] => fuzz::fuzz(number(calls), number(seed) as u64),
         #[cfg(feature = "archive")]
         ["bench", dir] => bench::bench(Path::new(dir)).expect("writing the table"),
+        #[cfg(feature = "archive")]
+        ["gather"] => bench::gathering(),
         #[cfg(feature = "archive")]
         ["count", kind] => bench::count(number(kind)),
         _ => {
