@@ -32,6 +32,12 @@ pub enum Component {
     Chroma,
 }
 
+// The chroma format of a picture. Format 0 is grey: it has luma alone, and its chroma planes have length 0. Format 1 is colour, 4:2:0.
+pub enum Format {
+    Grey,
+    Colour,
+}
+
 // A length or a place counted in luma samples, in the samples of the component.
 pub fn in_component(c: Component, n: usize) -> usize
     ensures { λ r. ⌜ r ≡ n / scaleOf c ⌝ }
@@ -157,7 +163,7 @@ pub enum Refusal {
     Size,
     // 2: a lent slice's length
     Length,
-    // 3: the transform limit, or an offset
+    // 3: the transform limit, an offset, a number outside its range, or a format
     Setting,
     // 4: a split byte that the walk reached
     Split,
@@ -181,6 +187,10 @@ pub enum Refusal {
     Record,
     // 14: a band that is not the position's next, or past the last
     Band,
+    // 17: a malformed header or frame line of a stream
+    Stream,
+    // 18: a stream that ends before its frame does
+    Short,
     // 20: a sheet of the time when V read table 0 on vertical edges
     Old,
 }
@@ -204,6 +214,8 @@ pub fn refusal_number(r: Refusal) -> u8
         Refusal::Sheet => 12,
         Refusal::Record => 13,
         Refusal::Band => 14,
+        Refusal::Stream => 17,
+        Refusal::Short => 18,
         Refusal::Old => 20,
     }
 }

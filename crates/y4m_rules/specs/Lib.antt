@@ -1,0 +1,4 @@
+pub mod Frames
+pub mod Header
+pub mod Numbers
+pub mod Words
