@@ -1,0 +1,3 @@
+pub mod ReadCall
+pub mod Values
+pub mod WriteCall
