@@ -13,7 +13,7 @@ use lib.ListN.{length, getD, drop, length-append}
 use lib.Seq.{drop-at, getD-append-add}
 use Rattle.laws.proofs.Tabulate.{is-tabulate}
 use Rattle.y4m_rules.specs.Words.{frameLine}
-use Rattle.y4m_rules.specs.Frames.{bytesOf, frameText, sampleAt, planeAt, agrees, lineOk}
+use Rattle.y4m_rules.specs.Frames.{bytesOf, frameText, sampleAt, planeAt, matches, lineOk}
 
 pub bytes-long : (p : List ℕ) → length (bytesOf p) ≡ 2 * length p
 unfolding bytesOf
@@ -39,5 +39,5 @@ plane-back pre p post at n e f =
           sym (rw (g, e, getD-append-add pre (bytesOf p ++ post), getD-append-add pre (bytesOf p ++ post)) (sample-back p post k (omega arith)))
 
 pub line-back : (pre post : List ℕ) (at : ℕ) → at ≡ length pre → lineOk (pre ++ (frameLine ++ post)) at ≡ true
-unfolding agrees
-line-back pre post at e = ap (agrees frameLine) (drop-at pre (frameLine ++ post) at (sym e)) ∙ refl
+unfolding matches
+line-back pre post at e = ap (matches true frameLine) (drop-at pre (frameLine ++ post) at (sym e)) ∙ refl

@@ -11,7 +11,6 @@ use Rattle.def.specs.Picture.{lumaLength, chromaLength}
 use Rattle.def.specs.declared.Format.{Format}
 use Rattle.def.specs.declared.Format.the-variants.{Grey, Colour}
 use Rattle.samples.specs.Samples.{samplesOk}
-use Rattle.sheet_lines.specs.Lines.{startsWith}
 use Rattle.y4m_rules.specs.Words.{frameLine, frameSpace}
 
 -- ---- lengths
@@ -53,43 +52,43 @@ sampleAt s at = getD s at 0 + 256 * getD s (at + 1) 0
 abbrev pub planeAt : List ℕ → ℕ → ℕ → List ℕ
 planeAt s at n = tabulate n (λ (k : ℕ). sampleAt s (at + 2 * k))
 
--- the bytes of l are those of the key, as far as both go
-unfoldable pub agrees : List ℕ → List ℕ → Bool
-agrees [] l = true
-agrees (k ∷ key) [] = true
-agrees (k ∷ key) (b ∷ l) = eqb k b && agrees key l
+-- the bytes of l are those of the key; short: what it is where they end before the key does
+unfoldable pub matches : Bool → List ℕ → List ℕ → Bool
+matches short [] l = true
+matches short (k ∷ key) [] = short
+matches short (k ∷ key) (b ∷ l) = eqb k b && matches short key l
 
--- the frame line at a place, as far as the bytes go
+-- the bytes at a place are a frame line, as far as they go
 abbrev pub lineOk : List ℕ → ℕ → Bool
-lineOk s at = agrees frameLine (drop at s)
+lineOk s at = matches true frameLine (drop at s)
 
 -- where another line offends: at the first byte of its parameter, if it has one after FRAME and a space; else at its own first byte
 unfoldable pub linePlace : List ℕ → ℕ → ℕ
-linePlace s at = pick (startsWith frameSpace (drop at s)) (at + 6) at
+linePlace s at = pick (matches false frameSpace (drop at s)) (at + 6) at
 
--- where the planes of the frame at a place start, and where the frame ends
+-- where the planes of the frame at a place start, by how many samples luma and a chroma plane have; and where the frame ends
 abbrev pub yFrom : ℕ → ℕ
 yFrom at = at + 6
 
-abbrev pub uFrom : (at w h : ℕ) → ℕ
-uFrom at w h = yFrom at + 2 * lumaLength w h
+abbrev pub uFrom : (at luma : ℕ) → ℕ
+uFrom at luma = yFrom at + 2 * luma
 
-abbrev pub vFrom : (at w h : ℕ) → ℕ
-vFrom at w h = uFrom at w h + 2 * chromaLength w h
+abbrev pub vFrom : (at luma chroma : ℕ) → ℕ
+vFrom at luma chroma = uFrom at luma + 2 * chroma
 
-abbrev pub frameEnd : (at w h : ℕ) → ℕ
-frameEnd at w h = vFrom at w h + 2 * chromaLength w h
+abbrev pub frameEnd : (at luma chroma : ℕ) → ℕ
+frameEnd at luma chroma = vFrom at luma chroma + 2 * chroma
 
--- the planes of the frame at a place, in the picture of w by h
-abbrev pub yAt : List ℕ → (at w h : ℕ) → List ℕ
-yAt s at w h = planeAt s (yFrom at) (lumaLength w h)
+-- the planes of the frame at a place
+abbrev pub yAt : List ℕ → (at luma : ℕ) → List ℕ
+yAt s at luma = planeAt s (yFrom at) luma
 
-abbrev pub uAt : List ℕ → (at w h : ℕ) → List ℕ
-uAt s at w h = planeAt s (uFrom at w h) (chromaLength w h)
+abbrev pub uAt : List ℕ → (at luma chroma : ℕ) → List ℕ
+uAt s at luma chroma = planeAt s (uFrom at luma) chroma
 
-abbrev pub vAt : List ℕ → (at w h : ℕ) → List ℕ
-vAt s at w h = planeAt s (vFrom at w h) (chromaLength w h)
+abbrev pub vAt : List ℕ → (at luma chroma : ℕ) → List ℕ
+vAt s at luma chroma = planeAt s (vFrom at luma chroma) chroma
 
 -- each of their samples is at most 1023
-abbrev pub planesOk : List ℕ → (at w h : ℕ) → Bool
-planesOk s at w h = allOf (samplesOk (yAt s at w h) ∷ samplesOk (uAt s at w h) ∷ samplesOk (vAt s at w h) ∷ [])
+unfoldable pub planesOk : List ℕ → (at luma chroma : ℕ) → Bool
+planesOk s at luma chroma = allOf (samplesOk (yAt s at luma) ∷ samplesOk (uAt s at luma chroma) ∷ samplesOk (vAt s at luma chroma) ∷ [])

@@ -1,0 +1,129 @@
+-- Laws of a frame's bytes: a key byte by byte, samples by their high bytes, and samples written one after the other.
+--     match-none, match-out, match-other, match-on, match-fits    what is left of a key and of the bytes
+--     joined, high-byte, scan-plane    the high bytes joined
+--     put-start, put-sample    a plane's bytes
+--     area, quarter         how large planes are
+-- Assumes nothing.
+use mathlib.Core.Bool.{Bool, true, false, _&&_}
+use mathlib.Core.List.{List, [], _∷_, _++_}
+use mathlib.Core.Path.{_≡_, refl, sym, ap, _∙_, subst}
+use Prim.Native.Nat.{ℕ, zero, suc, _+_, _-_, _*_, _/_, _%_, _^_, _≤_, _<_}
+use native.Mathlib.Nat.{mul-le-mul, add-zero}
+use native.Mathlib.Numerals.{add-one}
+use native.Mathlib.Omega.{arith}
+use borrow.Author.Tests.{eq-eqb, ne-eqb, leb-true, leb-false, le-leb, lt-leb}
+use lib.Bits.{bitOr, or-lt, or-add-and, and-le-l, and-le-r}
+use lib.Dec.{leb, eqb}
+use lib.ListN.{length, take, drop, getD, set, drop-of-length-le}
+use lib.Seq.{drop-cons, take-suc}
+use Rattle.def.specs.declared.Format.{Format}
+use Rattle.def.specs.declared.Format.the-variants.{Grey, Colour}
+use Rattle.laws.specs.Scan.{allBelow}
+use Rattle.laws.proofs.Bools.{both-right}
+use Rattle.laws.proofs.Differences.{leb-alike}
+use Rattle.laws.proofs.Parts.{scan-alike}
+use Rattle.laws.proofs.Tabulate.{length-tabulate, getD-tabulate}
+use Rattle.samples.specs.Samples.{sampleOk, samplesOk}
+use Rattle.edges.specs.Put.{Put}
+use Rattle.edges.proofs.Puts.{put-as, put-then}
+use Rattle.sheet.proofs.Puts.{put-byte}
+use Rattle.y4m_rules.specs.Frames.{chromaOf, bytesOf, sampleAt, planeAt, matches}
+use Rattle.y4m_frame.specs.WriteCall.{lengthsOk}
+
+-- ---- a key, byte by byte
+
+here : (s : List ℕ) (i : ℕ) → i < length s → drop i s ≡ getD s i 0 ∷ drop (i + 1) s
+here s i h = drop-cons s i 0 h ∙ ap (λ (k : ℕ). getD s i 0 ∷ drop k s) (sym (add-one i))
+
+-- i bytes of the key have been passed, and j of the text
+module _ (short : Bool) (key s : List ℕ) (i j : ℕ) where
+  pub match-none : length key ≤ i → matches short (drop i key) (drop j s) ≡ true
+  unfolding matches
+  match-none h = ap (λ (k : List ℕ). matches short k (drop j s)) (drop-of-length-le key h)
+
+  pub match-out : i < length key → length s ≤ j → matches short (drop i key) (drop j s) ≡ short
+  unfolding matches
+  match-out h p = rw (here key i h, drop-of-length-le s p)
+
+  pub match-other : i < length key → j < length s → (getD key i 0 ≡ getD s j 0 → ⊥) → matches short (drop i key) (drop j s) ≡ false
+  unfolding matches
+  match-other h p e = rw (here key i h, here s j p, ne-eqb (getD key i 0) (getD s j 0) e)
+
+  pub match-on : i < length key → j < length s → getD key i 0 ≡ getD s j 0 → matches short (drop i key) (drop j s) ≡ matches short (drop (i + 1) key) (drop (j + 1) s)
+  unfolding matches
+  match-on h p e = rw (here key i h, here s j p, eq-eqb (getD key i 0) (getD s j 0) e)
+
+pub match-fits : (key l : List ℕ) → matches false key l ≡ true → length key ≤ length l
+unfolding matches
+match-fits [] l e = omega arith
+match-fits (k ∷ key) [] e = absurd (let z : _≡_ {A = ℕ} 0 1 = cc in omega arith)
+match-fits (k ∷ key) (b ∷ l) e = omega (arith, match-fits key l (both-right (eqb k b) (matches false key l) e))
+
+-- ---- samples by their high bytes
+
+-- x | y is at most 3 where both are
+pub joined : (x y : ℕ) → leb (bitOr x y) 3 ≡ (leb x 3 && leb y 3)
+joined x y = go (leb x 3) (leb y 3) refl refl where
+  go : (a b : Bool) → leb x 3 ≡ a → leb y 3 ≡ b → leb (bitOr x y) 3 ≡ (a && b)
+  go true true p q =
+      let hx = leb-true x 3 p in
+      let hy = leb-true y 3 q in
+      le-leb (bitOr x y) 3 (omega (arith, or-lt 2 x y (omega arith) (omega arith)))
+  go true false p q = let hy = leb-false y 3 q in lt-leb (bitOr x y) 3 (omega (arith, or-add-and x y, and-le-l x y))
+  go false b p q = let hx = leb-false x 3 p in lt-leb (bitOr x y) 3 (omega (arith, or-add-and x y, and-le-r x y))
+
+-- of two bytes, the high one tells
+pub high-byte : (s : List ℕ) (at : ℕ) → getD s at 0 < 256 → leb (getD s (at + 1) 0) 3 ≡ sampleOk (sampleAt s at)
+high-byte s at l = leb-alike (getD s (at + 1) 0) 3 (sampleAt s at) 1023 (λ h. omega arith) (λ h. omega arith)
+
+-- the samples of a plane, one by one
+pub scan-plane : (s : List ℕ) (from n : ℕ) → allBelow (λ (k : ℕ). sampleOk (sampleAt s (from + 2 * k))) n ≡ samplesOk (planeAt s from n)
+unfolding samplesOk
+scan-plane s from n =
+    scan-alike (λ (k : ℕ). sampleOk (sampleAt s (from + 2 * k))) (λ (k : ℕ). sampleOk (getD (planeAt s from n) k 0)) n
+    (λ k h. ap sampleOk (sym (getD-tabulate (λ (j : ℕ). sampleAt s (from + 2 * j)) n k 0 h)))
+    ∙ ap (allBelow (λ (k : ℕ). sampleOk (getD (planeAt s from n) k 0))) (sym (length-tabulate (λ (k : ℕ). sampleAt s (from + 2 * k)) n))
+
+-- ---- samples written one after the other
+
+bytes-snoc : (p : List ℕ) (x : ℕ) → bytesOf (p ++ (x ∷ [])) ≡ bytesOf p ++ ((x % 256) ∷ (x / 256) ∷ [])
+unfolding bytesOf
+bytes-snoc [] x = refl
+bytes-snoc (y ∷ p) x = ap (λ (l : List ℕ). (y % 256) ∷ (y / 256) ∷ l) (bytes-snoc p x)
+
+pub put-start : (p out : List ℕ) (at : ℕ) → Put (bytesOf (take 0 p)) out at out (at + 2 * 0)
+unfolding bytesOf
+put-start p out at = record { count = refl; put = refl }
+
+pub put-sample : (p out out₁ : List ℕ) (at i : ℕ) → i < length p → Put (bytesOf (take i p)) out at out₁ (at + 2 * i)
+    → Put (bytesOf (take (i + 1) p)) out at (set (set out₁ (at + 2 * i) (getD p i 0 % 256)) (at + 2 * i + 1) (getD p i 0 / 256)) (at + 2 * (i + 1))
+put-sample p out out₁ at i h q =
+    let x = getD p i 0 in
+    let m = at + 2 * i in
+    let e : bytesOf (take i p) ++ ((x % 256) ∷ (x / 256) ∷ []) ≡ bytesOf (take (i + 1) p)
+    = sym (bytes-snoc (take i p) x) ∙ ap bytesOf (sym (ap (λ (k : ℕ). take k p) (add-one i) ∙ take-suc p i 0 h)) in
+    let n : m + 1 + 1 ≡ at + 2 * (i + 1) = omega arith in
+    subst (Put (bytesOf (take (i + 1) p)) out at (set (set out₁ m (x % 256)) (m + 1) (x / 256))) n
+    (put-as e (put-then q (put-then (put-byte (x % 256) out₁ m) (put-byte (x / 256) (set out₁ m (x % 256)) (m + 1)))))
+
+-- ---- how large planes are
+
+pub area : (w h : ℕ) → w ≤ 4096 → h ≤ 4096 → w * h ≤ 16777216
+area w h p q = omega (arith, mul-le-mul p q)
+
+pub quarter : (w h : ℕ) → w ≤ 4096 → h ≤ 4096 → (w / 2) * (h / 2) ≤ 4194304
+quarter w h p q =
+    let a : w / 2 ≤ 2048 = omega arith in
+    let b : h / 2 ≤ 2048 = omega arith in
+    omega (arith, mul-le-mul a b)
+
+-- ---- the lengths of a written frame
+
+pub lengths : (c : Format) (w h y u v out n : ℕ) → n ≡ chromaOf c w h
+    → (((eqb y (w * h) && eqb u n) && eqb v n) && eqb out (6 + 2 * (w * h + 2 * n))) ≡ lengthsOk c w h y u v out
+unfolding lengthsOk
+lengths c w h y u v out n e = rw e
+
+pub small-chroma : (c : Format) (w h n : ℕ) → w ≤ 4096 → h ≤ 4096 → n ≡ chromaOf c w h → n ≤ 4194304
+small-chroma Grey w h n p q e = omega arith
+small-chroma Colour w h n p q e = omega (arith, quarter w h p q)

@@ -1,0 +1,2 @@
+pub mod ReadCall
+pub mod WriteCall
