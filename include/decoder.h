@@ -32,7 +32,7 @@ enum {
     LOMSAKEUN_DONE = 0,
     LOMSAKEUN_SIZE = 1,     /* w or h is not a multiple of 4 from 4 to 4096 */
     LOMSAKEUN_LENGTH = 2,   /* a lent slice has the wrong length */
-    LOMSAKEUN_SETTING = 3,  /* the transform limit is not 5 or 6, or an offset lies outside -12..12 */
+    LOMSAKEUN_SETTING = 3,  /* the transform limit is not 5 or 6, an offset lies outside -12..12, a stream's number outside 1..65535, or a grey picture */
     LOMSAKEUN_SPLIT = 4,    /* a split byte reached by the walk is not 0 or 1 */
     LOMSAKEUN_LEAF = 5,     /* a leaf reaches past the picture */
     LOMSAKEUN_QP = 6,       /* a luma QP above 51 */
@@ -44,6 +44,8 @@ enum {
     LOMSAKEUN_SHEET = 12,   /* a malformed sheet */
     LOMSAKEUN_RECORD = 13,  /* the leaf or residual list's length, a mask or a spare byte */
     LOMSAKEUN_BAND = 14,    /* a band that is not the position's next, or is past the last */
+    LOMSAKEUN_STREAM = 17,  /* a malformed header or frame line of a stream */
+    LOMSAKEUN_SHORT = 18,   /* a stream that ends before its frame does */
     LOMSAKEUN_OLD = 20      /* a sheet of the time when V read table0 on vertical edges; the listing's text has it */
 };
 
@@ -68,7 +70,9 @@ enum {
     LOMSAKEUN_STRENGTHS_LENGTH = 208,
     LOMSAKEUN_SPLITS_PER_ROOT = 1024,
     LOMSAKEUN_LEAVES_LENGTH = 768,
-    LOMSAKEUN_LISTING_LENGTH = 81920
+    LOMSAKEUN_LISTING_LENGTH = 81920,
+    LOMSAKEUN_HEADER_LENGTH = 256,
+    LOMSAKEUN_FRAME_LINE_LENGTH = 6
 };
 
 /* The two chroma QP tables from their points (chroma_qp). Under same_table the second points are not read. */
@@ -176,6 +180,30 @@ uint8_t lomsakeun_deblock_band(
 
 /* The text that `edgelist` prints for a sheet (sheet), and its length. */
 uint8_t lomsakeun_listing(const uint8_t *input, size_t input_len, uint8_t *out, size_t out_len, size_t *length);
+
+/* What the header at the start of a YUV4MPEG2 stream says (y4m_header): the sides, F as f / g and A as a / b, each 0 where it has none, and the place
+ * after it. at: for LOMSAKEUN_STREAM the byte's place, here and below. */
+uint8_t lomsakeun_read_header(
+    const uint8_t *s, size_t s_len, size_t *w, size_t *h, size_t *f, size_t *g, size_t *a, size_t *b, size_t *next, size_t *at);
+
+/* The header of a picture's stream, at the start of 256 bytes (y4m_header), and how many bytes it has. colour: the picture has chroma. */
+uint8_t lomsakeun_write_header(
+    bool colour, size_t w, size_t h, size_t f, size_t g, size_t a, size_t b, uint8_t *out, size_t out_len, size_t *count);
+
+/* The frame at a place of a stream, into the planes of a picture of w by h (y4m_frame), and the place after it. */
+uint8_t lomsakeun_read_frame(
+    const uint8_t *s, size_t s_len, size_t place, size_t w, size_t h, uint16_t *y, size_t y_len,
+    uint16_t *u, size_t u_len, uint16_t *v, size_t v_len, size_t *next, size_t *at);
+
+/* A picture's frame (y4m_frame), into exactly its bytes: 6 and two a sample. */
+uint8_t lomsakeun_write_frame(
+    bool colour, size_t w, size_t h, const uint16_t *y, size_t y_len, const uint16_t *u, size_t u_len,
+    const uint16_t *v, size_t v_len, uint8_t *out, size_t out_len);
+
+/* The first frame of a stream, into planes of the lengths of its header's picture (y4m): what the header says, and the place after the frame. */
+uint8_t lomsakeun_import_frame(
+    const uint8_t *s, size_t s_len, uint16_t *y, size_t y_len, uint16_t *u, size_t u_len, uint16_t *v, size_t v_len,
+    size_t *w, size_t *h, size_t *f, size_t *g, size_t *a, size_t *b, size_t *next, size_t *at);
 
 #ifdef __cplusplus
 }

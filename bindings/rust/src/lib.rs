@@ -1,5 +1,6 @@
 //! Safe calls of the Lomsakeun decoder, whose proved archive this crate links: chroma QP tables, neighbour availability, mode ranks,
-//! gathering, intra prediction, residual addition, the split tree with its edges, the block driver, and deblocking, of a picture at once or by bands.
+//! gathering, intra prediction, residual addition, the split tree with its edges, the block driver, deblocking, of a picture at once or by bands,
+//! and pictures as YUV4MPEG2 streams.
 //!
 //! Every call accepts every input. A bad one answers a [`Refusal`] and leaves every lent slice as it was; nothing is trusted, and each
 //! slice's length goes with it. Places and sizes are in luma samples unless a call says units (4x4 luma samples); planes and maps are flat,
@@ -45,6 +46,7 @@ mod driver;
 mod neighbours;
 mod picture;
 mod refusal;
+mod streams;
 pub mod sys;
 mod tree;
 
@@ -56,4 +58,7 @@ pub use driver::{reconstruct, Blocks};
 pub use neighbours::{get_avail_inter, get_avail_intra, get_mpm, Neighbours};
 pub use picture::Picture;
 pub use refusal::Refusal;
+pub use streams::{
+    frame_length, import_frame, read_frame, read_header, write_frame, write_header, Header, Misread, Planes, HEADER_LENGTH,
+};
 pub use tree::{check, leaves, list_edges, listing, visiting_rank, LEAVES_LENGTH, LISTING_LENGTH};

@@ -9,7 +9,7 @@ pub enum Refusal {
     Size = 1,
     /// A lent slice has the wrong length.
     Length = 2,
-    /// The transform limit is not 5 or 6, or an offset lies outside -12..=12.
+    /// The transform limit is not 5 or 6, an offset lies outside -12..=12, a stream's number lies outside 1..=65535, or a picture is grey.
     Setting = 3,
     /// A split byte reached by the walk is not 0 or 1.
     Split = 4,
@@ -33,6 +33,10 @@ pub enum Refusal {
     Record = 13,
     /// A band that is not the position's next, or is past the last.
     Band = 14,
+    /// A malformed header or frame line of a stream.
+    Stream = 17,
+    /// A stream that ends before its frame does.
+    Short = 18,
     /// A sheet of the time when V read table 0 on vertical edges.
     Old = 20,
 }
@@ -54,6 +58,8 @@ impl Refusal {
         Refusal::Sheet,
         Refusal::Record,
         Refusal::Band,
+        Refusal::Stream,
+        Refusal::Short,
         Refusal::Old,
     ];
 
@@ -73,7 +79,7 @@ impl fmt::Display for Refusal {
         let what = match self {
             Refusal::Size => "a side of the picture",
             Refusal::Length => "a lent slice's length",
-            Refusal::Setting => "the transform limit, or an offset",
+            Refusal::Setting => "the transform limit, an offset, a stream's number, or a grey picture",
             Refusal::Split => "a split byte",
             Refusal::Leaf => "a leaf that reaches past the picture",
             Refusal::Qp => "a QP",
@@ -85,6 +91,8 @@ impl fmt::Display for Refusal {
             Refusal::Sheet => "a malformed sheet",
             Refusal::Record => "the leaf or residual list",
             Refusal::Band => "a band out of turn, or past the last",
+            Refusal::Stream => "a malformed header or frame line",
+            Refusal::Short => "a stream that ends before its frame does",
             Refusal::Old => "an old sheet",
         };
         write!(f, "refused={}: {what}", self.number())

@@ -4,4 +4,5 @@ pub mod Numbers
 pub mod Promises
 pub mod Refusing
 pub mod Settled
+pub mod Streams
 pub mod Values

@@ -11,6 +11,7 @@
 //     8 walk            leaves, check, visiting_rank, list_edges, root_list
 //       deblocking      deblock; Bands::first, deblock_band; checked, checked_band, band_rows, rows_above, entries, mask_of, line, lanes, motion_row
 //     the sheet         read, listing
+//     streams           read_header, write_header, read_frame, write_frame, import_frame
 pub use avail::Avail;
 pub use avail::Neighbours;
 pub use avail::get_avail_inter;
@@ -22,6 +23,7 @@ pub use chroma_qp_check::delta_out;
 pub use chroma_qp_check::start_qp;
 pub use def::Answer;
 pub use def::Component;
+pub use def::Format;
 pub use def::Pel;
 pub use def::Refusal;
 pub use def::Scu;
@@ -84,3 +86,12 @@ pub use split::Walked;
 pub use split::check;
 pub use split::leaves;
 pub use strength::entries;
+pub use y4m::import_frame;
+pub use y4m_frame::FrameRead;
+pub use y4m_frame::read_frame;
+pub use y4m_frame::write_frame;
+pub use y4m_header::HeaderRead;
+pub use y4m_header::HeaderWritten;
+pub use y4m_header::read_header;
+pub use y4m_header::write_header;
+pub use y4m_rules::Said;

@@ -1,3 +1,4 @@
 pub mod Flags
 pub mod Masks
 pub mod Ranks
+pub mod Streams

@@ -9,6 +9,7 @@ mod chroma;
 mod deblock;
 mod neighbours;
 mod reconstruct;
+mod streams;
 mod tree;
 
 // A component by its flag.
