@@ -1,0 +1,217 @@
+// What the programs over YUV4MPEG2 files share: a file's header line, its frames one after the other, and what is told of a refusal.
+// No contract can say what is read or written: what stands here is proved safe. Memory is that of one frame, however long the file is.
+ghost use Prim.Native.Nat.{_≤_};
+ghost use lib.ListN.{length};
+use def::Answer;
+use def::Format;
+use libc::STDERR_FILENO;
+use libc::STDOUT_FILENO;
+use y4m_frame::FrameRead;
+
+mod rooms;
+
+pub use rooms::frames;
+
+// How reading a file's frames ended: after how many, and where. The number is 0 at the end of the file; else it is that of the refusal of the next
+// frame, and the place that of the byte which offends, or where the file ends too early, or where the frame starts. Or reading or writing failed.
+struct Ended {
+    frames: usize,
+    number: u8,
+    place: usize,
+    failed: bool,
+}
+
+// What one frame came to: whether there may be more; else the number of its refusal and where it offends, from its own start on, or a failure.
+struct Turn {
+    more: bool,
+    number: u8,
+    at: usize,
+    failed: bool,
+}
+
+// ---- reading
+
+// One byte more: 1, or 0 at the end, or 2 where the read failed.
+fn one_more(file: i32, byte: &mut [u8; 1]) -> u8 {
+    let got = libc::read(file, byte);
+    if got < 0 {
+        return 2;
+    }
+    if got == 0 {
+        return 0;
+    }
+    1
+}
+
+// The first line of a file, up to its newline or to as many bytes as there is room for: how many there are. Byte by byte, so that what stands after
+// it is not read yet.
+pub fn first_line(file: i32, room: &mut [u8]) -> usize
+    ensures { λ r. ⌜ r ≤ length (now (room .exit)) ⌝ }
+{
+    let mut byte = [0u8; 1];
+    let mut i = 0;
+    while i < room.len() {
+        if one_more(file, &mut byte) != 1 {
+            return i;
+        }
+        let b = byte[0];
+        room[i] = b;
+        i += 1;
+        if b == b'\n' {
+            return i;
+        }
+    }
+    i
+}
+
+// Whether a read fails where a file seems to end.
+fn read_fails(file: i32) -> bool {
+    let mut byte = [0u8; 1];
+    one_more(file, &mut byte) == 2
+}
+
+// ---- a frame
+
+// Where a frame of n bytes offends, from its own start on.
+fn place_in(number: u8, at: usize, n: usize) -> usize {
+    match number {
+        17 => at,
+        18 => n,
+        _ => 0,
+    }
+}
+
+fn after(more: bool, number: u8, at: usize, failed: bool) -> Turn {
+    Turn {
+        more,
+        number,
+        at,
+        failed,
+    }
+}
+
+// Writes a frame again.
+fn put_frame(w: usize, h: usize, y: &[u16], u: &[u16], v: &[u16], bytes: &mut [u8]) -> Turn {
+    match y4m_frame::write_frame(Format::Colour, w, h, y, u, v, bytes) {
+        Answer::Refused(r) => after(false, def::refusal_number(r), 0, false),
+        Answer::Done => {
+            if io::write_all(STDOUT_FILENO, bytes) {
+                return after(true, 0, 0, false);
+            }
+            after(false, 0, 0, true)
+        }
+    }
+}
+
+// Reads a frame, checks it, and where it is to be copied writes it again.
+fn one_frame(
+    file: i32,
+    w: usize,
+    h: usize,
+    copy: bool,
+    bytes: &mut [u8],
+    y: &mut [u16],
+    u: &mut [u16],
+    v: &mut [u16],
+) -> Turn {
+    let n = io::read_full(file, bytes);
+    if n < bytes.len() {
+        if read_fails(file) {
+            return after(false, 0, 0, true);
+        }
+        if n == 0 {
+            return after(false, 0, 0, false);
+        }
+    }
+    match y4m_frame::read_frame(&bytes[..n], 0, w, h, y, u, v) {
+        FrameRead::Refused(r, at) => {
+            let number = def::refusal_number(r);
+            after(false, number, place_in(number, at, n), false)
+        }
+        FrameRead::Read(_) => {
+            if copy {
+                return put_frame(w, h, y, u, v, bytes);
+            }
+            after(true, 0, 0, false)
+        }
+    }
+}
+
+// ---- all frames
+
+// A proved loop has to end, and nothing says that a file does: it counts frames up to a number that no run uses up.
+fn each_frame(
+    file: i32,
+    w: usize,
+    h: usize,
+    start: usize,
+    copy: bool,
+    bytes: &mut [u8],
+    y: &mut [u16],
+    u: &mut [u16],
+    v: &mut [u16],
+) -> Ended {
+    let mut frames: usize = 0;
+    let mut place = start;
+    while frames < usize::MAX {
+        let t = one_frame(file, w, h, copy, bytes, y, u, v);
+        if !t.more {
+            let end = std::num::wrapping_add_usize(place, t.at);
+            return stopped(frames, t.number, end, t.failed);
+        }
+        frames += 1;
+        place = std::num::wrapping_add_usize(place, bytes.len());
+    }
+    stopped(frames, 0, place, true)
+}
+
+fn stopped(frames: usize, number: u8, place: usize, failed: bool) -> Ended {
+    Ended {
+        frames,
+        number,
+        place,
+        failed,
+    }
+}
+
+// ---- what is told
+
+// A number after its name.
+pub fn field(name: &[u8], n: usize) {
+    io::write_all(STDOUT_FILENO, name);
+    io::print_decimal(STDOUT_FILENO, n as u64);
+}
+
+pub fn end_line() {
+    io::write_all(STDOUT_FILENO, b"\n");
+}
+
+// A refusal with its place, on standard error: `byte 9301: refused=18: a stream that ends before its frame does`.
+pub fn refused(number: u8, place: usize) {
+    io::write_all(STDERR_FILENO, b"byte ");
+    say::number(place);
+    say::words(b": ");
+    say::refused(number);
+}
+
+// How many frames there are, or the refusal of the next; a copy has standard output for itself. Answers the exit status.
+fn told(e: Ended, copy: bool) -> u8 {
+    if e.failed {
+        say::line(b"the file cannot be read, or the copy not written");
+        return 2;
+    }
+    if !copy {
+        field(b"frames=", e.frames);
+        end_line();
+    }
+    if e.number == 0 {
+        return 0;
+    }
+    if !copy {
+        field(b"refused=", e.number as usize);
+        field(b" place=", e.place);
+        end_line();
+    }
+    refused(e.number, e.place);
+    1
+}

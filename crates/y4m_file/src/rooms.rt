@@ -1,0 +1,118 @@
+// Room for a frame's bytes and planes. The small room has a frame of 262,144 luma samples, and fits the stack that every program has. The large one has a
+// frame of 4096 by 4096, and needs a stack of 256 megabytes, which bin/program asks for.
+ghost use Prim.Native.Nat.{_≤_};
+use crate::Ended;
+use crate::each_frame;
+use crate::told;
+
+// ---- arrays: a call for each keeps the checker from looking into it
+
+fn small_bytes() -> [u8; 786438] {
+    [0u8; 786438]
+}
+
+fn small_luma() -> [u16; 262144] {
+    [0u16; 262144]
+}
+
+fn small_chroma() -> [u16; 65536] {
+    [0u16; 65536]
+}
+
+fn large_bytes() -> [u8; 50331654] {
+    [0u8; 50331654]
+}
+
+fn large_luma() -> [u16; 16777216] {
+    [0u16; 16777216]
+}
+
+fn large_chroma() -> [u16; 4194304] {
+    [0u16; 4194304]
+}
+
+// ---- all frames of a file, in such a room
+
+fn in_small(
+    file: i32,
+    w: usize,
+    h: usize,
+    luma: usize,
+    chroma: usize,
+    start: usize,
+    copy: bool,
+) -> Ended
+    requires { ⌜ (luma ≤ 262144) × (chroma ≤ 65536) ⌝ }
+{
+    let mut bytes = small_bytes();
+    let mut y = small_luma();
+    let mut u = small_chroma();
+    let mut v = small_chroma();
+    let size = 6 + 2 * luma + 4 * chroma;
+    each_frame(
+        file,
+        w,
+        h,
+        start,
+        copy,
+        &mut bytes[..size],
+        &mut y[..luma],
+        &mut u[..chroma],
+        &mut v[..chroma],
+    )
+}
+
+fn in_large(
+    file: i32,
+    w: usize,
+    h: usize,
+    luma: usize,
+    chroma: usize,
+    start: usize,
+    copy: bool,
+) -> Ended
+    requires { ⌜ (luma ≤ 16777216) × (chroma ≤ 4194304) ⌝ }
+{
+    let mut bytes = large_bytes();
+    let mut y = large_luma();
+    let mut u = large_chroma();
+    let mut v = large_chroma();
+    let size = 6 + 2 * luma + 4 * chroma;
+    each_frame(
+        file,
+        w,
+        h,
+        start,
+        copy,
+        &mut bytes[..size],
+        &mut y[..luma],
+        &mut u[..chroma],
+        &mut v[..chroma],
+    )
+}
+
+// The frames of a file from here on, of pictures of w by h. The first starts at the byte `start`. Where they are to be copied each is written again. A
+// picture that the small room does not hold is gone to by a call of itself: a compiler puts no large array into the frame of a function that does so.
+pub fn frames(file: i32, w: usize, h: usize, start: usize, copy: bool, large: bool) -> u8 {
+    if 4096 < w {
+        return 2;
+    }
+    if 4096 < h {
+        return 2;
+    }
+    let luma = w * h;
+    let chroma = (w / 2) * (h / 2);
+    if large {
+        return told(in_large(file, w, h, luma, chroma, start, copy), copy);
+    }
+    if luma <= 262144 {
+        if chroma <= 65536 {
+            return told(in_small(file, w, h, luma, chroma, start, copy), copy);
+        }
+    }
+    let status = frames(file, w, h, start, copy, true);
+    if status == 2 {
+        say::line(b"(the picture is large: its frames are read in a room of 100 megabytes)");
+    }
+    status
+}

@@ -1,0 +1,82 @@
+// Writes the YUV4MPEG2 file that its argument names to standard output again, read and checked: its header as this product writes one, and its frames. F is
+// 25:1 and A is 1:1 where the file's header has none. At a refusal it stops: what was written are the frames before it.
+use def::Format;
+use libc::STDOUT_FILENO;
+use y4m_header::HeaderRead;
+use y4m_header::HeaderWritten;
+
+// A number of a header, or another where it has none.
+fn or_else(n: usize, other: usize) -> usize {
+    if n == 0 { other } else { n }
+}
+
+// Writes the header; answers the refusal's number, 0 where it is done, and 255 where writing failed.
+fn put_header(w: usize, h: usize, f: usize, g: usize, a: usize, b: usize) -> u8 {
+    let mut head = [0u8; 256];
+    match y4m_header::write_header(
+        Format::Colour,
+        w,
+        h,
+        or_else(f, 25),
+        or_else(g, 1),
+        or_else(a, 1),
+        or_else(b, 1),
+        &mut head,
+    ) {
+        HeaderWritten::Refused(r) => def::refusal_number(r),
+        HeaderWritten::Written(n) => {
+            if 256 < n {
+                return 255;
+            }
+            if io::write_all(STDOUT_FILENO, &head[..n]) {
+                return 0;
+            }
+            255
+        }
+    }
+}
+
+fn copied(file: i32) -> u8 {
+    let mut head = [0u8; 256];
+    let n = y4m_file::first_line(file, &mut head);
+    match y4m_header::read_header(&head[..n]) {
+        HeaderRead::Refused(r, at) => {
+            y4m_file::refused(def::refusal_number(r), at);
+            1
+        }
+        HeaderRead::Read {
+            w,
+            h,
+            f,
+            g,
+            a,
+            b,
+            next,
+        } => {
+            if put_header(w, h, f, g, a, b) != 0 {
+                say::line(b"y4mcopy: the copy cannot be written");
+                return 2;
+            }
+            y4m_file::frames(file, w, h, next, true, false)
+        }
+    }
+}
+
+fn main() {
+    let mut path = io::buffer();
+    let n = os::arg(1, &mut path);
+    if (os::arg_count() != 2) | (n == 0) {
+        say::line(b"usage: y4mcopy FILE");
+        say::status(2);
+        return;
+    }
+    let file = os::open_read(&path[..n]);
+    if file < 0 {
+        os::fail(&path[..n]);
+        say::status(2);
+        return;
+    }
+    let status = copied(file);
+    libc::close(file);
+    say::status(status);
+}
