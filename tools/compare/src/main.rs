@@ -23,7 +23,7 @@ use std::path::Path;
 use std::process::exit;
 
 const USAGE: &str =
-    "usage: record NAME OUTDIR | record all CRATESDIR | all CALLS PICTURES SEED | fuzz CALLS SEED | bench OUTDIR | gather | count [KIND]";
+    "usage: record NAME OUTDIR | record all CRATESDIR | record headers COUNT SEED OUTDIR | all CALLS PICTURES SEED | fuzz CALLS SEED | bench OUTDIR | gather | count [KIND]";
 
 fn main() {
     // A panic of the Rust is an answer here, not a message: one of revc's files, or of the library below them.
@@ -36,6 +36,9 @@ fn main() {
     let args: Vec<String> = std::env::args().skip(1).collect();
     let args: Vec<&str> = args.iter().map(String::as_str).collect();
     let good = match args[..] {
+        ["record", "headers", count, seed, dir] => {
+            record::headers(number(count), number(seed) as u64, Path::new(dir)).expect("writing the recording")
+        }
         ["record", name, dir] => record::record(name, Path::new(dir)).expect("writing the recording"),
         #[cfg(feature = "archive")]
         ["all", calls, pictures, seed] => all::all(number(calls), number(pictures), number(seed) as u64),
@@ -55,7 +58,6 @@ fn main() {
     exit(!good as i32);
 }
 
-#[cfg(feature = "archive")]
 fn number(text: &str) -> usize {
     text.parse().unwrap_or_else(|_| {
         eprintln!("{USAGE}");

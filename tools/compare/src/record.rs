@@ -17,6 +17,7 @@ const ALL: [(&str, Recorder); 11] = [
     ("bands", bands_cases::record),
     ("driver", driver_cases::record),
     ("sheet", sheet::record),
+    ("streams", streams::record),
 ];
 
 /// Records one name, or all of them, each to its replay's folder where the repository has one. True if the Rust and the model never differed.
@@ -46,4 +47,13 @@ pub fn record(name: &str, dir: &Path) -> std::io::Result<bool> {
         println!("nothing is called {name}");
     }
     Ok(known && agreed)
+}
+
+/// Records damaged headers alone, for a run of the replay that is not part of the gate.
+pub fn headers(count: usize, seed: u64, dir: &Path) -> std::io::Result<bool> {
+    let mut tape = Tape::new("streams");
+    streams::headers(&mut tape, count, seed);
+    let good = tape.report();
+    tape.save(dir)?;
+    Ok(good)
 }

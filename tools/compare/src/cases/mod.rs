@@ -18,6 +18,7 @@ pub mod predict;
 pub mod ranks;
 pub mod recon;
 pub mod sheet;
+pub mod streams;
 pub mod tape;
 #[cfg(feature = "archive")]
 pub mod tree;

@@ -11,6 +11,7 @@ pub mod predict;
 pub mod ranks;
 pub mod residual;
 pub mod sheet;
+pub mod streams;
 pub mod tree;
 pub mod walk;
 
@@ -29,6 +30,8 @@ pub const PIVOT: u32 = 11;
 pub const SHEET: u32 = 12;
 pub const RECORD: u32 = 13;
 pub const BAND: u32 = 14;
+pub const STREAM: u32 = 17;
+pub const SHORT: u32 = 18;
 pub const OLD: u32 = 20;
 /// One more than the largest number.
 pub const NUMBERS: usize = 21;
