@@ -1,6 +1,6 @@
--- Laws of a frame's bytes: a key byte by byte, samples by their high bytes, and samples written one after the other.
+-- Laws of a frame's bytes: a key byte by byte, the samples of a plane, and samples written one after the other.
 --     match-none, match-out, match-other, match-on, match-fits    what is left of a key and of the bytes
---     joined, high-byte, scan-plane    the high bytes joined
+--     scan-plane    the samples of a plane, one by one
 --     put-start, put-sample    a plane's bytes
 --     area, quarter         how large planes are
 -- Assumes nothing.
@@ -11,16 +11,14 @@ use Prim.Native.Nat.{ℕ, zero, suc, _+_, _-_, _*_, _/_, _%_, _^_, _≤_, _<_}
 use native.Mathlib.Nat.{mul-le-mul, add-zero}
 use native.Mathlib.Numerals.{add-one}
 use native.Mathlib.Omega.{arith}
-use borrow.Author.Tests.{eq-eqb, ne-eqb, leb-true, leb-false, le-leb, lt-leb}
-use lib.Bits.{bitOr, or-lt, or-add-and, and-le-l, and-le-r}
-use lib.Dec.{leb, eqb}
+use borrow.Author.Tests.{eq-eqb, ne-eqb}
+use lib.Dec.{eqb}
 use lib.ListN.{length, take, drop, getD, set, drop-of-length-le}
 use lib.Seq.{drop-cons, take-suc}
 use Rattle.def.specs.declared.Format.{Format}
 use Rattle.def.specs.declared.Format.the-variants.{Grey, Colour}
 use Rattle.laws.specs.Scan.{allBelow}
 use Rattle.laws.proofs.Bools.{both-right}
-use Rattle.laws.proofs.Differences.{leb-alike}
 use Rattle.laws.proofs.Parts.{scan-alike}
 use Rattle.laws.proofs.Tabulate.{length-tabulate, getD-tabulate}
 use Rattle.samples.specs.Samples.{sampleOk, samplesOk}
@@ -59,22 +57,7 @@ match-fits [] l e = omega arith
 match-fits (k ∷ key) [] e = absurd (let z : _≡_ {A = ℕ} 0 1 = cc in omega arith)
 match-fits (k ∷ key) (b ∷ l) e = omega (arith, match-fits key l (both-right (eqb k b) (matches false key l) e))
 
--- ---- samples by their high bytes
-
--- x | y is at most 3 where both are
-pub joined : (x y : ℕ) → leb (bitOr x y) 3 ≡ (leb x 3 && leb y 3)
-joined x y = go (leb x 3) (leb y 3) refl refl where
-  go : (a b : Bool) → leb x 3 ≡ a → leb y 3 ≡ b → leb (bitOr x y) 3 ≡ (a && b)
-  go true true p q =
-      let hx = leb-true x 3 p in
-      let hy = leb-true y 3 q in
-      le-leb (bitOr x y) 3 (omega (arith, or-lt 2 x y (omega arith) (omega arith)))
-  go true false p q = let hy = leb-false y 3 q in lt-leb (bitOr x y) 3 (omega (arith, or-add-and x y, and-le-l x y))
-  go false b p q = let hx = leb-false x 3 p in lt-leb (bitOr x y) 3 (omega (arith, or-add-and x y, and-le-r x y))
-
--- of two bytes, the high one tells
-pub high-byte : (s : List ℕ) (at : ℕ) → getD s at 0 < 256 → leb (getD s (at + 1) 0) 3 ≡ sampleOk (sampleAt s at)
-high-byte s at l = leb-alike (getD s (at + 1) 0) 3 (sampleAt s at) 1023 (λ h. omega arith) (λ h. omega arith)
+-- ---- samples
 
 -- the samples of a plane, one by one
 pub scan-plane : (s : List ℕ) (from n : ℕ) → allBelow (λ (k : ℕ). sampleOk (sampleAt s (from + 2 * k))) n ≡ samplesOk (planeAt s from n)

@@ -61,26 +61,26 @@ pub(crate) fn put_line(out: &mut [u8]) -> usize
 
 // ---- samples
 
-// Whether each of n samples from `from` on is at most 1023, and so its high byte at most 3. The high bytes are joined by `|` and compared once, with no
-// way out at the first that fails: so the loop can be done many samples at a time.
-pub(crate) fn plane_ok(s: &[u8], from: usize, n: usize) -> bool
-    requires { ⌜ from + 2 * n ≤ length (now s) ⌝ }
-    ensures { λ r. ⌜ r ≡ samplesOk (planeAt (now (s .entry)) from n) ⌝ }
-{
-    let mut high: u8 = 0;
-    let mut i = 0;
-    while i < n {
-        high = high | s[from + 2 * i + 1];
-        i += 1;
-    }
-    high <= 3
-}
-
 // The sample of two bytes.
 fn sample(low: u8, high: u8) -> u16
     ensures { λ r. ⌜ r ≡ low + 256 * high ⌝ }
 {
     low as u16 + 256 * (high as u16)
+}
+
+// Whether each of n samples from `from` on is at most 1023. They are joined by `|` and compared once, with no way out at the first that fails: so the
+// loop can be done many samples at a time.
+pub(crate) fn plane_ok(s: &[u8], from: usize, n: usize) -> bool
+    requires { ⌜ from + 2 * n ≤ length (now s) ⌝ }
+    ensures { λ r. ⌜ r ≡ samplesOk (planeAt (now (s .entry)) from n) ⌝ }
+{
+    let mut all: u16 = 0;
+    let mut i = 0;
+    while i < n {
+        all = all | sample(s[from + 2 * i], s[from + 2 * i + 1]);
+        i += 1;
+    }
+    all <= 1023
 }
 
 // A plane's samples from `from` on.
