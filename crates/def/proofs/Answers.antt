@@ -10,7 +10,7 @@ use lib.ListN.{getD}
 use Rattle.def.specs.Answers.{answerNumber, afterChecks}
 use Rattle.def.specs.Refusals.{numberOf}
 use Rattle.def.specs.declared.Refusal.{Refusal}
-use Rattle.def.specs.declared.Refusal.the-variants.{Size, Length, Setting, Split, Leaf, Qp, Sample, Block, Mode, Points, Pivot, Sheet, Record, Band, Stream, Short, Old}
+use Rattle.def.specs.declared.Refusal.the-variants.{Size, Length, Setting, Split, Leaf, Qp, Sample, Block, Mode, Points, Pivot, Sheet, Record, Band, Bits, Stream, Short, Old}
 use Rattle.def.specs.declared.Answer.{Answer}
 use Rattle.def.specs.declared.Answer.the-variants.{Done, Refused}
 
@@ -33,7 +33,7 @@ answers =
     ∷ Refused Record
     ∷ Refused Band
     ∷ Done
-    ∷ Done
+    ∷ Refused Bits
     ∷ Refused Stream
     ∷ Refused Short
     ∷ Done
@@ -58,6 +58,7 @@ refusal-back Pivot = refl
 refusal-back Sheet = refl
 refusal-back Record = refl
 refusal-back Band = refl
+refusal-back Bits = refl
 refusal-back Stream = refl
 refusal-back Short = refl
 refusal-back Old = refl

@@ -2,7 +2,7 @@
 -- Assumes nothing: these are definitions.
 use Prim.Native.Nat.{ℕ}
 use Rattle.def.specs.declared.Refusal.{Refusal}
-use Rattle.def.specs.declared.Refusal.the-variants.{Size, Length, Setting, Split, Leaf, Qp, Sample, Block, Mode, Points, Pivot, Sheet, Record, Band, Stream, Short, Old}
+use Rattle.def.specs.declared.Refusal.the-variants.{Size, Length, Setting, Split, Leaf, Qp, Sample, Block, Mode, Points, Pivot, Sheet, Record, Band, Bits, Stream, Short, Old}
 
 abbrev pub numberOf : Refusal → ℕ
 numberOf Size = 1
@@ -19,6 +19,7 @@ numberOf Pivot = 11
 numberOf Sheet = 12
 numberOf Record = 13
 numberOf Band = 14
+numberOf Bits = 16
 numberOf Stream = 17
 numberOf Short = 18
 numberOf Old = 20

@@ -187,6 +187,8 @@ pub enum Refusal {
     Record,
     // 14: a band that is not the position's next, or past the last
     Band,
+    // 16: the bits of a compact split map, or the room for them
+    Bits,
     // 17: a malformed header or frame line of a stream
     Stream,
     // 18: a stream that ends before its frame does
@@ -214,6 +216,7 @@ pub fn refusal_number(r: Refusal) -> u8
         Refusal::Sheet => 12,
         Refusal::Record => 13,
         Refusal::Band => 14,
+        Refusal::Bits => 16,
         Refusal::Stream => 17,
         Refusal::Short => 18,
         Refusal::Old => 20,
