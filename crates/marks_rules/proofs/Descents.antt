@@ -1,0 +1,147 @@
+-- The descent by digits: its equations, and what it makes of the digits of a map.
+--     descend-x, descend-y, descend-unit, descend-leaf, descend-cut, descend-none    each way through it
+--     descents-none, descents-more, then-done, then-stop    descents one after the other
+--     in-turn    descents that are each walked to the end by their digits
+--     read-back    the digits of bytes that are walked to the end give their walk and their marks, and leave what follows them
+-- Assumes nothing.
+use mathlib.Core.List.{List, [], _∷_, _++_, map, append-assoc}
+use mathlib.Core.Path.{_≡_, refl, sym, ap, _∙_, subst}
+use Prim.Native.Nat.{ℕ, zero, suc, _+_, _*_, _/_, _%_, _^_, _≤_, _<_}
+use native.Mathlib.Numerals.{add-one}
+use native.Mathlib.Omega.{arith}
+use borrow.Author.Tests.{le-ltb, lt-ltb}
+use lib.Dec.{ltb}
+use Rattle.def.specs.declared.Answer.{Answer}
+use Rattle.def.specs.declared.Answer.the-variants.{Done, Refused}
+use Rattle.def.specs.declared.Refusal.{Refusal}
+use Rattle.laws.specs.Index.{pick}
+use Rattle.split.specs.Walk.{Walk, nothing, andThen, inTurn, leafWalk, byByte, place, part, walk}
+use Rattle.split.proofs.Walks.{not-done, turn-none, turn-more, turn-done, each-done, walk-x, walk-y, walk-unit, walk-leaf, walk-cut, walk-bad}
+use Rattle.marks_rules.specs.Descent.{Descent, grown, descendOn, descendThen, descents, runOut, partBy, after, descend}
+use Rattle.marks_rules.specs.Marks.{Mark, mark, four, marks, byteOf, bytes}
+use Rattle.marks_rules.specs.Pictures.{joined}
+use Rattle.marks_rules.proofs.Blocks.{partX, partY, by-start, by-byte}
+use Rattle.marks_rules.proofs.Marks.{parts, marks-x, marks-y, marks-unit, marks-leaf, marks-cut}
+
+-- ---- the descent
+
+module _ (w h : ℕ) where
+  pub descend-x : (k x y : ℕ) (ds : List ℕ) → w ≤ x → descend w h k x y ds ≡ grown nothing [] ds
+  unfolding descend
+  descend-x zero x y ds p = simp (le-ltb x w p)
+  descend-x (suc k) x y ds p = simp (le-ltb x w p)
+
+  pub descend-y : (k x y : ℕ) (ds : List ℕ) → x < w → h ≤ y → descend w h k x y ds ≡ grown nothing [] ds
+  unfolding descend
+  descend-y zero x y ds p q = simp (lt-ltb x w p, le-ltb y h q)
+  descend-y (suc k) x y ds p q = simp (lt-ltb x w p, le-ltb y h q)
+
+  pub descend-unit : (x y : ℕ) (ds : List ℕ) → x < w → y < h → descend w h 0 x y ds ≡ grown (leafWalk w h 1 x y) [] ds
+  unfolding descend
+  descend-unit x y ds p q = simp (lt-ltb x w p, lt-ltb y h q)
+
+  pub descend-none : (k x y : ℕ) → x < w → y < h → descend w h (suc k) x y [] ≡ runOut
+  unfolding descend
+  descend-none k x y p q = simp (lt-ltb x w p, lt-ltb y h q)
+
+  pub descend-leaf : (k x y : ℕ) (ds : List ℕ) → x < w → y < h
+      → descend w h (suc k) x y (0 ∷ ds) ≡ grown (leafWalk w h (2 ^ suc k) x y) (mark (place k x y) 0 ∷ []) ds
+  unfolding descend byByte
+  descend-leaf k x y ds p q = simp (lt-ltb x w p, lt-ltb y h q)
+
+  -- part n of a block that is cut
+  abbrev pub partOf : (k x y n : ℕ) → List ℕ → Descent
+  partOf k x y = partBy (descend w h k) (2 ^ k) x y
+
+  pub descend-cut : (k x y : ℕ) (ds : List ℕ) → x < w → y < h
+      → descend w h (suc k) x y (1 ∷ ds) ≡ after (mark (place k x y) 1) (descents (partOf k x y) 4 ds)
+  unfolding descend byByte
+  descend-cut k x y ds p q = simp (lt-ltb x w p, lt-ltb y h q)
+
+-- ---- descents one after the other
+
+module _ (f : ℕ → List ℕ → Descent) where
+  pub descents-none : (ds : List ℕ) → descents f 0 ds ≡ grown nothing [] ds
+  unfolding descents
+  descents-none ds = refl
+
+  pub descents-more : (n : ℕ) (ds : List ℕ) → descents f (suc n) ds ≡ descendThen (descents f n ds) (f n)
+  unfolding descents
+  descents-more n ds = refl
+
+pub then-done : (a : Descent) (g : List ℕ → Descent) (b : Descent) → a .walk .answer ≡ Done → g (a .left) ≡ b
+    → descendThen a g ≡ grown (andThen (a .walk) (b .walk)) (a .marks ++ b .marks) (b .left)
+unfolding descendOn
+then-done a g b d e =
+    ap (λ (z : Answer). descendOn z a g) d ∙ ap (λ (z : Descent). grown (andThen (a .walk) (z .walk)) (a .marks ++ z .marks) (z .left)) e
+
+pub then-stop : (a : Descent) (g : List ℕ → Descent) (r : Refusal) → a .walk .answer ≡ Refused r → descendThen a g ≡ a
+unfolding descendOn
+then-stop a g r d = ap (λ (z : Answer). descendOn z a g) d
+
+-- ---- bytes of marks
+
+pub bytes-append : (l k : List Mark) → bytes (l ++ k) ≡ bytes l ++ bytes k
+bytes-append [] k = refl
+bytes-append (m ∷ l) k = ap (λ (r : List ℕ). m .byte ∷ r) (bytes-append l k)
+
+pub joined-four : (l : ℕ → List Mark) → joined l 4 ≡ four l
+unfolding joined
+joined-four l = regroup (l 0) (l 1) (l 2) (l 3) where
+  regroup : (a b c d : List Mark) → ((([] ++ a) ++ b) ++ c) ++ d ≡ a ++ (b ++ (c ++ d))
+  regroup a b c d = simp append-assoc
+
+pub all-done : (f : ℕ → Walk) (n : ℕ) → ((i : ℕ) → i < n → f i .answer ≡ Done) → inTurn f n .answer ≡ Done
+all-done f zero h = ap (λ (v : Walk). v .answer) (turn-none f)
+all-done f (suc n) h =
+    subst (λ (k : ℕ). inTurn f k .answer ≡ Done) (add-one n) (turn-done f n (all-done f n (λ i l. h i (omega arith))) (h n (omega arith)))
+
+-- ---- descents that are each walked to the end: v i is the walk of f i, and l i its marks
+
+module _ (f : ℕ → List ℕ → Descent) (l : ℕ → List Mark) (v : ℕ → Walk) where
+  pub in-turn : (n : ℕ) → ((i : ℕ) → i < n → v i .answer ≡ Done) → ((i : ℕ) → i < n → (r : List ℕ) → f i (bytes (l i) ++ r) ≡ grown (v i) (l i) r)
+      → (r : List ℕ) → descents f n (bytes (joined l n) ++ r) ≡ grown (inTurn v n) (joined l n) r
+  unfolding joined
+  in-turn zero d e r = descents-none f r ∙ ap (λ (z : Walk). grown z [] r) (sym (turn-none v))
+  in-turn (suc n) d e r =
+      let z : bytes (joined l n ++ l n) ++ r ≡ bytes (joined l n) ++ (bytes (l n) ++ r) = simp (bytes-append, append-assoc) in
+      let i = in-turn n (λ j k. d j (omega arith)) (λ j k. e j (omega arith)) (bytes (l n) ++ r) in
+      let q = all-done v n (λ j k. d j (omega arith)) in
+      descents-more f n _
+      ∙ ap (λ (a : Descent). descendThen a (f n)) (ap (descents f n) z ∙ i)
+      ∙ then-done (grown (inTurn v n) (joined l n) (bytes (l n) ++ r)) (f n) (grown (v n) (l n) r) q (e n (omega arith) r)
+      ∙ ap (λ (u : Walk). grown u (joined l n ++ l n) r) (sym (turn-more v n))
+
+-- ---- the digits of bytes that are walked to the end
+
+module _ (s : List ℕ) (w h : ℕ) where
+  abbrev own : (k x y : ℕ) → List Mark
+  own k x y = marks (byteOf s) w h k x y
+
+  abbrev Back : (k x y : ℕ) → List ℕ → Type 0
+  Back k x y r = descend w h k x y (bytes (own k x y) ++ r) ≡ grown (walk s w h k x y) (own k x y) r
+
+  back : (v : Walk) (l : List Mark) (k x y : ℕ) (r : List ℕ) → walk s w h k x y ≡ v → own k x y ≡ l → descend w h k x y (bytes l ++ r) ≡ grown v l r → Back k x y r
+  back v l k x y r e f g = rw (e, f) g
+
+  pub read-back : (k x y : ℕ) (r : List ℕ) → walk s w h k x y .answer ≡ Done → Back k x y r
+  read-back zero x y r d =
+      by-start w h x y (Back 0 x y r)
+      (λ p. back _ _ 0 x y r (walk-x s w h 0 x y p) (marks-unit (byteOf s) w h x y) (descend-x w h 0 x y r p))
+      (λ p q. back _ _ 0 x y r (walk-y s w h 0 x y p q) (marks-unit (byteOf s) w h x y) (descend-y w h 0 x y r p q))
+      (λ p q. back _ _ 0 x y r (walk-unit s w h x y p q) (marks-unit (byteOf s) w h x y) (descend-unit w h x y r p q))
+  read-back (suc k) x y r d =
+      by-start w h x y (Back (suc k) x y r)
+      (λ p. back _ _ (suc k) x y r (walk-x s w h (suc k) x y p) (marks-x (byteOf s) w h (suc k) x y p) (descend-x w h (suc k) x y r p))
+      (λ p q. back _ _ (suc k) x y r (walk-y s w h (suc k) x y p q) (marks-y (byteOf s) w h (suc k) x y p q) (descend-y w h (suc k) x y r p q))
+      (λ p q. by-byte (byteOf s k x y) (Back (suc k) x y r)
+      (λ e. back _ _ (suc k) x y r (walk-leaf s w h k x y p q e) (marks-leaf (byteOf s) w h k x y p q e) (descend-leaf w h k x y r p q))
+      (λ e.
+      let f = part (walk s w h k) (2 ^ k) x y in
+      let g = parts (byteOf s) w h k x y in
+      let m = mark (place k x y) 1 in
+      let t : inTurn f 4 .answer ≡ Done = sym (ap (λ (v : Walk). v .answer) (walk-cut s w h k x y p q e)) ∙ d in
+      let i = in-turn (partOf w h k x y) g f 4 (each-done f 4 t) (λ n l z. read-back k (partX k x n) (partY k y n) z (each-done f 4 t n l)) r in
+      back _ _ (suc k) x y r (walk-cut s w h k x y p q e) (marks-cut (byteOf s) w h k x y p q e)
+      (descend-cut w h k x y (bytes (four g) ++ r) p q ∙ ap (after m) (rw joined-four at i)))
+      (λ b. absurd (not-done _ (sym (ap (λ (v : Walk). v .answer) (walk-bad s w h k x y p q b)) ∙ d))))

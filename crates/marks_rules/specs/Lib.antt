@@ -1,0 +1,4 @@
+pub mod Descent
+pub mod Marks
+pub mod Mended
+pub mod Pictures
