@@ -86,6 +86,7 @@ place-apart X Y k x y k′ x′ y′ b b′ e =
     } where
       level-same : (i j : ℕ) → suc i ≤ 4 → suc j ≤ 4 → 3 - i ≡ 3 - j → i ≡ j
       level-same i j p q e = omega arith
+
       near : (a n t : ℕ) → t ≡ n + n → 0 < n → a + t ≤ 16 → a + n < 16
       near a n t e p q = omega arith
 

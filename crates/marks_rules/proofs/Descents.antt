@@ -2,23 +2,28 @@
 --     descend-x, descend-y, descend-unit, descend-leaf, descend-cut, descend-none    each way through it
 --     descents-none, descents-more, then-done, then-stop    descents one after the other
 --     in-turn    descents that are each walked to the end by their digits
+--     unit-quiet, all-quiet    units take no digit and make no mark
+--     few-grown, few-descents    at most 85 marks a root
+--     descents-stop    a descent that is refused ends those in turn
 --     read-back    the digits of bytes that are walked to the end give their walk and their marks, and leave what follows them
 -- Assumes nothing.
 use mathlib.Core.List.{List, [], _∷_, _++_, map, append-assoc}
 use mathlib.Core.Path.{_≡_, refl, sym, ap, _∙_, subst}
 use Prim.Native.Nat.{ℕ, zero, suc, _+_, _*_, _/_, _%_, _^_, _≤_, _<_}
+use native.Mathlib.Nat.{add-zero, add-suc, suc-mul}
 use native.Mathlib.Numerals.{add-one}
 use native.Mathlib.Omega.{arith}
 use borrow.Author.Tests.{le-ltb, lt-ltb}
 use lib.Dec.{ltb}
+use lib.ListN.{length, length-append}
 use Rattle.def.specs.declared.Answer.{Answer}
 use Rattle.def.specs.declared.Answer.the-variants.{Done, Refused}
 use Rattle.def.specs.declared.Refusal.{Refusal}
 use Rattle.laws.specs.Index.{pick}
 use Rattle.split.specs.Walk.{Walk, nothing, andThen, inTurn, leafWalk, byByte, place, part, walk}
-use Rattle.split.proofs.Walks.{not-done, turn-none, turn-more, turn-done, each-done, walk-x, walk-y, walk-unit, walk-leaf, walk-cut, walk-bad}
+use Rattle.split.proofs.Walks.{not-done, turn-none, turn-more, turn-done, each-done, walk-x, walk-y, walk-unit, walk-leaf, walk-cut, walk-bad, onward-done, leaf-in}
 use Rattle.marks_rules.specs.Descent.{Descent, grown, descendOn, descendThen, descents, runOut, partBy, after, descend}
-use Rattle.marks_rules.specs.Marks.{Mark, mark, four, marks, byteOf, bytes}
+use Rattle.marks_rules.specs.Marks.{Mark, mark, four, marks, byteOf, bytes, blocksIn}
 use Rattle.marks_rules.specs.Pictures.{joined}
 use Rattle.marks_rules.proofs.Blocks.{partX, partY, by-start, by-byte}
 use Rattle.marks_rules.proofs.Marks.{parts, marks-x, marks-y, marks-unit, marks-leaf, marks-cut}
@@ -48,6 +53,10 @@ module _ (w h : ℕ) where
       → descend w h (suc k) x y (0 ∷ ds) ≡ grown (leafWalk w h (2 ^ suc k) x y) (mark (place k x y) 0 ∷ []) ds
   unfolding descend byByte
   descend-leaf k x y ds p q = simp (lt-ltb x w p, lt-ltb y h q)
+
+  pub descend-bad : (k x y d : ℕ) (ds : List ℕ) → x < w → y < h → descend w h (suc k) x y (suc (suc d) ∷ ds) ≡ runOut
+  unfolding descend byByte
+  descend-bad k x y d ds p q = simp (lt-ltb x w p, lt-ltb y h q)
 
   -- part n of a block that is cut
   abbrev pub partOf : (k x y n : ℕ) → List ℕ → Descent
@@ -145,3 +154,70 @@ module _ (s : List ℕ) (w h : ℕ) where
       back _ _ (suc k) x y r (walk-cut s w h k x y p q e) (marks-cut (byteOf s) w h k x y p q e)
       (descend-cut w h k x y (bytes (four g) ++ r) p q ∙ ap (after m) (rw joined-four at i)))
       (λ b. absurd (not-done _ (sym (ap (λ (v : Walk). v .answer) (walk-bad s w h k x y p q b)) ∙ d))))
+
+-- ---- units, and how many marks there are at most
+
+-- a descent that takes no digit and makes no mark
+pub record Quiet (a : Descent) (ds : List ℕ) : Type 0 where
+  pub done : a .walk .answer ≡ Done
+  pub none : a .marks ≡ []
+  pub left : a .left ≡ ds
+
+quiet : {a b : Descent} {ds : List ℕ} → a ≡ b → Quiet b ds → Quiet a ds
+quiet {ds = ds} e q = subst (λ (z : Descent). Quiet z ds) (sym e) q
+
+pub unit-quiet : (w h x y : ℕ) (ds : List ℕ) → Quiet (descend w h 0 x y ds) ds
+unit-quiet w h x y ds =
+    by-start w h x y (Quiet (descend w h 0 x y ds) ds)
+    (λ p. quiet (descend-x w h 0 x y ds p) (record { done = refl; none = refl; left = refl }))
+    (λ p q. quiet (descend-y w h 0 x y ds p q) (record { done = refl; none = refl; left = refl }))
+    (λ p q. quiet (descend-unit w h x y ds p q)
+    (record { done = ap (λ (v : Walk). v .answer) (leaf-in w h 1 x y (omega arith) (omega arith)); none = refl; left = refl }))
+
+pub all-quiet : (f : ℕ → List ℕ → Descent) → ((i : ℕ) (ds : List ℕ) → Quiet (f i ds) ds) → (n : ℕ) (ds : List ℕ) → Quiet (descents f n ds) ds
+all-quiet f q zero ds = quiet (descents-none f ds) (record { done = refl; none = refl; left = refl })
+all-quiet f q (suc n) ds =
+    let a = all-quiet f q n ds in
+    let b = q n ds in
+    quiet (descents-more f n ds ∙ then-done (descents f n ds) (f n) (f n ds) (a .done) (ap (f n) (a .left)))
+    (record {
+      done = ap (λ (v : Walk). v .answer) (onward-done (descents f n ds .walk .answer) (descents f n ds .walk .list) (f n ds .walk) (a .done)) ∙ b .done;
+      none = rw (a .none, b .none);
+      left = b .left;
+    })
+
+few-then : (a : Descent) (g : List ℕ → Descent) (m n : ℕ) → length (a .marks) ≤ m → ((ds : List ℕ) → length (g ds .marks) ≤ n) → length (descendThen a g .marks) ≤ m + n
+unfolding descendOn
+few-then a g m n p q = by (a .walk .answer) where
+  by : (z : Answer) → length (descendOn z a g .marks) ≤ m + n
+  by Done = let r = q (a .left) in omega (arith, length-append (a .marks) (g (a .left) .marks))
+  by (Refused r) = omega arith
+
+pub few-descents : (f : ℕ → List ℕ → Descent) (m : ℕ) → ((i : ℕ) (ds : List ℕ) → length (f i ds .marks) ≤ m) → (n : ℕ) (ds : List ℕ) → length (descents f n ds .marks) ≤ n * m
+unfolding descents
+few-descents f m q zero ds = omega arith
+few-descents f m q (suc n) ds =
+    let a = few-then (descents f n ds) (f n) (n * m) m (few-descents f m q n ds) (q n) in
+    omega (arith, suc-mul n m)
+
+pub few-grown : (w h k x y : ℕ) (ds : List ℕ) → length (descend w h k x y ds .marks) ≤ blocksIn k
+unfolding blocksIn
+few-grown w h zero x y ds = let q = unit-quiet w h x y ds .none in rw q (omega arith)
+few-grown w h (suc k) x y ds =
+    by-start w h x y (length (descend w h (suc k) x y ds .marks) ≤ 1 + 4 * blocksIn k)
+    (λ p. rw (descend-x w h (suc k) x y ds p) (omega arith))
+    (λ p q. rw (descend-y w h (suc k) x y ds p q) (omega arith))
+    (λ p q. inside p q ds (few-descents (partOf w h k x y) (blocksIn k) (λ i l. few-grown w h k (partX k x i) (partY k y i) l) 4)) where
+      inside : x < w → y < h → (ds : List ℕ) → ((l : List ℕ) → length (descents (partOf w h k x y) 4 l .marks) ≤ 4 * blocksIn k)
+          → length (descend w h (suc k) x y ds .marks) ≤ 1 + 4 * blocksIn k
+      inside p q [] f = rw (descend-none w h k x y p q) (omega arith)
+      inside p q (zero ∷ ds) f = rw (descend-leaf w h k x y ds p q) (omega arith)
+      inside p q (suc zero ∷ ds) f = let r = f ds in rw (descend-cut w h k x y ds p q) (omega arith)
+      inside p q (suc (suc d) ∷ ds) f = rw (descend-bad w h k x y d ds p q) (omega arith)
+
+-- a descent that is refused ends those in turn
+pub descents-stop : (f : ℕ → List ℕ → Descent) (n m : ℕ) (r : Refusal) (ds : List ℕ) → descents f n ds .walk .answer ≡ Refused r → descents f (n + m) ds ≡ descents f n ds
+descents-stop f n zero r ds e = rw add-zero
+descents-stop f n (suc m) r ds e =
+    let i = descents-stop f n m r ds e in
+    rw add-suc (descents-more f (n + m) ds ∙ ap (λ (a : Descent). descendThen a (f (n + m))) i ∙ then-stop (descents f n ds) (f (n + m)) r e)

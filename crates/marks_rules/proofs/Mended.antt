@@ -114,6 +114,7 @@ four-judged s f g i =
       nested Done Done (Refused r) d = refl
       nested Done (Refused r) c d = refl
       nested (Refused r) b c d = refl
+
       joins : stop (f 0 .answer) (stop (f 1 .answer) (stop (f 2 .answer) (f 3 .answer))) ≡ judge s (four g)
       joins =
           ap₂ stop (i 0) (ap₂ stop (i 1) (ap₂ stop (i 2) (i 3)))

@@ -42,6 +42,7 @@ module _ {A : Type 0} (f : ℕ → List A) where
   split-at (suc n) i l = by (eqb i n) refl (λ m. split-at n i m) where
     below : (i n : ℕ) → (i ≡ n → ⊥) → i < suc n → i < n
     below i n d h = omega arith
+
     by : (last : Bool) → eqb i n ≡ last → (i < n → Around n i) → Around (suc n) i
     by true e g = let q = eqb-true i n e in record { rest = []; split = rw q (ap (λ (z : List A). joined f n ++ z) (sym (append-nil (f n)))) }
     by false e g =
@@ -137,7 +138,7 @@ module _ (s : List ℕ) (w h : ℕ) where
       pub same-there : (i : ℕ) → i < roots w h → (m : Mark) → List·Memᴰ m (rootMarks i) → getD (rootBytes back i) (m .place) 0 ≡ getD (rootBytes s i) (m .place) 0
       same-there i l m k =
           let a = formed (byteOf (rootBytes s i)) w h (i % across w) (i / across w) 4 (rootX w i) (rootY w i)
-              (at-root (byteOf (rootBytes s i)) w h (i % across w) (i / across w) (replicate 1024 0) zeros-long) m k in
+          (at-root (byteOf (rootBytes s i)) w h (i % across w) (i / across w) (replicate 1024 0) zeros-long) m k in
           there i l m k ∙ a .has ∙ ap (λ (p : ℕ). getD (rootBytes s i) p 0) (sym (a .there))
 
       -- and 0 at every other

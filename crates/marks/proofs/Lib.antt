@@ -1,0 +1,5 @@
+pub mod Blocks
+pub mod Lists
+pub mod Marking
+pub mod Growing
+pub mod Calls

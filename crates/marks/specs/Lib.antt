@@ -1,0 +1,3 @@
+pub mod ListCall
+pub mod Stored
+pub mod TakeCall

@@ -1,0 +1,299 @@
+// The marks of a root, listed: its blocks of 8 or more in the order of the walk, each with its byte. `list_marks` takes them from split bytes, each with the
+// byte that it has to have for the walk to go on; `take_marks` takes them from digits, the bits of a lent slice. There is no Rust beside it.
+ghost use mathlib.Core.Path.{_≡_};
+ghost use Prim.Native.Nat.{_+_, _-_, _*_, _/_, _%_, _^_, _≤_, _<_};
+ghost use lib.ListN.{length, drop, take};
+ghost use lib.Seq.{sets};
+ghost use Rattle.bits.specs.Bits.{bitsFrom};
+ghost use Rattle.def.proofs.Sizes.{Sized};
+ghost use Rattle.def.specs.Picture.{rootCount};
+ghost use Rattle.laws.specs.Call.{Gives};
+ghost use Rattle.marks_rules.specs.Descent.{descend, rootDescent};
+ghost use Rattle.marks_rules.specs.Marks.{blocksIn};
+ghost use Rattle.marks_rules.specs.Mended.{mendBy, mendMarks};
+ghost use Rattle.split.specs.Picture.{rootBytes, rootX, rootY};
+ghost use Rattle.split.specs.Stored.{Block};
+ghost use Rattle.split.specs.Walk.{leafWalk};
+ghost use Rattle.marks.specs.ListCall as ListCall;
+ghost use Rattle.marks.specs.TakeCall as TakeCall;
+ghost use Rattle.marks.specs.Stored.{Listed, Grew, one, counted};
+use bits::get_bit;
+use def::Pel;
+use def::Refusal;
+use def::pel2scu;
+use def::size_ok;
+
+// How many marks were listed.
+pub enum Marked {
+    Done(usize),
+    Refused(Refusal),
+}
+
+// ---- a block
+
+// Where the split byte of the block at (x, y) stands among its root's: by the unit at its centre.
+fn byte_place(x: Pel, y: Pel, side: usize, level: usize) -> usize
+    requires { ⌜ (x .0 + side ≤ 8192) × (y .0 + side ≤ 8192) × (level < 4) ⌝ }
+    ensures { λ r. ⌜ (r ≡ 256 * level + (16 * ((y .0 + side / 2) / 4 % 16) + (x .0 + side / 2) / 4 % 16)) × (r < 1024) ⌝ }
+{
+    let column = pel2scu(Pel(x.0 + side / 2)).0 % 16;
+    let row = pel2scu(Pel(y.0 + side / 2)).0 % 16;
+    256 * level + (16 * row + column)
+}
+
+// Where a part of a block that is cut stands across or down, by its bit.
+fn part_at(at: Pel, half: usize, bit: usize) -> Pel
+    requires { ⌜ (at .0 + half ≤ 8192) × (bit ≤ 1) ⌝ }
+    ensures { λ r. ⌜ r .0 ≡ at .0 + bit * half ⌝ }
+{
+    Pel(at.0 + bit * half)
+}
+
+// A mark goes to the list, as one number: twice its place, and its byte.
+fn put_mark(out: &mut [u16], n: usize, place: usize, byte: u8) -> usize
+    requires { ⌜ (place < 1024) × (byte < 2) × (n < length (now out)) ⌝ }
+    ensures { λ r. ⌜ Listed (one place byte) (now (out .entry)) n (now (out .exit)) r ⌝ }
+{
+    out[n] = (2 * place) as u16 + byte as u16;
+    n + 1
+}
+
+// ---- marks from split bytes
+
+// The byte that a block has to have: it is cut where it reaches past the picture, and else a leaf, unless its byte is 1.
+fn mended(old: u8, w: usize, h: usize, x: Pel, y: Pel, side: usize, level: usize) -> u8
+    requires { ⌜ Block w h (x .0) (y .0) side level ⌝ }
+    ensures { λ r. ⌜ (r ≡ mendBy old (w / 4) (h / 4) (2 ^ (4 - level)) (x .0 / 4) (y .0 / 4)) × (r < 2) ⌝ }
+{
+    if w < x.0 + side {
+        return 1;
+    }
+    if h < y.0 + side {
+        return 1;
+    }
+    if 1 < old {
+        return 0;
+    }
+    old
+}
+
+// The marks of the block at (x, y), of side 8 or more, listed after n that are: it calls itself on blocks of half the side until they are units.
+fn mark_block(
+    bytes: &[u8],
+    w: usize,
+    h: usize,
+    x: Pel,
+    y: Pel,
+    side: usize,
+    level: usize,
+    out: &mut [u16],
+    n: usize,
+) -> usize
+    requires { ⌜ Block w h (x .0) (y .0) side level × (level < 4) × (length (now bytes) ≡ 1024) × (n + blocksIn (4 - level) ≤ length (now out)) ⌝ }
+    ensures { λ r. ⌜ Listed (mendMarks (now (bytes .entry)) (w / 4) (h / 4) (4 - level) (x .0 / 4) (y .0 / 4)) (now (out .entry)) n (now (out .exit)) r ⌝ }
+{
+    if (w <= x.0) | (h <= y.0) {
+        return n;
+    }
+    let place = byte_place(x, y, side, level);
+    let byte = mended(bytes[place], w, h, x, y, side, level);
+    let mut count = put_mark(out, n, place, byte);
+    if byte == 0 {
+        return count;
+    }
+    if level == 3 {
+        return count;
+    }
+    let half = side / 2;
+    let mut part = 0;
+    while part < 4 {
+        let part_x = part_at(x, half, part % 2);
+        let part_y = part_at(y, half, part / 2);
+        count = mark_block(bytes, w, h, part_x, part_y, half, level + 1, out, count);
+        part += 1;
+    }
+    count
+}
+
+// The marks of root i.
+fn root_marks(w: usize, h: usize, splits: &[u8], i: usize, out: &mut [u16]) -> usize
+    requires { ⌜ Sized w h × (length (now splits) ≡ 1024 * rootCount w h) × (i < rootCount w h) × (length (now out) ≡ 85) ⌝ }
+    ensures { λ r. ⌜ Listed (ListCall.rootMarks w h (now (splits .entry)) i) (now (out .entry)) 0 (now (out .exit)) r ⌝ }
+{
+    let across = (w + 63) / 64;
+    let start = 1024 * i;
+    let end = start + 1024;
+    let x = Pel(64 * (i % across));
+    let y = Pel(64 * (i / across));
+    mark_block(&splits[start..end], w, h, x, y, 64, 0, out, 0)
+}
+
+// How many roots a picture of w by h has.
+fn root_count(w: usize, h: usize) -> usize
+    requires { ⌜ Sized w h ⌝ }
+    ensures { λ r. ⌜ (r ≡ rootCount w h) × (r ≤ 4096) ⌝ }
+{
+    (w + 63) / 64 * ((h + 63) / 64)
+}
+
+// The marks of a root, by its number in raster order, of a picture of w by h: a number each, twice the place and the byte that the block has to have.
+pub fn list_marks(w: usize, h: usize, splits: &[u8], root: usize, out: &mut [u16]) -> Marked
+    ensures { λ r. ⌜ Gives ListCall.outcome
+        (record { w = w; h = h; splits = now (splits .entry); root = root; out = now (out .entry) })
+        (record { reading = ListCall.readingOf r; out = now (out .exit) }) ⌝ }
+{
+    if !size_ok(w, h) {
+        return Marked::Refused(Refusal::Size);
+    }
+    let roots = root_count(w, h);
+    if !((splits.len() == 1024 * roots) & (out.len() == 85)) {
+        return Marked::Refused(Refusal::Length);
+    }
+    if roots <= root {
+        return Marked::Refused(Refusal::Block);
+    }
+    Marked::Done(root_marks(w, h, splits, root, out))
+}
+
+// ---- marks from digits
+
+// A leaf, once its digit was taken: it lies inside the picture.
+fn leaf(w: usize, h: usize, x: Pel, y: Pel, side: usize, level: usize, n: usize) -> Marked
+    requires { ⌜ Block w h (x .0) (y .0) side level ⌝ }
+    ensures { λ r. ⌜ r ≡ counted n (leafWalk (w / 4) (h / 4) (2 ^ (4 - level)) (x .0 / 4) (y .0 / 4) .answer) ⌝ }
+{
+    if w < x.0 + side {
+        return Marked::Refused(Refusal::Leaf);
+    }
+    if h < y.0 + side {
+        return Marked::Refused(Refusal::Leaf);
+    }
+    Marked::Done(n)
+}
+
+// The marks of the block at (x, y), of side 8 or more, by the digits of which n are taken: `count` bits from `from` on. A digit makes a mark, so n marks are listed.
+fn grow_block(
+    src: &[u8],
+    from: usize,
+    count: usize,
+    w: usize,
+    h: usize,
+    x: Pel,
+    y: Pel,
+    side: usize,
+    level: usize,
+    out: &mut [u16],
+    n: usize,
+) -> Marked
+    requires { ⌜ Block w h (x .0) (y .0) side level × (level < 4) × (from + count < 2 ^ 64) × (n + blocksIn (4 - level) ≤ length (now out)) ⌝ }
+    ensures { λ r. ⌜ Grew (descend (w / 4) (h / 4) (4 - level) (x .0 / 4) (y .0 / 4) (drop n (bitsFrom (now (src .entry)) from count))) (bitsFrom (now (src .entry)) from count) (now (out .entry)) n (now (out .exit)) r ⌝ }
+{
+    if (w <= x.0) | (h <= y.0) {
+        return Marked::Done(n);
+    }
+    if count <= n {
+        return Marked::Refused(Refusal::Bits);
+    }
+    let byte = get_bit(src, from + n);
+    let place = byte_place(x, y, side, level);
+    let mut next = put_mark(out, n, place, byte);
+    if byte == 0 {
+        return leaf(w, h, x, y, side, level, next);
+    }
+    if level == 3 {
+        return Marked::Done(next);
+    }
+    let half = side / 2;
+    let mut part = 0;
+    while part < 4 {
+        let part_x = part_at(x, half, part % 2);
+        let part_y = part_at(y, half, part / 2);
+        match grow_block(
+            src,
+            from,
+            count,
+            w,
+            h,
+            part_x,
+            part_y,
+            half,
+            level + 1,
+            out,
+            next,
+        ) {
+            Marked::Done(taken) => {
+                next = taken;
+            }
+            Marked::Refused(r) => {
+                return Marked::Refused(r);
+            }
+        }
+        part += 1;
+    }
+    Marked::Done(next)
+}
+
+// The digits of root i, listed as marks into a list of the caller's own.
+fn root_grown(
+    w: usize,
+    h: usize,
+    src: &[u8],
+    from: usize,
+    count: usize,
+    i: usize,
+    list: &mut [u16],
+) -> Marked
+    requires { ⌜ Sized w h × (from + count < 2 ^ 64) × (i < rootCount w h) × (length (now list) ≡ 85) ⌝ }
+    ensures { λ r. ⌜ Grew (rootDescent (w / 4) (h / 4) i (bitsFrom (now (src .entry)) from count)) (bitsFrom (now (src .entry)) from count) (now (list .entry)) 0 (now (list .exit)) r ⌝ }
+{
+    let across = (w + 63) / 64;
+    let x = Pel(64 * (i % across));
+    let y = Pel(64 * (i / across));
+    grow_block(src, from, count, w, h, x, y, 64, 0, list, 0)
+}
+
+// The first n numbers of a list, put first into another.
+fn copy(list: &[u16], n: usize, out: &mut [u16])
+    requires { ⌜ (n ≤ length (now list)) × (n ≤ length (now out)) ⌝ }
+    ensures { λ _. ⌜ now (out .exit) ≡ sets (now (out .entry)) 0 (take n (now (list .entry))) ⌝ }
+{
+    let mut k = 0;
+    while k < n {
+        out[k] = list[k];
+        k += 1;
+    }
+}
+
+// The marks of a root, by its number in raster order, of a picture of w by h, from its digits: the bits from `from` up to `to`.
+pub fn take_marks(
+    w: usize,
+    h: usize,
+    src: &[u8],
+    from: usize,
+    to: usize,
+    root: usize,
+    out: &mut [u16],
+) -> Marked
+    ensures { λ r. ⌜ Gives TakeCall.outcome
+        (record { w = w; h = h; src = now (src .entry); from = from; to = to; root = root; out = now (out .entry) })
+        (record { reading = ListCall.readingOf r; out = now (out .exit) }) ⌝ }
+{
+    if !size_ok(w, h) {
+        return Marked::Refused(Refusal::Size);
+    }
+    if out.len() != 85 {
+        return Marked::Refused(Refusal::Length);
+    }
+    if root_count(w, h) <= root {
+        return Marked::Refused(Refusal::Block);
+    }
+    let count = if from < to { to - from } else { 0 };
+    let mut list = [0u16; 85];
+    match root_grown(w, h, src, from, count, root, &mut list) {
+        Marked::Refused(r) => Marked::Refused(r),
+        Marked::Done(n) => {
+            copy(&list, n, out);
+            Marked::Done(n)
+        }
+    }
+}
