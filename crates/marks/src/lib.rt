@@ -6,8 +6,9 @@ ghost use lib.ListN.{length, drop, take};
 ghost use lib.Seq.{sets};
 ghost use Rattle.bits.specs.Bits.{bitsFrom};
 ghost use Rattle.def.proofs.Sizes.{Sized};
-ghost use Rattle.def.specs.Picture.{rootCount};
+ghost use Rattle.def.specs.Picture.{sizeOk, rootCount};
 ghost use Rattle.laws.specs.Call.{Gives};
+ghost use Rattle.laws.specs.Index.{pick};
 ghost use Rattle.marks_rules.specs.Descent.{descend, rootDescent};
 ghost use Rattle.marks_rules.specs.Marks.{blocksIn};
 ghost use Rattle.marks_rules.specs.Mended.{mendBy, mendMarks};
@@ -129,11 +130,21 @@ fn root_marks(w: usize, h: usize, splits: &[u8], i: usize, out: &mut [u16]) -> u
 }
 
 // How many roots a picture of w by h has.
-fn root_count(w: usize, h: usize) -> usize
+fn roots_in(w: usize, h: usize) -> usize
     requires { ⌜ Sized w h ⌝ }
     ensures { λ r. ⌜ (r ≡ rootCount w h) × (r ≤ 4096) ⌝ }
 {
     (w + 63) / 64 * ((h + 63) / 64)
+}
+
+// The same for any w and h: 0 where they are no sides of a picture.
+pub fn root_count(w: usize, h: usize) -> usize
+    ensures { λ r. ⌜ r ≡ pick (sizeOk w h) (rootCount w h) 0 ⌝ }
+{
+    if !size_ok(w, h) {
+        return 0;
+    }
+    roots_in(w, h)
 }
 
 // The marks of a root, by its number in raster order, of a picture of w by h: a number each, twice the place and the byte that the block has to have.
@@ -145,7 +156,7 @@ pub fn list_marks(w: usize, h: usize, splits: &[u8], root: usize, out: &mut [u16
     if !size_ok(w, h) {
         return Marked::Refused(Refusal::Size);
     }
-    let roots = root_count(w, h);
+    let roots = roots_in(w, h);
     if !((splits.len() == 1024 * roots) & (out.len() == 85)) {
         return Marked::Refused(Refusal::Length);
     }
@@ -284,7 +295,7 @@ pub fn take_marks(
     if out.len() != 85 {
         return Marked::Refused(Refusal::Length);
     }
-    if root_count(w, h) <= root {
+    if roots_in(w, h) <= root {
         return Marked::Refused(Refusal::Block);
     }
     let count = if from < to { to - from } else { 0 };

@@ -5,6 +5,7 @@
 --     unit-quiet, all-quiet    units take no digit and make no mark
 --     few-grown, few-descents    at most 85 marks a root
 --     descents-stop    a descent that is refused ends those in turn
+--     descend-take, descents-take    a descent that is not refused takes a digit for each mark
 --     read-back    the digits of bytes that are walked to the end give their walk and their marks, and leave what follows them
 -- Assumes nothing.
 use mathlib.Core.List.{List, [], _∷_, _++_, map, append-assoc}
@@ -15,7 +16,8 @@ use native.Mathlib.Numerals.{add-one}
 use native.Mathlib.Omega.{arith}
 use borrow.Author.Tests.{le-ltb, lt-ltb}
 use lib.Dec.{ltb}
-use lib.ListN.{length, length-append}
+use lib.ListN.{length, drop, length-append}
+use lib.Seq.{drop-drop}
 use Rattle.def.specs.declared.Answer.{Answer}
 use Rattle.def.specs.declared.Answer.the-variants.{Done, Refused}
 use Rattle.def.specs.declared.Refusal.{Refusal}
@@ -221,3 +223,41 @@ descents-stop f n zero r ds e = rw add-zero
 descents-stop f n (suc m) r ds e =
     let i = descents-stop f n m r ds e in
     rw add-suc (descents-more f (n + m) ds ∙ ap (λ (a : Descent). descendThen a (f (n + m))) i ∙ then-stop (descents f n ds) (f (n + m)) r e)
+
+-- ---- a descent that is not refused takes a digit for each mark
+
+module _ (ds : List ℕ) where
+  abbrev Takes : Descent → Type 0
+  Takes a = a .walk .answer ≡ Done → a .left ≡ drop (length (a .marks)) ds
+
+  takes : {a b : Descent} → a ≡ b → Takes b → Takes a
+  takes e t = subst Takes (sym e) t
+
+then-takes : (ds : List ℕ) (a : Descent) (g : List ℕ → Descent) → Takes ds a → ((l : List ℕ) → Takes l (g l)) → Takes ds (descendThen a g)
+unfolding descendOn
+then-takes ds a g t u = by (a .walk .answer) refl where
+  by : (z : Answer) → a .walk .answer ≡ z → Takes ds (descendOn z a g)
+  by Done e q =
+      let b = g (a .left) in
+      let d : b .walk .answer ≡ Done = sym (ap (λ (v : Walk). v .answer) (onward-done (a .walk .answer) (a .walk .list) (b .walk) e)) ∙ q in
+      u (a .left) d ∙ ap (drop (length (b .marks))) (t e) ∙ drop-drop (length (b .marks)) (length (a .marks)) ds
+      ∙ ap (λ (n : ℕ). drop n ds) (sym (length-append (a .marks) (b .marks)))
+  by (Refused r) e q = t q
+
+pub descents-take : (f : ℕ → List ℕ → Descent) → ((i : ℕ) (l : List ℕ) → Takes l (f i l)) → (n : ℕ) (ds : List ℕ) → Takes ds (descents f n ds)
+unfolding descents
+descents-take f t zero ds = λ q. refl
+descents-take f t (suc n) ds = then-takes ds (descents f n ds) (f n) (descents-take f t n ds) (t n)
+
+pub descend-take : (w h k x y : ℕ) (ds : List ℕ) → Takes ds (descend w h k x y ds)
+descend-take w h zero x y ds = let q = unit-quiet w h x y ds in λ d. q .left ∙ ap (λ (l : List Mark). drop (length l) ds) (sym (q .none))
+descend-take w h (suc k) x y ds =
+    by-start w h x y (Takes ds (descend w h (suc k) x y ds))
+    (λ p. takes ds (descend-x w h (suc k) x y ds p) (λ q. refl))
+    (λ p q. takes ds (descend-y w h (suc k) x y ds p q) (λ d. refl))
+    (λ p q. inside p q ds (λ l. descents-take (partOf w h k x y) (λ i m. descend-take w h k (partX k x i) (partY k y i) m) 4 l)) where
+      inside : x < w → y < h → (ds : List ℕ) → ((l : List ℕ) → Takes l (descents (partOf w h k x y) 4 l)) → Takes ds (descend w h (suc k) x y ds)
+      inside p q [] f = takes [] (descend-none w h k x y p q) (λ d. refl)
+      inside p q (zero ∷ ds) f = takes (0 ∷ ds) (descend-leaf w h k x y ds p q) (λ d. refl)
+      inside p q (suc zero ∷ ds) f = takes (1 ∷ ds) (descend-cut w h k x y ds p q) (f ds)
+      inside p q (suc (suc d) ∷ ds) f = takes (suc (suc d) ∷ ds) (descend-bad w h k x y d ds p q) (λ e. absurd (not-done _ e))

@@ -5,3 +5,4 @@ pub mod Mended
 pub mod Pictures
 pub mod Puts
 pub mod Walks
+pub mod Tidy

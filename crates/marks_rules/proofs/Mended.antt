@@ -64,24 +64,24 @@ module _ (s : List ℕ) (w h k x y : ℕ) where
 
 -- ---- judging some marks and then others
 
-stop : Answer → Answer → Answer
+unfoldable pub stop : Answer → Answer → Answer
 stop Done b = b
 stop (Refused r) b = Refused r
 
 module _ (s : List ℕ) where
-  judge-none : judge s [] ≡ Done
+  pub judge-none : judge s [] ≡ Done
   unfolding judge
   judge-none = refl
 
-  judge-same : (m : Mark) (l : List Mark) → getD s (m .place) 0 ≡ m .byte → judge s (m ∷ l) ≡ judge s l
+  pub judge-same : (m : Mark) (l : List Mark) → getD s (m .place) 0 ≡ m .byte → judge s (m ∷ l) ≡ judge s l
   unfolding judge
   judge-same m l e = rw (eq-eqb _ _ e)
 
-  judge-other : (m : Mark) (l : List Mark) → (getD s (m .place) 0 ≡ m .byte → ⊥) → judge s (m ∷ l) ≡ Refused (wrong (getD s (m .place) 0))
+  pub judge-other : (m : Mark) (l : List Mark) → (getD s (m .place) 0 ≡ m .byte → ⊥) → judge s (m ∷ l) ≡ Refused (wrong (getD s (m .place) 0))
   unfolding judge
   judge-other m l n = rw (ne-eqb _ _ n)
 
-  judge-append : (l m : List Mark) → judge s (l ++ m) ≡ stop (judge s l) (judge s m)
+  pub judge-append : (l m : List Mark) → judge s (l ++ m) ≡ stop (judge s l) (judge s m)
   unfolding judge stop
   judge-append [] m = refl
   judge-append (n ∷ l) m = by (eqb (getD s (n .place) 0) (n .byte)) (judge-append l m) where

@@ -21,10 +21,10 @@ size-told : (c : tie.Else1) → Sized (c .before .before .before .before .args .
 size-told c = sized _ _ (sym (c .before .size-ok .ensures) ∙ not-false _ (c .if1 .left))
 
 in-picture : (c : tie.Else3) → c .before .before .before .before .before .before .before .args .root < rootCount (c .before .before .before .before .before .before .before .args .w) (c .before .before .before .before .before .before .before .args .h)
-in-picture c = omega (arith, c .if3 .left, c .before .root-count .ensures .0)
+in-picture c = omega (arith, c .if3 .left, c .before .roots-in .ensures .0)
 
 outside : (c : tie.Then3) → rootCount (c .before .before .before .before .before .before .before .args .w) (c .before .before .before .before .before .before .before .args .h) ≤ c .before .before .before .before .before .before .before .args .root
-outside c = omega (arith, c .if3 .taken, c .before .root-count .ensures .0)
+outside c = omega (arith, c .if3 .taken, c .before .roots-in .ensures .0)
 
 -- the call's input
 abbrev input : tie.Start → take-call.Input

@@ -1,0 +1,3 @@
+pub mod Form
+pub mod GetCall
+pub mod PutCall
