@@ -1,17 +1,18 @@
 -- Laws of a slice's bits: what is put at a place is read there and nowhere else; n bits that are put are read back.
 -- Assumes nothing.
 use mathlib.Core.Bool.{Bool, true, false, not}
-use mathlib.Core.Path.{_≡_, refl, sym, ap, _∙_, subst}
+use mathlib.Core.Path.{_≡_, refl, sym, ap, ap₂, _∙_, subst}
 use mathlib.Core.List.{List, [], _∷_}
 use Prim.Native.Nat.{ℕ, zero, suc, _+_, _-_, _*_, _/_, _%_, _^_, _≤_, _<_}
-use native.Mathlib.Nat.{zero-div, mod-lt, mul-le-mul-right, add-mul, mul-assoc, mul-comm, not-suc-le-zero}
+use native.Mathlib.Nat.{add-zero, add-suc, add-assoc, zero-div, mod-lt, mul-le-mul-right, add-mul, mul-assoc, mul-comm, not-suc-le-zero}
+use native.Mathlib.Numerals.{add-one}
 use native.Mathlib.Omega.{arith}
 use borrow.Author.Tests.{eqb-true, eqb-false, ltb-true, ltb-false, leb-true, leb-false, not-true, not-false}
 use lib.Dec.{eqb, ltb, leb}
-use lib.ListN.{length, getD, set, length-set, List·getD-eq-default}
+use lib.ListN.{length, getD, set, drop, length-set, length-drop, List·getD-eq-default}
 use lib.Pow.{pow-pos, pow-add, shl-exact, shr-lt, shr-shr}
 use lib.Pow as pow
-use lib.Seq.{getD-set-same, getD-set-other, set-out}
+use lib.Seq.{getD-set-same, getD-set-other, set-out, getD-drop}
 use Rattle.laws.specs.Bits.{fieldOf, withField}
 use Rattle.laws.proofs.Bits.{field-same, field-above, field-below}
 use Rattle.laws.specs.Index.{pick, tabulate}
@@ -162,3 +163,31 @@ put-past s p b h = sym (set-out s (p / 8) _ h)
 pub bit-small : (s : List ℕ) (p : ℕ) → bitAt s p < 2
 unfolding bitAt fieldOf
 bit-small s p = omega arith
+
+-- ---- some bits and then others
+
+pub with-none : (s : List ℕ) (p : ℕ) (f : ℕ → ℕ) → withBits s p f 0 ≡ s
+unfolding withBits
+with-none s p f = refl
+
+pub with-more : (s : List ℕ) (p : ℕ) (f : ℕ → ℕ) (n : ℕ) → withBit (withBits s p f n) (p + n) (f n) ≡ withBits s p f (n + 1)
+unfolding withBits
+with-more s p f n = rw add-one
+
+pub with-same : (s : List ℕ) (p : ℕ) (f g : ℕ → ℕ) (n : ℕ) → ((i : ℕ) → i < n → f i ≡ g i) → withBits s p f n ≡ withBits s p g n
+unfolding withBits
+with-same s p f g zero e = refl
+with-same s p f g (suc n) e = ap₂ (λ (z : List ℕ) (b : ℕ). withBit z (p + n) b) (with-same s p f g n (λ i l. e i (omega arith))) (e n (omega arith))
+
+pub with-join : (s : List ℕ) (p : ℕ) (f : ℕ → ℕ) (n m : ℕ) → withBits (withBits s p f n) (p + n) (λ (i : ℕ). f (n + i)) m ≡ withBits s p f (n + m)
+unfolding withBits
+with-join s p f n zero = rw add-zero
+with-join s p f n (suc m) =
+    rw add-suc (ap₂ (λ (z : List ℕ) (q : ℕ). withBit z q (f (n + m))) (with-join s p f n m) (add-assoc p n m))
+
+-- the bits that are left
+pub drop-bits : (s : List ℕ) (p n u : ℕ) → drop u (bitsFrom s p n) ≡ bitsFrom s (p + u) (n - u)
+drop-bits s p n u =
+    is-tabulate (λ (i : ℕ). bitAt s (p + u + i)) (n - u) (drop u (bitsFrom s p n)) 0
+    (length-drop u (bitsFrom s p n) ∙ ap (λ (k : ℕ). k - u) (length-tabulate (λ (i : ℕ). bitAt s (p + i)) n))
+    (λ k l. getD-drop u (bitsFrom s p n) k 0 ∙ getD-tabulate (λ (i : ℕ). bitAt s (p + i)) n (u + k) 0 (omega arith) ∙ ap (bitAt s) (sym (add-assoc p u k)))

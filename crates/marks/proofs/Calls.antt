@@ -108,6 +108,6 @@ module _ (i : take-call.Input) where
         let k = counted-done n _ (take-call.descent i .walk .answer) (sym e ∙ d .answer) in
         let m : n ≡ length l = k .1 ∙ zero-add (length l) in
         let t : take n list ≡ numbers l =
-                ap (take n) (d .stored (k .0)) ∙ take-sets (numbers l) list₀ n (length-map l markNumber ∙ sym m) (omega (arith, taken-few n e)) in
+        ap (take n) (d .stored (k .0)) ∙ take-sets (numbers l) list₀ n (length-map l markNumber ∙ sym m) (omega (arith, taken-few n e)) in
         rw (sym (sym (k .0) ∙ f))
         (ap₂ (λ (a : ℕ) (b : List ℕ). record { reading = list-call.readingOf (Counted a); out = b }) m (q ∙ ap (sets (i .out) 0) t))

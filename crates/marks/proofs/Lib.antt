@@ -3,3 +3,4 @@ pub mod Lists
 pub mod Marking
 pub mod Growing
 pub mod Calls
+pub mod Callers

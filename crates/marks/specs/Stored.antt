@@ -2,8 +2,8 @@
 -- Assumes nothing: these are definitions.
 use mathlib.Core.List.{List, [], _∷_, map}
 use mathlib.Core.Path.{_≡_}
-use Prim.Native.Nat.{ℕ, _+_, _*_}
-use lib.ListN.{length, drop}
+use Prim.Native.Nat.{ℕ, _+_, _*_, _/_, _%_, _<_}
+use lib.ListN.{length, getD, take, drop}
 use lib.Seq.{sets}
 use Rattle.def.specs.declared.Answer.{Answer}
 use Rattle.def.specs.declared.Answer.the-variants.{Done, Refused}
@@ -38,3 +38,17 @@ pub record Grew (g : Descent) (ds out : List ℕ) (n : ℕ) (out′ : List ℕ) 
   pub answer : r ≡ counted (n + length (g .marks)) (g .walk .answer)
   pub left : g .walk .answer ≡ Done → g .left ≡ drop (n + length (g .marks)) ds
   pub stored : g .walk .answer ≡ Done → out′ ≡ sets out n (numbers (g .marks))
+
+-- ---- a list, read back
+
+-- a mark by its number: twice its place, and its byte
+abbrev pub markFrom : ℕ → Mark
+markFrom n = mark (n / 2) (n % 2)
+
+-- the first n of a list
+abbrev pub marksIn : List ℕ → ℕ → List Mark
+marksIn list n = map markFrom (take n list)
+
+-- their places lie among a root's bytes
+abbrev pub Small : List ℕ → ℕ → Type 0
+Small list n = (j : ℕ) → j < n → getD list j 0 < 2048

@@ -77,6 +77,7 @@ tidy-grown w h (suc k) x y ds =
     (λ p q. inside p q ds (λ l. tidy-descents (partOf w h k x y) (λ i m. tidy-grown w h k (partX k x i) (partY k y i) m) 4 l)) where
       of : {a b : Descent} → a ≡ b → AllTidy (b .marks) → AllTidy (a .marks)
       of e t = subst (λ (d : Descent). AllTidy (d .marks)) (sym e) t
+
       inside : x < w → y < h → (ds : List ℕ) → ((l : List ℕ) → AllTidy (descents (partOf w h k x y) 4 l .marks)) → AllTidy (descend w h (suc k) x y ds .marks)
       inside p q [] f = of (descend-none w h k x y p q) tidy-none
       inside p q (zero ∷ ds) f = of (descend-leaf w h k x y ds p q) (tidy-cons _ _ (tidy k x y 0 (omega arith)) tidy-none)

@@ -1,18 +1,30 @@
--- Marks read back from the numbers that they are listed as, and what the functions over them leave behind.
+-- What the functions of the compact form ask: what is known once a call's first tests have passed.
 -- Assumes nothing: these are definitions.
-use mathlib.Core.List.{List, map}
-use Prim.Native.Nat.{ℕ, _/_, _%_, _<_}
-use lib.ListN.{getD, take}
-use Rattle.marks_rules.specs.Marks.{Mark, mark}
+use mathlib.Core.List.{List}
+use mathlib.Core.Bool.{true}
+use mathlib.Core.Path.{_≡_}
+use Prim.Native.Nat.{ℕ, _*_, _/_, _≤_}
+use lib.ListN.{length}
+use Rattle.def.specs.Picture.{sizeOk, rootCount}
+use Rattle.def.specs.declared.Answer.the-variants.{Done}
+use Rattle.marks_rules.specs.Pictures.{pictureDigits}
+use Rattle.pack_rules.specs.Form.{bitsIn, startOf}
+use Rattle.split.specs.Picture.{pictureWalk}
 
--- a mark by its number: twice its place, and its byte
-abbrev pub markFrom : ℕ → Mark
-markFrom n = mark (n / 2) (n % 2)
+-- a picture's size, and the length of its map
+pub record Mapped (w h long : ℕ) : Type 0 where
+  pub size : sizeOk w h ≡ true
+  pub bytes : long ≡ 1024 * rootCount w h
 
--- the first n of a list
-abbrev pub marksIn : List ℕ → ℕ → List Mark
-marksIn list n = map markFrom (take n list)
+-- a map whose walk is not refused, and how many digits it has
+pub record Accepted (w h : ℕ) (s : List ℕ) (n : ℕ) : Type 0 where
+  pub mapped : Mapped w h (length s)
+  pub done : pictureWalk s (w / 4) (h / 4) .answer ≡ Done
+  pub count : n ≡ length (pictureDigits s (w / 4) (h / 4))
 
--- their places lie among a root's bytes
-abbrev pub Placed : List ℕ → ℕ → Type 0
-Placed list n = (j : ℕ) → j < n → getD list j 0 < 2048
+-- where a map starts in a buffer of so many bytes, and where the buffer ends
+pub record Span (bytes at start end : ℕ) : Type 0 where
+  pub first : start ≡ startOf at
+  pub last : end ≡ bitsIn bytes
+  pub inside : start ≤ end
+  pub near : end ≤ 4611686018427387904

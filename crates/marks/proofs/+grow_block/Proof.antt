@@ -139,11 +139,16 @@ pub +grow-block-spec : {M : Type 1} → statement M
     let v = c .before .before .before .before .loop .inv in
     let l = c .before .before .before .loop-test .taken in
     let m = c .before .before .before .before .before .before .before .before .before .put-mark in
-    let room : m .result + 4 * blocksIn (3 - s .args .level) ≤ length (c .before .before .before .before .loop .out) = omega (arith, v .1, m .ensures .count, m .kept .0, z .room, p .3) in
-    (subst (λ (n : ℕ). s .args .side / 2 < n) (s .pre .0) (z .less),
-    (part-block z _ _ _ l (c .before .before .part-at .ensures) (c .before .part-at2 .ensures), not-last _ (p .1) (c .before .before .before .before .before .if4 .left), p .2,
-    subst (λ (n : ℕ). c .before .before .before .before .loop .next + blocksIn n ≤ length (c .before .before .before .before .loop .out)) (sym (z .next))
-    (next-room _ _ _ _ _ _ l (few-taken (digits t s) (p .0) (c .before .before .before .before .loop .part) (m .result)) (grew-count (v .2)) room))))
+    let room : m .result + 4 * blocksIn (3 - s .args .level) ≤ length (c .before .before .before .before .loop .out) = omega (arith, v .1, m .ensures .count, m .kept .0, z .room, p .3) in (
+      subst (λ (n : ℕ). s .args .side / 2 < n) (s .pre .0) (z .less),
+      (
+        part-block z _ _ _ l (c .before .before .part-at .ensures) (c .before .part-at2 .ensures),
+        not-last _ (p .1) (c .before .before .before .before .before .if4 .left),
+        p .2,
+        subst (λ (n : ℕ). c .before .before .before .before .loop .next + blocksIn n ≤ length (c .before .before .before .before .loop .out)) (sym (z .next))
+            (next-room _ _ _ _ _ _ l (few-taken (digits t s) (p .0) (c .before .before .before .before .loop .part) (m .result)) (grew-count (v .2)) room),
+      ),
+    ))
     (λ c. search needs)
     (λ c. search needs)
     -- a part that is refused ends the block
@@ -163,9 +168,11 @@ pub +grow-block-spec : {M : Type 1} → statement M
     (λ c. fewer _ (c .before .before .before .before .before .before .before .before .before .loop-test .taken))
     (λ c.
     let p = c .before .before .before .before .before .before .before .before .before .before .before .before .before .before .before .before .before .before .before .before .before .before .before .before .before .pre .1 in
-    let v = c .before .before .before .before .before .before .before .before .before .before .loop .inv in
-    (within _ (c .before .before .before .before .before .before .before .before .before .loop-test .taken), c .before .before .before .before .before .grow-block .kept .1 .1 .1 .1 .1 .1 .1 .1 .1 .0 ∙ v .1,
-    part-more (digits t (c .before .before .before .before .before .before .before .before .before .before .before .before .before .before .before .before .before .before .before .before .before .before .before .before .before)) (p .0) (p .1) _ (v .2) (c .before .before .before .before .before .before .before .before .part-at .ensures) (c .before .before .before .before .before .before .before .part-at2 .ensures) (c .before .before .before .before .before .grow-block .ensures) _ (c .before .taken .given .1)))
+    let v = c .before .before .before .before .before .before .before .before .before .before .loop .inv in (
+      within _ (c .before .before .before .before .before .before .before .before .before .loop-test .taken),
+      c .before .before .before .before .before .grow-block .kept .1 .1 .1 .1 .1 .1 .1 .1 .1 .0 ∙ v .1,
+      part-more (digits t (c .before .before .before .before .before .before .before .before .before .before .before .before .before .before .before .before .before .before .before .before .before .before .before .before .before)) (p .0) (p .1) _ (v .2) (c .before .before .before .before .before .before .before .before .part-at .ensures) (c .before .before .before .before .before .before .before .part-at2 .ensures) (c .before .before .before .before .before .grow-block .ensures) _ (c .before .taken .given .1),
+    ))
     -- all four
     (λ c. c .before .loop .inv .1 ∙ c .before .before .before .before .before .before .put-mark .kept .0)
     (λ c.

@@ -102,19 +102,26 @@ pub +mark-block-spec : {M : Type 1} → statement M
     let z = halved (p .0) (p .1) in
     let v = c .before .before .before .before .loop .inv in
     let l = c .before .before .before .loop-test .taken in
-    let m = c .before .before .before .before .before .before .before .before .before .put-mark in
-    (subst (λ (n : ℕ). s .args .side / 2 < n) (s .pre .0) (z .less),
-    (part-block z _ _ _ l (c .before .before .part-at .ensures) (c .before .part-at2 .ensures), not-last _ (p .1) (c .before .before .before .before .before .if3 .left), p .2,
-    subst (λ (n : ℕ). c .before .before .before .before .loop .count + blocksIn n ≤ length (c .before .before .before .before .loop .out)) (sym (z .next))
-    (next-room _ _ _ _ _ _ l (few-parts (c .before .before .before .before .before .before .before .before .before .before .before .before .before .before .before .before .before .before .before .args .bytes .now) (p .0) _) (v .2 .count) (omega (arith, v .1, m .ensures .count, m .kept .0, z .room, p .3))))))
+    let m = c .before .before .before .before .before .before .before .before .before .put-mark in (
+      subst (λ (n : ℕ). s .args .side / 2 < n) (s .pre .0) (z .less),
+      (
+        part-block z _ _ _ l (c .before .before .part-at .ensures) (c .before .part-at2 .ensures),
+        not-last _ (p .1) (c .before .before .before .before .before .if3 .left),
+        p .2,
+        subst (λ (n : ℕ). c .before .before .before .before .loop .count + blocksIn n ≤ length (c .before .before .before .before .loop .out)) (sym (z .next))
+            (next-room _ _ _ _ _ _ l (few-parts (c .before .before .before .before .before .before .before .before .before .before .before .before .before .before .before .before .before .before .before .args .bytes .now) (p .0) _) (v .2 .count) (omega (arith, v .1, m .ensures .count, m .kept .0, z .room, p .3))),
+      ),
+    ))
     (λ c. record { fits = counted _ (c .before .before .before .before .before .before .loop-test .taken) })
     (λ c. fewer _ (c .before .before .before .before .before .before .loop-test .taken))
     (λ c.
     let p = c .before .before .before .before .before .before .before .before .before .before .before .before .before .before .before .before .before .before .before .before .before .before .pre .1 in
     let v = c .before .before .before .before .before .before .before .loop .inv in
-    let m = c .before .before .mark-block in
-    (within _ (c .before .before .before .before .before .before .loop-test .taken), listed-long (m .ensures) ∙ v .1,
-    part-more (c .before .before .before .before .before .before .before .before .before .before .before .before .before .before .before .before .before .before .before .before .before .before .args .bytes .now) (p .0) (p .1) _ (v .2) (c .before .before .before .before .before .part-at .ensures) (c .before .before .before .before .part-at2 .ensures) (m .ensures)))
+    let m = c .before .before .mark-block in (
+      within _ (c .before .before .before .before .before .before .loop-test .taken),
+      listed-long (m .ensures) ∙ v .1,
+      part-more (c .before .before .before .before .before .before .before .before .before .before .before .before .before .before .before .before .before .before .before .before .before .before .args .bytes .now) (p .0) (p .1) _ (v .2) (c .before .before .before .before .before .part-at .ensures) (c .before .before .before .before .part-at2 .ensures) (m .ensures),
+    ))
     -- all four
     (λ c. c .before .loop .inv .1 ∙ c .before .before .before .before .before .before .put-mark .kept .0)
     (λ c.
