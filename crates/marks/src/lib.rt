@@ -17,7 +17,7 @@ ghost use Rattle.split.specs.Stored.{Block};
 ghost use Rattle.split.specs.Walk.{leafWalk};
 ghost use Rattle.marks.specs.ListCall as ListCall;
 ghost use Rattle.marks.specs.TakeCall as TakeCall;
-ghost use Rattle.marks.specs.Stored.{Listed, Grew, one, counted};
+ghost use Rattle.marks.specs.Stored.{Listed, Grew, one, counted, markFrom};
 use bits::get_bit;
 use def::Pel;
 use def::Refusal;
@@ -57,6 +57,20 @@ fn put_mark(out: &mut [u16], n: usize, place: usize, byte: u8) -> usize
 {
     out[n] = (2 * place) as u16 + byte as u16;
     n + 1
+}
+
+// A listed mark's place among its root's bytes.
+pub fn mark_place(mark: u16) -> usize
+    ensures { λ r. ⌜ r ≡ markFrom mark .place ⌝ }
+{
+    (mark / 2) as usize
+}
+
+// And its byte.
+pub fn mark_byte(mark: u16) -> u8
+    ensures { λ r. ⌜ r ≡ markFrom mark .byte ⌝ }
+{
+    (mark % 2) as u8
 }
 
 // ---- marks from split bytes

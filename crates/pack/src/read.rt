@@ -1,12 +1,13 @@
 // The digits of a map, taken from bits: the marks that they give are counted, and put into the map's bytes.
 ghost use mathlib.Core.Bool.{true};
 ghost use mathlib.Core.Path.{_≡_};
-ghost use Prim.Native.Nat.{_-_, _/_, _≤_};
+ghost use Prim.Native.Nat.{_-_, _/_, _≤_, _<_};
 ghost use lib.ListN.{length, replicate};
 ghost use Rattle.bits.specs.Bits.{bitsFrom};
-ghost use Rattle.def.specs.Picture.{sizeOk};
+ghost use Rattle.def.specs.Picture.{sizeOk, rootCount};
 ghost use Rattle.def.specs.declared.Answer.the-variants.{Done};
 ghost use Rattle.marks.specs.Stored.{counted, Small, marksIn};
+ghost use Rattle.marks_rules.specs.Descent.{rootDescent};
 ghost use Rattle.marks_rules.specs.Marks.{putAll};
 ghost use Rattle.marks_rules.specs.Pictures.{upto, mapOf};
 ghost use Rattle.pack_rules.specs.Form.{zerosOk};
@@ -14,6 +15,8 @@ ghost use Rattle.split.specs.Picture.{roots};
 ghost use Rattle.pack.specs.Taken.{Mapped};
 use bits::get_bit;
 use marks::Marked;
+use marks::mark_byte;
+use marks::mark_place;
 use marks::root_count;
 use marks::take_marks;
 
@@ -54,20 +57,6 @@ pub(crate) fn zeros_ok(src: &[u8], from: usize, to: usize) -> bool
     true
 }
 
-// A root's bytes: those of the first n marks of a list, and 0 at every other place.
-fn fill_root(map: &mut [u8], list: &[u16], n: usize)
-    requires { ⌜ (length (now map) ≡ 1024) × (n ≤ length (now list)) × Small (now list) n ⌝ }
-    ensures { λ _. ⌜ now (map .exit) ≡ putAll (marksIn (now (list .entry)) n) (replicate 1024 0) ⌝ }
-{
-    clear(map);
-    let mut j = 0;
-    while j < n {
-        let place = (list[j] / 2) as usize;
-        map[place] = (list[j] % 2) as u8;
-        j += 1;
-    }
-}
-
 // Bytes of 0.
 fn clear(map: &mut [u8])
     ensures { λ _. ⌜ now (map .exit) ≡ replicate (length (now (map .entry))) 0 ⌝ }
@@ -79,22 +68,57 @@ fn clear(map: &mut [u8])
     }
 }
 
+// A root's bytes: those of the first n marks of a list, and 0 at every other place.
+fn fill_list(map: &mut [u8], list: &[u16], n: usize)
+    requires { ⌜ (length (now map) ≡ 1024) × (n ≤ length (now list)) × Small (now list) n ⌝ }
+    ensures { λ _. ⌜ now (map .exit) ≡ putAll (marksIn (now (list .entry)) n) (replicate 1024 0) ⌝ }
+{
+    clear(map);
+    let mut j = 0;
+    while j < n {
+        let place = mark_place(list[j]);
+        map[place] = mark_byte(list[j]);
+        j += 1;
+    }
+}
+
+// The bytes of root i by the bits from one place up to another, which are not refused: how many digits it has.
+fn fill_root(
+    w: usize,
+    h: usize,
+    src: &[u8],
+    from: usize,
+    to: usize,
+    i: usize,
+    map: &mut [u8],
+) -> usize
+    requires { ⌜ (sizeOk w h ≡ true) × (i < rootCount w h) × (length (now map) ≡ 1024) × (rootDescent (w / 4) (h / 4) i (bitsFrom (now src) from (to - from)) .walk .answer ≡ Done) ⌝ }
+    ensures { λ r. ⌜ (r ≡ length (rootDescent (w / 4) (h / 4) i (bitsFrom (now (src .entry)) from (to - from)) .marks)) × (now (map .exit) ≡ putAll (rootDescent (w / 4) (h / 4) i (bitsFrom (now (src .entry)) from (to - from)) .marks) (replicate 1024 0)) ⌝ }
+{
+    let mut list = [0u16; 85];
+    match take_marks(w, h, src, from, to, i, &mut list) {
+        // the digits are not refused here
+        Marked::Refused(r) => 0,
+        Marked::Done(n) => {
+            fill_list(map, &list, n);
+            n
+        }
+    }
+}
+
 // The map by the bits from one place up to another, which are not refused.
 pub(crate) fn fill_map(w: usize, h: usize, src: &[u8], from: usize, to: usize, map: &mut [u8])
     requires { ⌜ Mapped w h (length (now map)) × (from ≤ to) × (to ≤ 4611686018427387904) × (upto (w / 4) (h / 4) (bitsFrom (now src) from (to - from)) (roots (w / 4) (h / 4)) .walk .answer ≡ Done) ⌝ }
     ensures { λ _. ⌜ now (map .exit) ≡ mapOf (w / 4) (h / 4) (bitsFrom (now (src .entry)) from (to - from)) ⌝ }
 {
     let count = root_count(w, h);
-    let mut list = [0u16; 85];
     let mut used = 0;
     let mut i = 0;
     while i < count {
-        if let Marked::Done(n) = take_marks(w, h, src, from + used, to, i, &mut list) {
-            let start = 1024 * i;
-            let end = start + 1024;
-            fill_root(&mut map[start..end], &list, n);
-            used += n;
-        }
+        let start = 1024 * i;
+        let end = start + 1024;
+        let n = fill_root(w, h, src, from + used, to, i, &mut map[start..end]);
+        used += n;
         i += 1;
     }
 }

@@ -17,6 +17,8 @@ use def::Answer;
 use def::Refusal;
 use marks::Marked;
 use marks::list_marks;
+use marks::mark_byte;
+use marks::mark_place;
 use marks::root_count;
 
 // Whether the bytes of the first n marks of a list stand in a root's bytes: 4 or 5 at the first that does not.
@@ -26,9 +28,9 @@ fn judge_root(bytes: &[u8], list: &[u16], n: usize) -> Answer
 {
     let mut j = 0;
     while j < n {
-        let place = (list[j] / 2) as usize;
+        let place = mark_place(list[j]);
         let byte = bytes[place];
-        if byte as u16 != list[j] % 2 {
+        if byte != mark_byte(list[j]) {
             if 1 < byte {
                 return Answer::Refused(Refusal::Split);
             }
@@ -80,14 +82,30 @@ pub(crate) fn map_digits(w: usize, h: usize, splits: &[u8]) -> Marked
 }
 
 // The bytes of the first n marks of a list, put as bits from a place on.
-fn put_root(buf: &mut [u8], at: usize, list: &[u16], n: usize)
+fn put_list(buf: &mut [u8], at: usize, list: &[u16], n: usize)
     requires { ⌜ (n ≤ length (now list)) × (at + n < 18446744073709551616) ⌝ }
     ensures { λ _. ⌜ now (buf .exit) ≡ withBits (now (buf .entry)) at (λ (i : ℕ). getD (now (list .entry)) i 0 % 2) n ⌝ }
 {
     let mut j = 0;
     while j < n {
-        put_bit(buf, at + j, (list[j] % 2) as u8);
+        put_bit(buf, at + j, mark_byte(list[j]));
         j += 1;
+    }
+}
+
+// The digits of root i, whose walk is not refused, put as bits from a place on: how many they are.
+fn put_root(w: usize, h: usize, splits: &[u8], i: usize, buf: &mut [u8], at: usize) -> usize
+    requires { ⌜ Mapped w h (length (now splits)) × (i < rootCount w h) × (rootWalk (now splits) (w / 4) (h / 4) i .answer ≡ Done) × (at ≤ 4611686018427736064) ⌝ }
+    ensures { λ r. ⌜ (r ≡ length (rootDigits (now (splits .entry)) (w / 4) (h / 4) i)) × (now (buf .exit) ≡ withBits (now (buf .entry)) at (digitAt (rootDigits (now (splits .entry)) (w / 4) (h / 4) i)) r) ⌝ }
+{
+    let mut list = [0u16; 85];
+    match list_marks(w, h, splits, i, &mut list) {
+        // none of the call's tests fails here
+        Marked::Refused(r) => 0,
+        Marked::Done(n) => {
+            put_list(buf, at, &list, n);
+            n
+        }
     }
 }
 
@@ -97,14 +115,11 @@ pub(crate) fn put_digits(w: usize, h: usize, splits: &[u8], buf: &mut [u8], at: 
     ensures { λ _. ⌜ now (buf .exit) ≡ withBits (now (buf .entry)) at (digitAt (pictureDigits (now (splits .entry)) (w / 4) (h / 4))) (length (pictureDigits (now (splits .entry)) (w / 4) (h / 4))) ⌝ }
 {
     let roots = root_count(w, h);
-    let mut list = [0u16; 85];
     let mut used = 0;
     let mut i = 0;
     while i < roots {
-        if let Marked::Done(n) = list_marks(w, h, splits, i, &mut list) {
-            put_root(buf, at + used, &list, n);
-            used += n;
-        }
+        let n = put_root(w, h, splits, i, buf, at + used);
+        used += n;
         i += 1;
     }
 }

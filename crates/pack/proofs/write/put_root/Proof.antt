@@ -1,73 +1,58 @@
+-- `pack::write::put_root` meets its contract: a root's marks are listed, and their bytes are put. Assumes nothing.
+use mathlib.Core.Path.{_≡_, refl, sym, ap, ap₂, _∙_, subst}
+use Prim.Native.Nat.{ℕ, _+_, _%_, _≤_, _<_}
+use native.Mathlib.Omega.{arith}
+use borrow.Author.Needs.{needs}
+use lib.ListN.{length, getD}
+use Rattle.bits.specs.Bits.{withBits}
+use Rattle.bits.proofs.Laws.{with-same}
+use Rattle.def.specs.declared.Answer.the-variants.{Done}
+use Rattle.marks.specs.declared.Marked.the-variants.{Done as Counted}
+use Rattle.marks.proofs.Callers.{Told, list-told}
+use Rattle.marks.proofs.Growing.{counted-done}
+use Rattle.marks_rules.specs.Pictures.{rootDigits}
+use Rattle.pack_rules.specs.Form.{digitAt}
+use Rattle.pack.proofs.Writing.{own, own-bit, own-long, not-both}
 use Rattle.pack.proofs.write.put_root.Statement.{statement}
 use Rattle.pack.proofs.write.put_root.Tie as tie
-use Rattle.pack.proofs.write.put_root.Reads as reads
-use Rattle.pack.proofs.write.put_root.Lts as lts
-use Rattle.bits.proofs.put_bit.Reads as put-bit-reads
 
-abbrev Inv-loop : tie.InvT-loop
-Inv-loop buf₀ at list n j₀ buf j = ?
+-- what the call told: as many marks as the root has, and a list of them
+told : (c : tie.After-list-marks) → let a = c .before .before .before .before .args in
+    let l = own (a .w) (a .h) (a .splits .now) (a .i) in
+    (c .list-marks .result ≡ Counted (length l)) × Told l (c .list-marks .last .1 .1 .1 .1 .0)
+told c = list-told _ (c .list-marks .result) _ (c .before .before .before .before .pre .0 .size) (c .before .before .before .before .pre .0 .bytes) refl (c .before .before .before .before .pre .1) (c .list-marks .ensures)
 
-abbrev μ-loop : tie.MeasureT-loop
-μ-loop buf₀ at list n j₀ buf j = ?
+count : (c : tie.After-n) → let a = c .before .before .before .before .before .before .before .args in c .n .given .0 .0 ≡ length (own (a .w) (a .h) (a .splits .now) (a .i))
+count c = counted-done _ _ Done (sym (c .n .given .1) ∙ told (c .before .before .before) .0) .1
 
--- src/write.rt:88:5
-loop-holds : tie.Need-loop-holds Inv-loop μ-loop
-loop-holds c = ?
+put-list-requires : tie.Need-put-list-requires
+put-list-requires c κs =
+    let n = count (c .before .before .before) in
+    let t = told (c .before .before .before .before .before .before) .1 in
+    (omega (arith, n, t .few, t .long), omega (arith, n, t .few, c .before .before .before .before .before .before .before .before .before .before .pre .3))
 
--- src/write.rt:89:22
-add-put-bit : tie.Need-add-put-bit Inv-loop μ-loop
-add-put-bit c = ?
+returns : tie.Need-returns
+returns c = not-both _ _ _ (told (c .before .before .before .before) .0) (c .before .r .given .1)
 
--- src/write.rt:89:31
-mul-put-bit : tie.Need-mul-put-bit Inv-loop μ-loop
-mul-put-bit c = ?
-
--- src/write.rt:89:31
-shared-slice-read-put-bit : tie.Need-shared-slice-read-put-bit Inv-loop μ-loop
-shared-slice-read-put-bit c = ?
-
--- src/write.rt:89:30
-cast-put-bit : tie.Need-cast-put-bit Inv-loop μ-loop
-cast-put-bit c = ?
-
--- src/write.rt:89:9
-put-bit-requires : tie.Need-put-bit-requires Inv-loop μ-loop
-put-bit-requires c κs = ?
-
--- src/write.rt:90:9
-add-j : tie.Need-add-j Inv-loop μ-loop
-add-j c = ?
-
--- src/write.rt:88:5
-loop-less : tie.Need-loop-less Inv-loop μ-loop
-loop-less c = ?
-
--- src/write.rt:88:5
-loop-again : tie.Need-loop-again Inv-loop μ-loop
-loop-again c = ?
-
--- src/write.rt:83:1
-same-length : tie.Need-same-length Inv-loop μ-loop
-same-length c = ?
-
--- src/write.rt:83:1
-returns : tie.Need-returns Inv-loop μ-loop
-returns c = ?
+returns-2 : tie.Need-returns-2
+returns-2 c =
+    let a = c .before .before .before .before .before .before .before .before .before .before .before .before .before .args in
+    let d = c .before .before .before .before .before .before .before .before .before .before .before .before .before .pre .2 in
+    let n = count (c .before .before .before .before .before .before) in
+    (n ∙ sym (own-long (a .w) (a .h) (a .splits .now) (a .i) d),
+    c .before .before .put-list .ensures
+    ∙ with-same _ (a .at) _ _ _ (λ k l. own-bit (a .w) (a .h) (a .splits .now) (a .i) (told (c .before .before .before .before .before .before .before .before .before) .1) d k (subst (λ (m : ℕ). k < m) n l)))
 
 pub put-root-spec : {M : Type 1} → statement M
 put-root-spec =
     tie.close
     (tie.spec
-    Inv-loop
-    μ-loop
-    loop-holds
-    add-put-bit
-    mul-put-bit
-    shared-slice-read-put-bit
-    cast-put-bit
-    put-bit-requires
-    add-j
-    loop-less
-    loop-again
-    same-length
-    returns)
+    (λ c. search needs)
+    (λ c κs. search needs)
+    (λ c. search needs)
+    (λ c. search needs)
+    (λ c. search needs)
+    put-list-requires
+    returns
+    (λ c. search needs)
+    returns-2)
