@@ -1,0 +1,107 @@
+-- The outcomes of `put_map` and `get_map`, by what their checks find.
+-- Assumes nothing.
+use mathlib.Core.Bool.{Bool, true, false}
+use mathlib.Core.List.{List, []}
+use mathlib.Core.Path.{_≡_, refl, sym, ap, ap₂, _∙_, subst}
+use Prim.Native.Nat.{ℕ, zero, suc, _+_, _-_, _*_, _/_, _≤_, _<_, min}
+use native.Mathlib.Nat.{mul-pos}
+use native.Mathlib.Omega.{arith}
+use borrow.Author.Tests.{eq-eqb, ne-eqb, le-leb, lt-leb}
+use lib.Dec.{eqb, leb}
+use lib.ListN.{length}
+use Rattle.bits.specs.Bits.{bitAt, bitsFrom}
+use Rattle.def.proofs.Sizes.{sized}
+use Rattle.def.specs.Answers.{afterChecks}
+use Rattle.def.specs.Picture.{sizeOk, rootCount}
+use Rattle.def.specs.Refusals.{numberOf}
+use Rattle.def.specs.declared.Answer.{Answer}
+use Rattle.def.specs.declared.Answer.the-variants.{Done, Refused}
+use Rattle.def.specs.declared.Refusal.{Refusal}
+use Rattle.def.specs.declared.Refusal.the-variants.{Size, Length, Bits}
+use Rattle.laws.specs.Call.{unless}
+use Rattle.laws.specs.Index.{tabulateFrom}
+use Rattle.marks_rules.specs.Descent.{Descent}
+use Rattle.marks_rules.specs.Pictures.{upto}
+use Rattle.pack_rules.specs.Form.{bitsIn, startOf, endOf, digitsFrom, packed, roomOk, fillOk}
+use Rattle.pack_rules.specs.GetCall as get-call
+use Rattle.pack_rules.specs.PutCall as put-call
+use Rattle.split.proofs.Roots.{roots-units, some-wide}
+use Rattle.split.specs.Picture.{across, roots, pictureWalk}
+use Rattle.pack.specs.Taken.{Mapped, Accepted, Span}
+use Rattle.pack.proofs.Reading.{none-read}
+
+-- ---- put_map
+
+module _ (i : put-call.Input) where
+  pub put-refused : (r : Refusal) → Refused r ≡ put-call.check i → record { number = numberOf r; at = i .at; buf = i .buf } ≡ put-call.outcome i
+  unfolding put-call.outcome
+  put-refused r e = rw (sym e)
+
+  module _ (z : Mapped (i .w) (i .h) (length (i .splits))) where
+    put-checked : put-call.check i
+        ≡ afterChecks Refused (unless (roomOk (length (i .buf)) (i .at) (length (put-call.digits i))) (Refused Bits) Done) (pictureWalk (i .splits) (i .w / 4) (i .h / 4) .answer)
+    unfolding put-call.check
+    put-checked = rw (z .size, eq-eqb _ _ (z .bytes))
+
+    -- the walk is refused
+    pub put-stopped : (r : Refusal) → pictureWalk (i .splits) (i .w / 4) (i .h / 4) .answer ≡ Refused r → record { number = numberOf r; at = i .at; buf = i .buf } ≡ put-call.outcome i
+    put-stopped r e =
+        put-refused r
+        (sym (put-checked ∙ ap (afterChecks Refused (unless (roomOk (length (i .buf)) (i .at) (length (put-call.digits i))) (Refused Bits) Done)) e))
+
+  module _ {n : ℕ} (a : Accepted (i .w) (i .h) (i .splits) n) where
+    checked : (t : Bool) → roomOk (length (i .buf)) (i .at) n ≡ t → put-call.check i ≡ unless t (Refused Bits) Done
+    checked t e =
+        put-checked (a .mapped) ∙ ap (afterChecks Refused (unless (roomOk (length (i .buf)) (i .at) (length (put-call.digits i))) (Refused Bits) Done)) (a .done)
+        ∙ ap (λ (b : Bool). unless b (Refused Bits) Done) (ap (roomOk (length (i .buf)) (i .at)) (sym (a .count)) ∙ e)
+
+    -- the room is less than the map's own bytes
+    pub put-short : bitsIn (length (i .buf)) < endOf (i .at) n → record { number = 16; at = i .at; buf = i .buf } ≡ put-call.outcome i
+    unfolding roomOk
+    put-short l = put-refused Bits (sym (checked false (lt-leb _ _ l)))
+
+    pub put-done : (at : ℕ) (buf : List ℕ) → endOf (i .at) n ≤ bitsIn (length (i .buf)) → at ≡ endOf (i .at) n → buf ≡ packed (i .buf) (i .at) (put-call.digits i)
+        → record { number = 0; at = at; buf = buf } ≡ put-call.outcome i
+    unfolding roomOk put-call.outcome
+    put-done at buf l e f =
+        sym (ap (afterChecks (put-call.refused i) (put-call.done i)) (checked true (le-leb _ _ l))
+        ∙ ap₂ (λ (k : ℕ) (b : List ℕ). record { number = 0; at = k; buf = b }) (ap (endOf (i .at)) (sym (a .count)) ∙ sym e) (sym f))
+
+-- ---- get_map
+
+module _ (i : get-call.Input) where
+  pub get-refused : (r : Refusal) → Refused r ≡ get-call.check i → record { number = numberOf r; at = i .at; map = i .map } ≡ get-call.outcome i
+  unfolding get-call.outcome
+  get-refused r e = rw (sym e)
+
+  module _ (z : Mapped (i .w) (i .h) (length (i .map))) where
+    get-checked : get-call.check i ≡ afterChecks Refused (unless (fillOk (i .src) (i .at) (get-call.count i)) (Refused Bits) Done) (get-call.descent i .walk .answer)
+    unfolding get-call.check
+    get-checked = rw (z .size, eq-eqb _ _ (z .bytes))
+
+    pub get-stopped : (r : Refusal) → get-call.descent i .walk .answer ≡ Refused r → record { number = numberOf r; at = i .at; map = i .map } ≡ get-call.outcome i
+    get-stopped r e = get-refused r (sym (get-checked ∙ ap (afterChecks Refused (unless (fillOk (i .src) (i .at) (get-call.count i)) (Refused Bits) Done)) e))
+
+    module _ (d : get-call.descent i .walk .answer ≡ Done) where
+      filled : (t : Bool) → fillOk (i .src) (i .at) (get-call.count i) ≡ t → get-call.check i ≡ unless t (Refused Bits) Done
+      filled t e = get-checked ∙ ap (afterChecks Refused (unless (fillOk (i .src) (i .at) (get-call.count i)) (Refused Bits) Done)) d ∙ ap (λ (b : Bool). unless b (Refused Bits) Done) e
+
+      -- a fill bit is not 0
+      pub get-unfilled : fillOk (i .src) (i .at) (get-call.count i) ≡ false → record { number = 16; at = i .at; map = i .map } ≡ get-call.outcome i
+      get-unfilled e = get-refused Bits (sym (filled false e))
+
+      pub get-done : (o : get-call.Outcome) → fillOk (i .src) (i .at) (get-call.count i) ≡ true → o ≡ get-call.done i → o ≡ get-call.outcome i
+      unfolding get-call.outcome
+      get-done o e f = f ∙ sym (ap (afterChecks (get-call.refused i) (get-call.done i)) (filled true e))
+
+    -- a position past the buffer: no digit is there
+    pub get-past : bitsIn (length (i .src)) < i .at → record { number = 16; at = i .at; map = i .map } ≡ get-call.outcome i
+    unfolding tabulateFrom
+    get-past l =
+        let s = sized _ _ (z .size) in
+        let e : bitsIn (length (i .src)) - startOf (i .at) ≡ 0 = omega arith in
+        let none : digitsFrom (i .src) (i .at) ≡ [] = ap (bitsFrom (i .src) (startOf (i .at))) e in
+        let some : 0 < roots (i .w / 4) (i .h / 4) = mul-pos {m = across (i .w / 4)} {n = across (i .h / 4)} (omega (arith, s .some-wide)) (omega (arith, s .some-high)) in
+        get-stopped Bits
+        (ap (λ (ds : List ℕ). upto (i .w / 4) (i .h / 4) ds (roots (i .w / 4) (i .h / 4)) .walk .answer) none
+        ∙ none-read (i .w / 4) (i .h / 4) (roots (i .w / 4) (i .h / 4)) (some-wide s) refl some)
