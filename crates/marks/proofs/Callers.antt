@@ -118,7 +118,7 @@ module _ (i : list-call.Input) (r : Marked) (o : List ℕ) (z : sizeOk (i .w) (i
   list-told = (
     read-done r (length l) (ap (λ (x : list-call.Outcome). x .reading) is-done),
     told-by l (tidy-mended (rootBytes (i .splits) (i .root)) (i .w / 4) (i .h / 4) 4 (rootX (i .w / 4) (i .root)) (rootY (i .w / 4) (i .root))) root-few (i .out) o room
-    (ap (λ (x : list-call.Outcome). x .out) is-done),
+        (ap (λ (x : list-call.Outcome). x .out) is-done),
   )
 
 module _ (i : take-call.Input) (r : Marked) (o : List ℕ) (z : sizeOk (i .w) (i .h) ≡ true) (room : length (i .out) ≡ 85) (inside : i .root < rootCount (i .w) (i .h))
@@ -143,8 +143,8 @@ module _ (i : take-call.Input) (r : Marked) (o : List ℕ) (z : sizeOk (i .w) (i
       let f = g ∙ ap (afterChecks (take-call.refused i) (take-call.done i)) (checked ∙ e) in (
         read-done r (length l′) (ap (λ (x : list-call.Outcome). x .reading) f),
         λ q.
-        told-by l′ (tidy-grown (i .w / 4) (i .h / 4) 4 (rootX (i .w / 4) (i .root)) (rootY (i .w / 4) (i .root)) (bitsFrom (i .src) (i .from) (i .to - i .from))) grown-few (i .out) o room
-        (ap (λ (x : list-call.Outcome). x .out) f),
+            told-by l′ (tidy-grown (i .w / 4) (i .h / 4) 4 (rootX (i .w / 4) (i .root)) (rootY (i .w / 4) (i .root)) (bitsFrom (i .src) (i .from) (i .to - i .from))) grown-few (i .out) o room
+            (ap (λ (x : list-call.Outcome). x .out) f),
       )
   by (Refused q) e =
       let f = g ∙ ap (afterChecks (take-call.refused i) (take-call.done i)) (checked ∙ e) in

@@ -1,3 +1,4 @@
+pub mod Again
 pub mod Writing
 pub mod Reading
 pub mod Zeros

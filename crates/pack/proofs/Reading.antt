@@ -86,7 +86,7 @@ module _ (w h : ℕ) (src : List ℕ) (from to : ℕ) where
         let u = upto w h bits i in
         let e = step ∙ then-done u (rootDescent w h i) (rootFrom i used) (a .done) root-is in
         let f : upto w h bits (suc i) .walk .answer ≡ Refused q =
-                ap (λ (z : Descent). z .walk .answer) e ∙ ap (λ (v : Walk). v .answer) (onward-done (u .walk .answer) (u .walk .list) (rootFrom i used .walk) (a .done)) ∙ d in
+        ap (λ (z : Descent). z .walk .answer) e ∙ ap (λ (v : Walk). v .answer) (onward-done (u .walk .answer) (u .walk .list) (rootFrom i used .walk) (a .done)) ∙ d in
         let j : suc i + (n - suc i) ≡ n = omega arith in
         ap (λ (k : ℕ). upto w h bits k .walk .answer) (sym j) ∙ ap (λ (z : Descent). z .walk .answer) (descents-stop (rootDescent w h) (suc i) (n - suc i) q bits f) ∙ f
 
@@ -113,8 +113,8 @@ none-read w h n p e l =
     let r : rootY w 0 < h = row-in w h 0 p (subst (λ (k : ℕ). 0 < k) e l) in
     let o : f 0 [] ≡ runOut = descend-none w h 3 (rootX w 0) (rootY w 0) c r in
     let a : descents f 1 [] .walk .answer ≡ Refused Bits =
-            ap (λ (z : Descent). z .walk .answer) (descents-more f 0 [] ∙ ap (λ (z : Descent). descendThen z (f 0)) (descents-none f []) ∙ then-done (grown nothing [] []) (f 0) runOut refl o)
-            ∙ ap (λ (v : Walk). v .answer) (onward-done Done [] (runOut .walk) refl) in
+    ap (λ (z : Descent). z .walk .answer) (descents-more f 0 [] ∙ ap (λ (z : Descent). descendThen z (f 0)) (descents-none f []) ∙ then-done (grown nothing [] []) (f 0) runOut refl o)
+    ∙ ap (λ (v : Walk). v .answer) (onward-done Done [] (runOut .walk) refl) in
     let j : 1 + (n - 1) ≡ n = omega arith in
     ap (λ (k : ℕ). upto w h [] k .walk .answer) (sym j) ∙ ap (λ (z : Descent). z .walk .answer) (descents-stop f 1 (n - 1) Bits [] a) ∙ a
 

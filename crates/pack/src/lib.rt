@@ -7,6 +7,7 @@ ghost use Rattle.laws.specs.Call.{Gives};
 ghost use Rattle.pack_rules.specs.GetCall as GetCall;
 ghost use Rattle.pack_rules.specs.PutCall as PutCall;
 ghost use Rattle.pack_rules.specs.Form.{bitsIn};
+ghost use Rattle.pack.specs.Held.{written, wrote, taken, passed};
 ghost use Rattle.pack.specs.Taken.{Accepted, Mapped, Span};
 use crate::read::fill_map;
 use crate::read::map_taken;
@@ -159,4 +160,61 @@ pub fn get_map(w: usize, h: usize, src: &[u8], at: usize, map: &mut [u8]) -> Pla
         };
     }
     get_taken(w, h, src, (at + 7) / 8 * 8, end, at, map)
+}
+
+// ---- a writer and a reader: a lent part of the buffer, and the position in it, in bits
+
+pub struct Writer<'a> {
+    pub buf: &'a mut [u8],
+    pub at: usize,
+}
+
+pub struct Reader<'a> {
+    pub src: &'a [u8],
+    pub at: usize,
+}
+
+// A writer at the start of a lent part.
+pub fn write_to<'a>(buf: &'a mut [u8]) -> Writer<'a>
+    ensures { λ r. ⌜ (r .buf ≡ buf .entry) × (r .at ≡ 0) ⌝ }
+{
+    Writer { buf: buf, at: 0 }
+}
+
+// A reader at the start of a lent part.
+pub fn read_from<'a>(src: &'a [u8]) -> Reader<'a>
+    ensures { λ r. ⌜ (r .src ≡ src .entry) × (r .at ≡ 0) ⌝ }
+{
+    Reader { src, at: 0 }
+}
+
+// A map is written, and the position moves on behind it; where it is refused, buffer and position are as they were.
+pub fn write_map<'s, 'a, 'b>(
+    writer: &'s mut Writer<'a>,
+    w: usize,
+    h: usize,
+    splits: &'b [u8],
+) -> Answer
+    ensures { λ r. ⌜ (answerNumber r ≡ written (now (writer .entry)) w h (now (splits .entry)) .number) × (now (writer .exit) ≡ wrote (now (writer .entry)) w h (now (splits .entry))) ⌝ }
+{
+    let at = writer.at;
+    let placed = put_map(w, h, splits, &mut *writer.buf, at);
+    writer.at = placed.at;
+    placed.answer
+}
+
+// A map is read, and the position moves on behind it; where it is refused, map and position are as they were.
+pub fn read_map<'s, 'a, 'b>(
+    reader: &'s mut Reader<'a>,
+    w: usize,
+    h: usize,
+    map: &'b mut [u8],
+) -> Answer
+    ensures { λ r. ⌜ (answerNumber r ≡ taken (now (reader .entry)) w h (now (map .entry)) .number) × (now (reader .exit) ≡ passed (now (reader .entry)) w h (now (map .entry))) × (now (map .exit) ≡ taken (now (reader .entry)) w h (now (map .entry)) .map) ⌝ }
+{
+    let src = reader.src;
+    let at = reader.at;
+    let placed = get_map(w, h, src, at, map);
+    reader.at = placed.at;
+    placed.answer
 }

@@ -46,8 +46,13 @@ unfolding blocksIn
 few c =
     let a = c .before .before .before .before .before .args in
     let z = c .before .before .before .before .before .pre .0 .size in
-    omega (arith, taken c .1, few-descents (rootDescent (a .w / 4) (a .h / 4)) 85 (λ j l. few-grown (a .w / 4) (a .h / 4) 4 (rootX (a .w / 4) j) (rootY (a .w / 4) j) l) (roots (a .w / 4) (a .h / 4)) (digitsFrom (a .src .now) (a .at)),
-    roots-units (sized _ _ z), few-of _ _ z)
+    omega (
+      arith,
+      taken c .1,
+      few-descents (rootDescent (a .w / 4) (a .h / 4)) 85 (λ j l. few-grown (a .w / 4) (a .h / 4) 4 (rootX (a .w / 4) j) (rootY (a .w / 4) j) l) (roots (a .w / 4) (a .h / 4)) (digitsFrom (a .src .now) (a .at)),
+      roots-units (sized _ _ z),
+      few-of _ _ z,
+    )
 
 -- the fill bits, as the code tests them
 tested : (c : tie.After-zeros-ok) → c .zeros-ok .result ≡ fillOk (c .before .before .before .before .before .before .before .args .src .now) (c .before .before .before .before .before .before .before .args .at) (get-call.count (input (c .before .before .before .before .before .before .before)))
@@ -61,9 +66,12 @@ returns c = get-unfilled (input (c .before .before .before .before .before .befo
 fill-map-requires : tie.Need-fill-map-requires
 fill-map-requires c κs =
     let s = c .before .before .before .before .before .before .before .before .before .pre .1 in
-    let a = c .before .before .before .before .before .before .before .before .before .args in
-    (c .before .before .before .before .before .before .before .before .before .pre .0, s .inside, s .near,
-    ap (λ (ds : List ℕ). upto (a .w / 4) (a .h / 4) ds (roots (a .w / 4) (a .h / 4)) .walk .answer) (same (c .before .before .before .before .before .before .before .before .before)) ∙ taken (c .before .before .before .before) .0)
+    let a = c .before .before .before .before .before .before .before .before .before .args in (
+      c .before .before .before .before .before .before .before .before .before .pre .0,
+      s .inside,
+      s .near,
+      ap (λ (ds : List ℕ). upto (a .w / 4) (a .h / 4) ds (roots (a .w / 4) (a .h / 4)) .walk .answer) (same (c .before .before .before .before .before .before .before .before .before)) ∙ taken (c .before .before .before .before) .0,
+    )
 
 returns-2 : tie.Need-returns-2
 returns-2 c = get-stopped (input (c .before .before .before .before .before .before)) (c .before .before .before .before .before .before .pre .0) _ (counted-refused _ _ _ (sym (c .before .r .given .1) ∙ told (c .before .before .before)))

@@ -37,11 +37,13 @@ place-in c =
 
 loop-again : tie.Need-loop-again Inv-loop μ-loop
 loop-again c =
-    let v = c .before .before .before .before .before .loop .inv in
-    (omega (arith, c .before .before .before .before .loop-test .taken), simp length-set (v .1),
-    ap₂ (set (c .before .before .before .before .before .loop .map)) (c .before .before .mark-place .ensures) (c .mark-byte .ensures)
-    ∙ ap (λ (z : List ℕ). set z (markFrom (getD (c .before .before .before .before .before .before .before .before .before .before .before .before .args .list .now) (c .before .before .before .before .before .loop .j) 0) .place) (markFrom (getD (c .before .before .before .before .before .before .before .before .before .before .before .before .args .list .now) (c .before .before .before .before .before .loop .j) 0) .byte)) (v .2)
-    ∙ fill-more (c .before .before .before .before .before .before .before .before .before .before .before .before .args .list .now) (replicate 1024 0) (c .before .before .before .before .before .loop .j) (in-list (c .before .before .before .before)))
+    let v = c .before .before .before .before .before .loop .inv in (
+      omega (arith, c .before .before .before .before .loop-test .taken),
+      simp length-set (v .1),
+      ap₂ (set (c .before .before .before .before .before .loop .map)) (c .before .before .mark-place .ensures) (c .mark-byte .ensures)
+          ∙ ap (λ (z : List ℕ). set z (markFrom (getD (c .before .before .before .before .before .before .before .before .before .before .before .before .args .list .now) (c .before .before .before .before .before .loop .j) 0) .place) (markFrom (getD (c .before .before .before .before .before .before .before .before .before .before .before .before .args .list .now) (c .before .before .before .before .before .loop .j) 0) .byte)) (v .2)
+          ∙ fill-more (c .before .before .before .before .before .before .before .before .before .before .before .before .args .list .now) (replicate 1024 0) (c .before .before .before .before .before .loop .j) (in-list (c .before .before .before .before)),
+    )
 
 returns : tie.Need-returns Inv-loop μ-loop
 returns c =

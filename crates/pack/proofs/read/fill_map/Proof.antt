@@ -78,12 +78,13 @@ loop-again : tie.Need-loop-again Inv-loop μ-loop
 loop-again c =
     let v = c .before .before .before .before .before .loop .inv in
     let l = c .before .before .before .before .before .loop in
-    let m = c .before .before .fill-root in
-    (omega (arith, c .before .before .before .before .loop-test .taken),
-    same-len-mid (1024 * l .i) (1024 * l .i + 1024 - 1024 * l .i) (l .map) (m .last .1 .1 .1 .1 .1 .1 .0) (m .kept .1 .1 .1 .1 .1 .1 .0) ∙ v .1,
-    next (c .before .before),
-    map-more _ _ _ (l .map) (m .last .1 .1 .1 .1 .1 .1 .0) (l .i) (1024 * l .i + 1024 - 1024 * l .i) (room (c .before .before .before .before)) (v .3)
-    (m .ensures .1 ∙ ap (λ (d : Descent). putAll (d .marks) (replicate 1024 0)) (sym (root-is _ _ _ _ _ (v .2)))))
+    let m = c .before .before .fill-root in (
+      omega (arith, c .before .before .before .before .loop-test .taken),
+      same-len-mid (1024 * l .i) (1024 * l .i + 1024 - 1024 * l .i) (l .map) (m .last .1 .1 .1 .1 .1 .1 .0) (m .kept .1 .1 .1 .1 .1 .1 .0) ∙ v .1,
+      next (c .before .before),
+      map-more _ _ _ (l .map) (m .last .1 .1 .1 .1 .1 .1 .0) (l .i) (1024 * l .i + 1024 - 1024 * l .i) (room (c .before .before .before .before)) (v .3)
+          (m .ensures .1 ∙ ap (λ (d : Descent). putAll (d .marks) (replicate 1024 0)) (sym (root-is _ _ _ _ _ (v .2)))),
+    )
 
 returns : tie.Need-returns Inv-loop μ-loop
 returns c =

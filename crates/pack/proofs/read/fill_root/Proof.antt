@@ -42,9 +42,11 @@ returns c = not-both _ _ _ (told (c .before .before .before .before) .0) (c .bef
 returns-2 : tie.Need-returns-2
 returns-2 c =
     let n = count (c .before .before .before .before .before .before) in
-    let t = told (c .before .before .before .before .before .before .before .before .before) .1 in
-    (n, c .before .before .fill-list .ensures
-    ∙ ap (λ (z : List Mark). putAll z (replicate 1024 0)) (ap (marksIn (c .before .before .before .before .before .before .before .before .before .take-marks .last .1 .1 .1 .1 .1 .1 .0)) n ∙ t .back))
+    let t = told (c .before .before .before .before .before .before .before .before .before) .1 in (
+      n,
+      c .before .before .fill-list .ensures
+          ∙ ap (λ (z : List Mark). putAll z (replicate 1024 0)) (ap (marksIn (c .before .before .before .before .before .before .before .before .before .take-marks .last .1 .1 .1 .1 .1 .1 .0)) n ∙ t .back),
+    )
 
 pub fill-root-spec : {M : Type 1} → statement M
 fill-root-spec =

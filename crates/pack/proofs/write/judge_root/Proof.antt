@@ -53,9 +53,10 @@ returns-2 c = sym (wrong-there (c .before) ∙ ap Refused (past _ (subst (λ (b 
   past b l = rw (le-ltb 1 b l)
 
 loop-again : tie.Need-loop-again Inv-loop μ-loop
-loop-again c =
-    (omega (arith, c .before .before .before .before .before .before .loop-test .taken),
-    judge-more _ _ _ (c .before .before .before .before .before .before .before .loop .inv .1) (in-list (c .before .before .before .before .before .before)) (sym (stands (c .before .before .before .before)) ∙ c .if1 .left ∙ c .before .mark-byte .ensures))
+loop-again c = (
+  omega (arith, c .before .before .before .before .before .before .loop-test .taken),
+  judge-more _ _ _ (c .before .before .before .before .before .before .before .loop .inv .1) (in-list (c .before .before .before .before .before .before)) (sym (stands (c .before .before .before .before)) ∙ c .if1 .left ∙ c .before .mark-byte .ensures),
+)
 
 returns-3 : tie.Need-returns-3 Inv-loop μ-loop
 returns-3 c =

@@ -71,9 +71,12 @@ add-used c =
 loop-again : tie.Need-loop-again Inv-loop μ-loop
 loop-again c =
     let v = c .before .before .before .before .before .loop .inv in
-    let m = c .before .before .put-root in
-    (omega (arith, c .before .before .before .before .loop-test .taken), m .kept .1 .1 .1 .1 .0 ∙ v .1, used-next (c .before .before),
-    put-next _ _ _ _ (inside-units (c .before .before .before .before)) _ _ _ _ _ _ (v .2) (m .ensures .0) (v .3) (m .ensures .1))
+    let m = c .before .before .put-root in (
+      omega (arith, c .before .before .before .before .loop-test .taken),
+      m .kept .1 .1 .1 .1 .0 ∙ v .1,
+      used-next (c .before .before),
+      put-next _ _ _ _ (inside-units (c .before .before .before .before)) _ _ _ _ _ _ (v .2) (m .ensures .0) (v .3) (m .ensures .1),
+    )
 
 returns : tie.Need-returns Inv-loop μ-loop
 returns c =

@@ -23,10 +23,11 @@ loop-again c =
     let a = c .before .before .before .before .before .before .before .before .before .before .args in
     let j = c .before .before .before .before .before .before .before .loop .j in
     let b = getD (a .list .now) j 0 % 2 in
-    let q : b % 2 ≡ b = omega arith in
-    (omega (arith, c .before .before .before .before .before .before .loop-test .taken),
-    ap length e ∙ length-bit _ _ _ ∙ v .1,
-    e ∙ rw (c .before .before .before .mark-byte .ensures, v .2, q) (with-more (a .buf .now) (a .at) (λ (i : ℕ). getD (a .list .now) i 0 % 2) j))
+    let q : b % 2 ≡ b = omega arith in (
+      omega (arith, c .before .before .before .before .before .before .loop-test .taken),
+      ap length e ∙ length-bit _ _ _ ∙ v .1,
+      e ∙ rw (c .before .before .before .mark-byte .ensures, v .2, q) (with-more (a .buf .now) (a .at) (λ (i : ℕ). getD (a .list .now) i 0 % 2) j),
+    )
 
 returns : tie.Need-returns Inv-loop μ-loop
 returns c =

@@ -38,10 +38,11 @@ returns-2 : tie.Need-returns-2
 returns-2 c =
     let a = c .before .before .before .before .before .before .before .before .before .before .before .before .before .args in
     let d = c .before .before .before .before .before .before .before .before .before .before .before .before .before .pre .2 in
-    let n = count (c .before .before .before .before .before .before) in
-    (n ∙ sym (own-long (a .w) (a .h) (a .splits .now) (a .i) d),
-    c .before .before .put-list .ensures
-    ∙ with-same _ (a .at) _ _ _ (λ k l. own-bit (a .w) (a .h) (a .splits .now) (a .i) (told (c .before .before .before .before .before .before .before .before .before) .1) d k (subst (λ (m : ℕ). k < m) n l)))
+    let n = count (c .before .before .before .before .before .before) in (
+      n ∙ sym (own-long (a .w) (a .h) (a .splits .now) (a .i) d),
+      c .before .before .put-list .ensures
+          ∙ with-same _ (a .at) _ _ _ (λ k l. own-bit (a .w) (a .h) (a .splits .now) (a .i) (told (c .before .before .before .before .before .before .before .before .before) .1) d k (subst (λ (m : ℕ). k < m) n l)),
+    )
 
 pub put-root-spec : {M : Type 1} → statement M
 put-root-spec =

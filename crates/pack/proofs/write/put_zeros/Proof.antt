@@ -29,11 +29,13 @@ loop-again c =
     let a = c .before .before .before .before .before .before .before .args in
     let at = c .before .before .before .before .before .loop .at in
     let q : at ≡ a .from + (at - a .from) = omega (arith, v .0) in
-    let r : at + 1 - a .from ≡ at - a .from + 1 = omega (arith, v .0) in
-    (omega (arith, v .0), omega (arith, v .0, l),
-    ap length e ∙ length-bit _ _ _ ∙ v .2,
-    e ∙ ap (λ (z : List ℕ). withBit z at 0) (v .3) ∙ ap (λ (k : ℕ). withBit (withBits (a .buf .now) (a .from) (λ (i : ℕ). 0) (at - a .from)) k 0) q
-    ∙ with-more (a .buf .now) (a .from) (λ (i : ℕ). 0) (at - a .from) ∙ ap (withBits (a .buf .now) (a .from) (λ (i : ℕ). 0)) (sym r))
+    let r : at + 1 - a .from ≡ at - a .from + 1 = omega (arith, v .0) in (
+      omega (arith, v .0),
+      omega (arith, v .0, l),
+      ap length e ∙ length-bit _ _ _ ∙ v .2,
+      e ∙ ap (λ (z : List ℕ). withBit z at 0) (v .3) ∙ ap (λ (k : ℕ). withBit (withBits (a .buf .now) (a .from) (λ (i : ℕ). 0) (at - a .from)) k 0) q
+          ∙ with-more (a .buf .now) (a .from) (λ (i : ℕ). 0) (at - a .from) ∙ ap (withBits (a .buf .now) (a .from) (λ (i : ℕ). 0)) (sym r),
+    )
 
 returns : tie.Need-returns Inv-loop μ-loop
 returns c =
