@@ -1,3 +1,4 @@
 pub mod Form
 pub mod GetCall
+pub mod Kept
 pub mod PutCall
