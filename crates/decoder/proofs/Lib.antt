@@ -5,4 +5,5 @@ pub mod Promises
 pub mod Refusing
 pub mod Settled
 pub mod Streams
+pub mod Taking
 pub mod Values

@@ -2,20 +2,21 @@
 --     NAME-once        over the contract as the checker reads it from the source: the arguments determine the answer and every slice that the call may write
 --     NAME-refusals    the refusals that the call gives, in the order of its ladder, each with an input that meets it; of a call that gives none, nothing
 -- The answer is determined, and not its reading alone, because each reading tells all answers apart: `answer-apart` (def), `reading-apart` (avail, df,
--- sheet_lines, sheet), `rank-apart` (rank), `leaves-apart`, `list-apart` (split), and `number-apart` (def) of the refusals.
+-- sheet_lines, sheet), `rank-apart` (rank), `leaves-apart`, `list-apart` (split), `marks-apart` (marks), `placed-apart` (pack), and `number-apart` (def).
 -- Assumes nothing.
-use Prim.Native.Nat.{ℕ, _+_, _*_, _/_}
+use Prim.Native.Nat.{ℕ, _+_, _-_, _*_, _/_}
 use mathlib.Core.Logic.{inl, inr}
-use mathlib.Core.Path.{refl, sym, _∙_}
+use mathlib.Core.Path.{_≡_, refl, sym, _∙_}
 use mathlib.Core.Bool.{true, false, not, _||_}
 use mathlib.Core.List.{List, [], _∷_, _++_, map}
-use denote.Ref.{now, ptr}
+use denote.Ref.{RefT, now, ptr}
 use lib.Dec.{ltb, leb, eqb}
 use lib.IntN.{ℤ, pos}
 use lib.ListN.{length, replicate}
 use Rattle.laws.proofs.Calls.{one-outcome}
 use Rattle.laws.specs.Bits.{fieldOf}
 use Rattle.laws.specs.Call.{allOf}
+use Rattle.laws.specs.Index.{tabulateFrom}
 use Rattle.laws.specs.Orders.{run}
 use Rattle.laws.specs.Scan.{allBelow}
 use Rattle.def.specs.Answers.{answerNumber, afterChecks}
@@ -24,8 +25,9 @@ use Rattle.def.specs.Components.{scaleOf, planeLength}
 use Rattle.def.specs.Picture.{sizeOk, unitCount, rootCount}
 use Rattle.def.specs.Refusals.{numberOf}
 use Rattle.def.specs.Word.{flagAt}
+use Rattle.def.specs.declared.Answer.{Answer}
 use Rattle.def.specs.declared.Refusal.{Refusal}
-use Rattle.def.specs.declared.Refusal.the-variants.{Size, Length, Setting, Split, Leaf, Qp, Sample, Block, Mode, Points as BadPoints, Pivot, Sheet, Record, Band, Old}
+use Rattle.def.specs.declared.Refusal.the-variants.{Size, Length, Setting, Split, Leaf, Qp, Sample, Block, Mode, Points as BadPoints, Pivot, Sheet, Record, Band, Bits, Old}
 use Rattle.def.specs.declared.Component.the-variants.{Luma}
 use Rattle.def.proofs.Answers.{answer-apart}
 use Rattle.samples.specs.Samples.{samplesOk}
@@ -57,6 +59,19 @@ use Rattle.split.specs.RootCall as root-list
 use Rattle.split.specs.Walk.{onward, inTurn, leafWalk, byByte, walk}
 use Rattle.split.proofs.Apart.{leaves-apart, list-apart}
 use Rattle.df_check.specs.BandCheck as band-checks
+use Rattle.bits.specs.Bits.{bitAt, bitsFrom}
+use Rattle.marks.specs.ListCall as marked
+use Rattle.marks.specs.TakeCall as marked-by
+use Rattle.marks.proofs.Apart.{marks-apart}
+use Rattle.marks_rules.specs.Descent.{descendOn, descents as descentsBy, descend as descendBy}
+use Rattle.marks_rules.specs.Marks.{marks, digits}
+use Rattle.marks_rules.specs.Pictures.{joined}
+use Rattle.pack.proofs.Apart.{readingOf as placedReading, placed-apart, Wrote, write-sole, Read, read-sole}
+use Rattle.pack.specs.declared.Reader.{Reader}
+use Rattle.pack.specs.declared.Writer.{Writer}
+use Rattle.pack_rules.specs.Form as compact
+use Rattle.pack_rules.specs.GetCall as get-map
+use Rattle.pack_rules.specs.PutCall as put-map
 use Rattle.df_check.specs.Checks as checks
 use Rattle.df_check.specs.Rows.{bandRows}
 use Rattle.df.specs.Band as band
@@ -74,6 +89,7 @@ use Rattle.sheet.proofs.Outcomes.{reading-apart as printed-apart}
 use Rattle.decoder.specs.Promise.{ended, Sole, Refuses, refusalIn}
 use Rattle.decoder.proofs.Settled.{told, settled}
 use Rattle.decoder.proofs.Refusing.{Stops, last, rung, again, walk-rung, by-checks, root-stops, picture-stops, line-said, sheet-rung, digits-said}
+use Rattle.decoder.proofs.Taking.{bits-rung, root-takes, picture-takes}
 use Rattle.decoder.proofs.checked_points.Kinds as checked-points-kinds
 use Rattle.decoder.proofs.checked_points.Reads as checked-points-reads
 use Rattle.decoder.proofs.derived_chroma_qp_mapping_tables.Kinds as tables-kinds
@@ -110,6 +126,14 @@ use Rattle.df.proofs.band.Bands.deblock_band.Kinds as deblock-band-kinds
 use Rattle.df.proofs.band.Bands.deblock_band.Reads as deblock-band-reads
 use Rattle.decoder.proofs.checked_band.Kinds as checked-band-kinds
 use Rattle.decoder.proofs.checked_band.Reads as checked-band-reads
+use Rattle.decoder.proofs.list_marks.Kinds as list-marks-kinds
+use Rattle.decoder.proofs.list_marks.Reads as list-marks-reads
+use Rattle.decoder.proofs.take_marks.Kinds as take-marks-kinds
+use Rattle.decoder.proofs.take_marks.Reads as take-marks-reads
+use Rattle.decoder.proofs.put_map.Kinds as put-map-kinds
+use Rattle.decoder.proofs.put_map.Reads as put-map-reads
+use Rattle.decoder.proofs.get_map.Kinds as get-map-kinds
+use Rattle.decoder.proofs.get_map.Reads as get-map-reads
 use Rattle.decoder.proofs.deblock.Kinds as deblock-kinds
 use Rattle.decoder.proofs.deblock.Reads as deblock-reads
 use Rattle.decoder.proofs.checked_leaves.Kinds as checked-leaves-kinds
@@ -512,6 +536,109 @@ reconstruct-refusals =
 pub checked-leaves-refusals : Refuses driver.check answerNumber by-driver
 unfolding driver.checkOf driver.readOk driver.writtenOk driver.dataCheck driver.recordsOk driver.lentOk bytesOk sizeOk leavesOf walk byByte inTurn onward leafWalk run samplesOk allBelow flagAt fieldOf
 checked-leaves-refusals = record { only = λ i. driver-stops i .by; shown = drivings; given = refl }
+
+-- ---- marks, and the compact form of a split map
+
+pub list-marks-once : Sole 2 list-marks-kinds.ps list-marks-kinds.r list-marks-reads.Post (λ κs r x. ended r (now (x .1 .1 .1 .1 .0) ∷ []))
+list-marks-once κs a r r′ x x′ p q = settled marked.outcome (λ o. o .reading) (λ o. o .out ∷ []) p q (marks-apart r r′)
+
+abbrev marking : ℕ → List ℕ → ℕ → marked.Input
+marking w splits i = record { w = w; h = 4; splits = splits; root = i; out = replicate 85 0 }
+
+pub list-marks-refusals : Refuses marked.outcome (λ o. o .reading .number) (Size ∷ Length ∷ Block ∷ [])
+unfolding marked.outcome marked.check marked.lengthsOk sizeOk
+list-marks-refusals =
+    record {
+      only = λ i.
+          by-checks (λ o. o .reading .number) (marked.refused i) (marked.done i) (Size ∷ Length ∷ Block ∷ []) (marked.check i) (λ r. refl) refl
+          (rung (sizeOk (i .w) (i .h)) Size _
+          (rung (marked.lengthsOk (i .w) (i .h) (length (i .splits)) (length (i .out))) Length _
+          (rung (ltb (i .root) (rootCount (i .w) (i .h))) Block _ last)));
+      shown = marking 0 [] 0 ∷ marking 4 [] 0 ∷ marking 4 (root 0) 1 ∷ [];
+      given = refl;
+    }
+
+pub take-marks-once : Sole 2 take-marks-kinds.ps take-marks-kinds.r take-marks-reads.Post (λ κs r x. ended r (now (x .1 .1 .1 .1 .1 .1 .0) ∷ []))
+take-marks-once κs a r r′ x x′ p q = settled marked-by.outcome (λ o. o .reading) (λ o. o .out ∷ []) p q (marks-apart r r′)
+
+-- the bits of a byte
+abbrev taking : ℕ → ℕ → ℕ → ℕ → marked-by.Input
+taking w byte to i = record { w = w; h = 4; src = byte ∷ []; from = 0; to = to; root = i; out = replicate 85 0 }
+
+take-stops : (i : marked-by.Input) → Stops (Size ∷ Length ∷ Block ∷ Bits ∷ Leaf ∷ []) (marked-by.check i)
+unfolding marked-by.check
+take-stops i =
+    rung (sizeOk (i .w) (i .h)) Size _
+    (rung (eqb (length (i .out)) 85) Length _
+    (rung (ltb (i .root) (rootCount (i .w) (i .h))) Block _
+    (root-takes (i .w / 4) (i .h / 4) (i .root) (bitsFrom (i .src) (i .from) (i .to - i .from)))))
+
+pub take-marks-refusals : Refuses marked-by.outcome (λ o. o .reading .number) (Size ∷ Length ∷ Block ∷ Bits ∷ Leaf ∷ [])
+unfolding marked-by.outcome marked-by.check sizeOk descendBy descentsBy descendOn byByte inTurn onward leafWalk bitAt fieldOf tabulateFrom
+take-marks-refusals =
+    record {
+      only = λ i.
+          by-checks (λ o. o .reading .number) (marked-by.refused i) (marked-by.done i) (Size ∷ Length ∷ Block ∷ Bits ∷ Leaf ∷ []) (marked-by.check i) (λ r. refl) refl (take-stops i);
+      shown = taking 0 0 8 0 ∷ record { w = 4; h = 4; src = []; from = 0; to = 0; root = 0; out = [] } ∷ taking 4 0 8 1 ∷ taking 4 0 0 0 ∷ taking 4 0 8 0 ∷ [];
+      given = refl;
+    }
+
+pub put-map-once : Sole 2 put-map-kinds.ps put-map-kinds.r put-map-reads.Post (λ κs r x. ended r (now (x .1 .1 .1 .0) ∷ []))
+put-map-once κs a r r′ x x′ p q = settled put-map.outcome (λ o. record { number = o .number; at = o .at }) (λ o. o .buf ∷ []) p q (placed-apart r r′)
+
+abbrev putting : ℕ → List ℕ → put-map.Input
+putting w splits = record { w = w; h = 4; splits = splits; buf = []; at = 0 }
+
+pub put-map-refusals : Refuses put-map.outcome (λ o. o .number) (Size ∷ Length ∷ Split ∷ Leaf ∷ Bits ∷ [])
+unfolding put-map.outcome put-map.check compact.roomOk sizeOk walk byByte inTurn onward leafWalk marks digits joined
+put-map-refusals =
+    record {
+      only = λ i.
+          by-checks (λ o. o .number) (put-map.refused i) (put-map.done i) (Size ∷ Length ∷ Split ∷ Leaf ∷ Bits ∷ []) (put-map.check i) (λ r. refl) refl
+          (rung (sizeOk (i .w) (i .h)) Size _
+          (rung (eqb (length (i .splits)) (1024 * rootCount (i .w) (i .h))) Length _
+          (walk-rung (Bits ∷ []) _ _ (picture-stops (i .splits) (i .w / 4) (i .h / 4))
+          (rung (compact.roomOk (length (i .buf)) (i .at) (length (put-map.digits i))) Bits _ last))));
+      shown = putting 0 [] ∷ putting 4 [] ∷ putting 4 (root 2) ∷ putting 4 (root 0) ∷ putting 4 (root 1) ∷ [];
+      given = refl;
+    }
+
+pub get-map-once : Sole 2 get-map-kinds.ps get-map-kinds.r get-map-reads.Post (λ κs r x. ended r (now (x .1 .1 .1 .1 .0) ∷ []))
+get-map-once κs a r r′ x x′ p q = settled get-map.outcome (λ o. record { number = o .number; at = o .at }) (λ o. o .map ∷ []) p q (placed-apart r r′)
+
+abbrev getting : ℕ → List ℕ → List ℕ → get-map.Input
+getting w src map = record { w = w; h = 4; src = src; at = 0; map = map }
+
+get-stops : (i : get-map.Input) → Stops (Size ∷ Length ∷ Bits ∷ Leaf ∷ Bits ∷ []) (get-map.check i)
+unfolding get-map.check
+get-stops i =
+    rung (sizeOk (i .w) (i .h)) Size _
+    (rung (eqb (length (i .map)) (1024 * rootCount (i .w) (i .h))) Length _
+    (bits-rung (Bits ∷ []) _ _ (picture-takes (i .w / 4) (i .h / 4) (compact.digitsFrom (i .src) (i .at)))
+    (rung (compact.fillOk (i .src) (i .at) (get-map.count i)) Bits _ last)))
+
+pub get-map-refusals : Refuses get-map.outcome (λ o. o .number) (Size ∷ Length ∷ Bits ∷ Leaf ∷ Bits ∷ [])
+unfolding get-map.outcome get-map.check compact.zerosOk sizeOk descendBy descentsBy descendOn byByte inTurn onward leafWalk bitAt fieldOf tabulateFrom allBelow
+get-map-refusals =
+    record {
+      only = λ i.
+          by-checks (λ o. o .number) (get-map.refused i) (get-map.done i) (Size ∷ Length ∷ Bits ∷ Leaf ∷ Bits ∷ []) (get-map.check i) (λ r. refl) refl (get-stops i);
+      shown = getting 0 [] [] ∷ getting 4 [] [] ∷ getting 4 [] (root 0) ∷ getting 4 (0 ∷ []) (root 0) ∷ getting 4 (255 ∷ []) (root 0) ∷ [];
+      given = refl;
+    }
+
+-- a writer and a reader come from no table of the checker: these are over the contract's own words
+pub write-map-once : (i : Writer) (w h : ℕ) (s : List ℕ) (r r′ : Answer) (x x′ : Writer) → Wrote i w h s r x → Wrote i w h s r′ x′ → (r ≡ r′) × (x ≡ x′)
+write-map-once = write-sole
+
+pub read-map-once : (i : Reader) (w h : ℕ) (map : List ℕ) (r r′ : Answer) (x x′ : Reader) (m m′ : List ℕ) → Read i w h map r x m → Read i w h map r′ x′ m′ → (r ≡ r′) × (x ≡ x′) × (m ≡ m′)
+read-map-once = read-sole
+
+pub write-to-once : (b : RefT (List ℕ)) (x x′ : Writer) → (x .buf ≡ b) × (x .at ≡ 0) → (x′ .buf ≡ b) × (x′ .at ≡ 0) → x ≡ x′
+write-to-once b x x′ p q i = record { buf = (p .0 ∙ sym (q .0)) i; at = (p .1 ∙ sym (q .1)) i }
+
+pub read-from-once : (s : RefT (List ℕ)) (x x′ : Reader) → (x .src ≡ s) × (x .at ≡ 0) → (x′ .src ≡ s) × (x′ .at ≡ 0) → x ≡ x′
+read-from-once s x x′ p q i = record { src = (p .0 ∙ sym (q .0)) i; at = (p .1 ∙ sym (q .1)) i }
 
 -- ---- deblocking
 

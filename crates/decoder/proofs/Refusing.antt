@@ -162,7 +162,7 @@ pub picture-stops : (s : List ℕ) (w h : ℕ) → Stops byWalk (pictureWalk s w
 picture-stops s w h = turns byWalk (rootWalk s w h) (λ i. record { by = root-stops s w h i }) (roots w h) .by
 
 -- a number of some refusals is one of more
-longer : (l rs : List Refusal) (n : ℕ) → OneOf l n → OneOf (l ++ rs) n
+pub longer : (l rs : List Refusal) (n : ℕ) → OneOf l n → OneOf (l ++ rs) n
 longer [] rs n e = subst (OneOf rs) (sym e) (zeroth rs)
 longer (r ∷ l) rs n (inl e) = inl e
 longer (r ∷ l) rs n (inr p) = inr (longer l rs n p)

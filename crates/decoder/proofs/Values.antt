@@ -3,6 +3,7 @@
 -- Assumes nothing.
 use Prim.Native.Nat.{ℕ}
 use mathlib.Core.Path.{sym, ap, _∙_}
+use denote.Ref.{now}
 use lib.IntN.{natAbs}
 use Rattle.chroma_qp_check.proofs.Offsets.{qp-apart}
 use Rattle.decoder.specs.Promise.{Sole}
@@ -40,6 +41,16 @@ use Rattle.decoder.proofs.answer_number.Kinds as answer-number-kinds
 use Rattle.decoder.proofs.answer_number.Reads as answer-number-reads
 use Rattle.decoder.proofs.samples_ok.Kinds as samples-ok-kinds
 use Rattle.decoder.proofs.samples_ok.Reads as samples-ok-reads
+use Rattle.decoder.proofs.get_bit.Kinds as get-bit-kinds
+use Rattle.decoder.proofs.get_bit.Reads as get-bit-reads
+use Rattle.decoder.proofs.mark_place.Kinds as mark-place-kinds
+use Rattle.decoder.proofs.mark_place.Reads as mark-place-reads
+use Rattle.decoder.proofs.mark_byte.Kinds as mark-byte-kinds
+use Rattle.decoder.proofs.mark_byte.Reads as mark-byte-reads
+use Rattle.decoder.proofs.root_count.Kinds as root-count-kinds
+use Rattle.decoder.proofs.root_count.Reads as root-count-reads
+use Rattle.decoder.proofs.put_bit.Kinds as put-bit-kinds
+use Rattle.decoder.proofs.put_bit.Reads as put-bit-reads
 use Rattle.decoder.proofs.start_qp.Kinds as start-qp-kinds
 use Rattle.decoder.proofs.start_qp.Reads as start-qp-reads
 use Rattle.decoder.proofs.delta_in.Kinds as delta-in-kinds
@@ -171,3 +182,21 @@ entries-once κs a r r′ x x′ p q = p ∙ sym q
 
 pub motion-row-once : Sole 0 motion-row-kinds.ps motion-row-kinds.r motion-row-reads.Post (λ κs r x. r)
 motion-row-once κs a r r′ x x′ p q = p .0 ∙ sym (q .0)
+
+-- ---- bits and marks
+
+pub get-bit-once : Sole 1 get-bit-kinds.ps get-bit-kinds.r get-bit-reads.Post (λ κs r x. r)
+get-bit-once κs a r r′ x x′ p q = p ∙ sym q
+
+pub mark-place-once : Sole 0 mark-place-kinds.ps mark-place-kinds.r mark-place-reads.Post (λ κs r x. r)
+mark-place-once κs a r r′ x x′ p q = p ∙ sym q
+
+pub mark-byte-once : Sole 0 mark-byte-kinds.ps mark-byte-kinds.r mark-byte-reads.Post (λ κs r x. r)
+mark-byte-once κs a r r′ x x′ p q = p ∙ sym q
+
+pub root-count-once : Sole 0 root-count-kinds.ps root-count-kinds.r root-count-reads.Post (λ κs r x. r)
+root-count-once κs a r r′ x x′ p q = p ∙ sym q
+
+-- it answers nothing, and the slice is determined
+pub put-bit-once : Sole 1 put-bit-kinds.ps put-bit-kinds.r put-bit-reads.Post (λ κs r x. now (x .0))
+put-bit-once κs a r r′ x x′ p q = p ∙ sym q

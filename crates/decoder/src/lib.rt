@@ -8,14 +8,17 @@
 //     5 five modes      ipred_b
 //     6 residual        recon, recon_plane
 //     7 driver          reconstruct; checked_leaves, coded_y, coded_u, coded_v, mode_of, word_of
-//     8 walk            leaves, check, visiting_rank, list_edges, root_list
+//     8 walk            leaves, check, visiting_rank, list_edges, root_list; list_marks, take_marks, mark_place, mark_byte, root_count
 //       deblocking      deblock; Bands::first, deblock_band; checked, checked_band, band_rows, rows_above, entries, mask_of, line, lanes, motion_row
 //     the sheet         read, listing
+//     the compact map   put_map, get_map; write_to, write_map, read_from, read_map; get_bit, put_bit
 //     streams           read_header, write_header, read_frame, write_frame, import_frame
 pub use avail::Avail;
 pub use avail::Neighbours;
 pub use avail::get_avail_inter;
 pub use avail::get_avail_intra;
+pub use bits::get_bit;
+pub use bits::put_bit;
 pub use chroma_qp::derived_chroma_qp_mapping_tables;
 pub use chroma_qp_check::checked_points;
 pub use chroma_qp_check::delta_in;
@@ -69,9 +72,24 @@ pub use line::Quad;
 pub use line::line;
 pub use line::mask_of;
 pub use line::motion_row;
+pub use marks::Marked;
+pub use marks::list_marks;
+pub use marks::mark_byte;
+pub use marks::mark_place;
+pub use marks::root_count;
+pub use marks::take_marks;
 pub use mpm::get_mpm;
 pub use mpm::get_mpm_number;
 pub use nbr::get_nbr;
+pub use pack::Placed;
+pub use pack::Reader;
+pub use pack::Writer;
+pub use pack::get_map;
+pub use pack::put_map;
+pub use pack::read_from;
+pub use pack::read_map;
+pub use pack::write_map;
+pub use pack::write_to;
 pub use rank::Rank;
 pub use rank::visiting_rank;
 pub use recon::recon;

@@ -6,6 +6,7 @@ use def::Component;
 
 mod blocks;
 mod chroma;
+mod compact;
 mod deblock;
 mod neighbours;
 mod reconstruct;

@@ -1,5 +1,6 @@
 pub mod Again
-pub mod Writing
-pub mod Reading
-pub mod Zeros
+pub mod Apart
 pub mod Calls
+pub mod Reading
+pub mod Writing
+pub mod Zeros

@@ -50,6 +50,9 @@ fn meaning(number: u8) {
         11 => words(b"a pivot outside -12 to 57"),
         12 => words(b"a malformed sheet"),
         13 => words(b"a leaf record, or the length of the leaf or residual list"),
+        16 => words(
+            b"the bits of a split map: too few, one set behind the last, or too little room",
+        ),
         17 => words(b"a malformed header or frame line"),
         18 => words(b"a stream that ends before its frame does"),
         _ => words(b"refused"),

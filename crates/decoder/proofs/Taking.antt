@@ -1,0 +1,86 @@
+-- What a map by its bits is refused for: bits that run out, or a leaf.
+--     root-takes, picture-takes    a root, and a picture
+--     bits-rung    a descent among the rungs: its refusals, above those of what comes after it
+-- Assumes nothing.
+use Prim.Native.Nat.{ℕ, zero, suc, _+_, _^_, _<_}
+use mathlib.Core.Path.{_≡_, refl, sym, ap, subst}
+use mathlib.Core.Bool.{Bool, true, false}
+use mathlib.Core.List.{List, [], _∷_, _++_}
+use mathlib.Core.Logic.{inl, inr}
+use lib.Dec.{leb}
+use Rattle.laws.specs.Call.{unless}
+use Rattle.def.specs.Answers.{answerNumber, afterChecks}
+use Rattle.def.specs.Refusals.{numberOf}
+use Rattle.def.specs.declared.Refusal.{Refusal}
+use Rattle.def.specs.declared.Refusal.the-variants.{Leaf as PastPicture, Bits}
+use Rattle.def.specs.declared.Answer.{Answer}
+use Rattle.def.specs.declared.Answer.the-variants.{Done, Refused}
+use Rattle.split.specs.Picture.{roots, rootX, rootY}
+use Rattle.split.specs.Walk.{Walk, met, leaf, leafWalk}
+use Rattle.split.proofs.Walks.{onward-done}
+use Rattle.marks_rules.specs.Descent.{Descent, descendOn, descendThen, descents, runOut, descend, rootDescent}
+use Rattle.marks_rules.specs.Pictures.{upto}
+use Rattle.marks_rules.proofs.Blocks.{partX, partY, by-start}
+use Rattle.marks_rules.proofs.Descents.{partOf, descend-x, descend-y, descend-none, descend-leaf, descend-cut, descend-bad, unit-quiet}
+use Rattle.decoder.specs.Promise.{OneOf}
+use Rattle.decoder.proofs.Refusing.{Stops, zeroth, longer}
+
+abbrev pub byBits : List Refusal
+byBits = Bits ∷ PastPicture ∷ []
+
+record Ends (d : Descent) : Type 0 where
+  by : Stops byBits (d .walk .answer)
+
+done : {d : Descent} → d .walk .answer ≡ Done → Ends d
+done e = record { by = record { by = subst (λ (a : Answer). OneOf byBits (answerNumber a)) (sym e) (zeroth byBits) } }
+
+ends-as : {a b : Descent} → a ≡ b → Ends b → Ends a
+ends-as e p = subst Ends (sym e) p
+
+out : Ends runOut
+out = record { by = record { by = inl refl } }
+
+leaf-stops : (w h n x y : ℕ) → Stops byBits (leafWalk w h n x y .answer)
+unfolding leafWalk
+leaf-stops w h n x y = by (leb (x + n) w) (leb (y + n) h) where
+  by : (a b : Bool) → Stops byBits (unless a (met [] (Refused PastPicture)) (unless b (met [] (Refused PastPicture)) (met (leaf x y n ∷ []) Done)) .answer)
+  by true true = record { by = zeroth byBits }
+  by true false = record { by = inr (inl refl) }
+  by false b = record { by = inr (inl refl) }
+
+then-ends : (a : Descent) (g : List ℕ → Descent) → Ends a → ((l : List ℕ) → Ends (g l)) → Ends (descendThen a g)
+unfolding descendOn
+then-ends a g p q = by (a .walk .answer) refl where
+  by : (z : Answer) → a .walk .answer ≡ z → Ends (descendOn z a g)
+  by Done e =
+      let b = g (a .left) in
+      record { by = subst (Stops byBits) (sym (ap (λ (v : Walk). v .answer) (onward-done (a .walk .answer) (a .walk .list) (b .walk) e))) (q (a .left) .by) }
+  by (Refused r) e = p
+
+all-end : (f : ℕ → List ℕ → Descent) → ((i : ℕ) (l : List ℕ) → Ends (f i l)) → (n : ℕ) (ds : List ℕ) → Ends (descents f n ds)
+unfolding descents
+all-end f p zero ds = done refl
+all-end f p (suc n) ds = then-ends (descents f n ds) (f n) (all-end f p n ds) (p n)
+
+block-ends : (w h k x y : ℕ) (ds : List ℕ) → Ends (descend w h k x y ds)
+block-ends w h zero x y ds = done (unit-quiet w h x y ds .done)
+block-ends w h (suc k) x y ds =
+    by-start w h x y (Ends (descend w h (suc k) x y ds))
+    (λ p. ends-as (descend-x w h (suc k) x y ds p) (done refl))
+    (λ p q. ends-as (descend-y w h (suc k) x y ds p q) (done refl))
+    (λ p q. inside p q ds (λ l. all-end (partOf w h k x y) (λ i m. block-ends w h k (partX k x i) (partY k y i) m) 4 l)) where
+      inside : x < w → y < h → (ds : List ℕ) → ((l : List ℕ) → Ends (descents (partOf w h k x y) 4 l)) → Ends (descend w h (suc k) x y ds)
+      inside p q [] f = ends-as (descend-none w h k x y p q) out
+      inside p q (zero ∷ ds) f = ends-as (descend-leaf w h k x y ds p q) (record { by = leaf-stops w h (2 ^ suc k) x y })
+      inside p q (suc zero ∷ ds) f = ends-as (descend-cut w h k x y ds p q) (record { by = f ds .by })
+      inside p q (suc (suc d) ∷ ds) f = ends-as (descend-bad w h k x y d ds p q) out
+
+pub root-takes : (w h i : ℕ) (ds : List ℕ) → Stops byBits (rootDescent w h i ds .walk .answer)
+root-takes w h i ds = block-ends w h 4 (rootX w i) (rootY w i) ds .by
+
+pub picture-takes : (w h : ℕ) (ds : List ℕ) → Stops byBits (upto w h ds (roots w h) .walk .answer)
+picture-takes w h ds = all-end (rootDescent w h) (λ i l. record { by = root-takes w h i l }) (roots w h) ds .by
+
+pub bits-rung : (rs : List Refusal) (k a : Answer) → Stops byBits a → Stops rs k → Stops (byBits ++ rs) (afterChecks Refused k a)
+bits-rung rs k Done p q = record { by = inr (inr (q .by)) }
+bits-rung rs k (Refused r) p q = record { by = longer byBits rs (numberOf r) (p .by) }
