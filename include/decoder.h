@@ -44,6 +44,7 @@ enum {
     LOMSAKEUN_SHEET = 12,   /* a malformed sheet */
     LOMSAKEUN_RECORD = 13,  /* the leaf or residual list's length, a mask or a spare byte */
     LOMSAKEUN_BAND = 14,    /* a band that is not the position's next, or is past the last */
+    LOMSAKEUN_BITS = 16,    /* bits that run out, a fill bit that is not 0, or too little room for a map's own bytes */
     LOMSAKEUN_STREAM = 17,  /* a malformed header or frame line of a stream */
     LOMSAKEUN_SHORT = 18,   /* a stream that ends before its frame does */
     LOMSAKEUN_OLD = 20      /* a sheet of the time when V read table0 on vertical edges; the listing's text has it */
@@ -123,6 +124,15 @@ uint8_t lomsakeun_check(size_t w, size_t h, const uint8_t *splits, size_t splits
 uint8_t lomsakeun_leaves(
     size_t w, size_t h, const uint8_t *splits, size_t splits_len, size_t x, size_t y,
     uint16_t *out, size_t out_len, size_t *count);
+
+/* The split map into a buffer, by its digits as bits (pack): from position *at on, in bits, at the start of a byte. *at moves on behind the
+ * map; on a refusal it stays. */
+uint8_t lomsakeun_put_map(
+    size_t w, size_t h, const uint8_t *splits, size_t splits_len, uint8_t *buf, size_t buf_len, size_t *at);
+
+/* The split map from a buffer, by its digits as bits (pack): as above. */
+uint8_t lomsakeun_get_map(
+    size_t w, size_t h, const uint8_t *src, size_t src_len, size_t *at, uint8_t *map, size_t map_len);
 
 /* The visiting rank of the unit of column x and row y of a root (rank). */
 uint8_t lomsakeun_visiting_rank(size_t x, size_t y, uint8_t *rank);

@@ -44,6 +44,7 @@ mod chroma;
 mod deblock;
 mod driver;
 mod neighbours;
+mod pack;
 mod picture;
 mod refusal;
 mod streams;
@@ -56,6 +57,7 @@ pub use chroma::{derived_chroma_qp_mapping_tables, Points};
 pub use deblock::{deblock, Maps, Settings};
 pub use driver::{reconstruct, Blocks};
 pub use neighbours::{get_avail_inter, get_avail_intra, get_mpm, Neighbours};
+pub use pack::{get_map, put_map, Reader, Writer};
 pub use picture::Picture;
 pub use refusal::Refusal;
 pub use streams::{

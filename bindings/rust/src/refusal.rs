@@ -33,6 +33,8 @@ pub enum Refusal {
     Record = 13,
     /// A band that is not the position's next, or is past the last.
     Band = 14,
+    /// Bits that run out, a fill bit that is not 0, or too little room for a map's own bytes.
+    Bits = 16,
     /// A malformed header or frame line of a stream.
     Stream = 17,
     /// A stream that ends before its frame does.
@@ -58,6 +60,7 @@ impl Refusal {
         Refusal::Sheet,
         Refusal::Record,
         Refusal::Band,
+        Refusal::Bits,
         Refusal::Stream,
         Refusal::Short,
         Refusal::Old,
@@ -91,6 +94,7 @@ impl fmt::Display for Refusal {
             Refusal::Sheet => "a malformed sheet",
             Refusal::Record => "the leaf or residual list",
             Refusal::Band => "a band out of turn, or past the last",
+            Refusal::Bits => "the bits of a split map, or the room for them",
             Refusal::Stream => "a malformed header or frame line",
             Refusal::Short => "a stream that ends before its frame does",
             Refusal::Old => "an old sheet",

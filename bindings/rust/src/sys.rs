@@ -113,6 +113,24 @@ extern "C" {
         out_len: usize,
         count: *mut usize,
     ) -> u8;
+    pub fn lomsakeun_put_map(
+        w: usize,
+        h: usize,
+        splits: *const u8,
+        splits_len: usize,
+        buf: *mut u8,
+        buf_len: usize,
+        at: *mut usize,
+    ) -> u8;
+    pub fn lomsakeun_get_map(
+        w: usize,
+        h: usize,
+        src: *const u8,
+        src_len: usize,
+        at: *mut usize,
+        map: *mut u8,
+        map_len: usize,
+    ) -> u8;
     pub fn lomsakeun_visiting_rank(x: usize, y: usize, rank: *mut u8) -> u8;
     pub fn lomsakeun_list_edges(
         w: usize,

@@ -46,12 +46,12 @@ const BAD_SIZES: [(usize, usize); 8] =
 #[test]
 fn numbers() {
     let numbers: Vec<u8> = Refusal::ALL.iter().map(|refusal| refusal.number()).collect();
-    assert_eq!(numbers, (1..=13).chain([14, 17, 18, 20]).collect::<Vec<u8>>());
+    assert_eq!(numbers, (1..=13).chain([14, 16, 17, 18, 20]).collect::<Vec<u8>>());
     for &refusal in Refusal::ALL {
         assert_eq!(Refusal::from_number(refusal.number()), Some(refusal));
         assert!(refusal.to_string().starts_with(&format!("refused={}: ", refusal.number())));
     }
-    assert_eq!([0, 15, 16].map(Refusal::from_number), [None; 3]);
+    assert_eq!([0, 15, 19].map(Refusal::from_number), [None; 3]);
 }
 
 /// Derives tables of these lengths from these points.
