@@ -8,6 +8,7 @@ use lomsakeun::Component;
 use oracle::{chroma, gather, predict, residual};
 use std::fmt::Write as _;
 use std::hint::black_box;
+use std::ops::Range;
 use std::path::Path;
 use std::time::{Duration, Instant};
 use std::{fs, io};
@@ -157,18 +158,50 @@ fn deblocked(given: &Picture) -> (f64, f64) {
 /// The product's call over a picture; the answer is how many edges of units it filtered.
 fn finish(given: &Picture, planes: &mut [Vec<u16>; 3], words: &mut [u32]) -> usize {
     let [y, u, v] = planes;
-    let maps = lomsakeun::Maps {
-        splits: &given.splits,
-        motion: &given.motion,
-        refs: &given.refs,
+    let picture = lomsakeun::Picture { w: given.w, h: given.h, y, u, v, words };
+    let filtered =
+        lomsakeun::deblock(picture, maps(given, 0..given.words.len(), 0..given.splits.len()), settings(given));
+    filtered.map(|(vertical, horizontal)| vertical + horizontal).unwrap()
+}
+
+/// The same by bands, the rows lent where they lie in the picture.
+fn finish_by_bands(given: &Picture, planes: &mut [Vec<u16>; 3], words: &mut [u32]) -> usize {
+    let (wide, bytes) = (given.w / 4, 1024 * given.w.div_ceil(64));
+    let mut bands = lomsakeun::Bands::first();
+    let mut edges = 0;
+    for band in 0..given.h.div_ceil(64) {
+        let lent = wide * 16 * band.saturating_sub(1)..wide * (given.h / 4).min(16 * band + 16);
+        let (luma, chroma) = (16 * lent.start..16 * lent.end, 4 * lent.start..4 * lent.end);
+        let [y, u, v] = &mut *planes;
+        let part = lomsakeun::Picture {
+            w: given.w,
+            h: given.h,
+            y: &mut y[luma],
+            u: &mut u[chroma.clone()],
+            v: &mut v[chroma],
+            words: &mut words[lent.clone()],
+        };
+        let own = maps(given, lent, bytes * band..bytes * (band + 1));
+        let (vertical, horizontal) = bands.deblock(band, part, own, settings(given)).unwrap();
+        edges += vertical + horizontal;
+    }
+    edges
+}
+
+/// The maps over these units, with these of the split bytes.
+fn maps(given: &Picture, units: Range<usize>, splits: Range<usize>) -> lomsakeun::Maps<'_> {
+    lomsakeun::Maps {
+        splits: &given.splits[splits],
+        motion: &given.motion[4 * units.start..4 * units.end],
+        refs: &given.refs[2 * units.start..2 * units.end],
         tables: given.tables.each_ref().map(|table| &table[..]),
         strengths: &given.strengths,
-    };
+    }
+}
+
+fn settings(given: &Picture) -> lomsakeun::Settings {
     let [u_offset, v_offset] = given.offsets.map(|offset| offset as i8);
-    let settings = lomsakeun::Settings { limit: 6, u_offset, v_offset };
-    let filtered =
-        lomsakeun::deblock(lomsakeun::Picture { w: given.w, h: given.h, y, u, v, words }, maps, settings);
-    filtered.map(|(vertical, horizontal)| vertical + horizontal).unwrap()
+    lomsakeun::Settings { limit: 6, u_offset, v_offset }
 }
 
 /// What is deblocked: pictures of these leaves, all units intra or all inter.
@@ -181,15 +214,18 @@ fn kinds() -> impl Iterator<Item = (String, trees::Taste, bool)> {
     })
 }
 
-/// Deblocks one picture of 1024 by 1024 of a kind, by its place among them, for an instruction count; false where there is no such kind.
-pub fn count(kind: usize) -> bool {
+/// Deblocks one square picture of a kind, by its place among them, for an instruction count: whole, and then by bands. False where there is
+/// no such kind, or where the two differ.
+pub fn count(kind: usize, side: usize) -> bool {
     let Some((what, taste, intra)) = kinds().nth(kind) else { return false };
     let rng = &mut Rng::new(1);
-    let drawn = picture(rng, 1024, 1024, taste);
+    let drawn = picture(rng, side, side, taste);
     let given = alike(rng, drawn, intra);
-    let edges = finish(&given, &mut given.planes.clone(), &mut given.words.clone());
+    let mut whole = (given.planes.clone(), given.words.clone());
+    let mut by_bands = whole.clone();
+    let edges = finish(&given, &mut whole.0, &mut whole.1);
     println!("{what}: {edges} edges of units");
-    true
+    edges == finish_by_bands(&given, &mut by_bands.0, &mut by_bands.1) && whole == by_bands
 }
 
 /// The same kind of samples, words, motion and tables at every size, so that the sizes can be compared: noise around a middle grey, QP 37.
