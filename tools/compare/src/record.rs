@@ -5,7 +5,7 @@ use std::path::Path;
 
 type Recorder = fn(&mut Tape);
 
-const ALL: [(&str, Recorder); 11] = [
+const ALL: [(&str, Recorder); 12] = [
     ("chroma_qp", chroma_qp::record),
     ("avail", avail::record),
     ("ranks", ranks::record),
