@@ -205,6 +205,29 @@ fn sheets() {
     assert_eq!(text(b"width=16\nheight=8\ntr_log2=6\nv_edge=source\nsplits=11110\n"), "refused=20\n");
 }
 
+/// The digits 11110 of a picture of 16 by 8, twice, one map after the other.
+#[test]
+fn compact() {
+    let splits = splits();
+    let mut buf = [255; 3];
+    let mut writer = Writer::new(&mut buf);
+    for at in [8, 16] {
+        writer.write(16, 8, &splits).unwrap();
+        assert_eq!(writer.at(), at);
+    }
+    assert_eq!(buf, [0b1111_0000, 0b1111_0000, 255]);
+    let mut reader = Reader::new(&buf);
+    for at in [8, 16] {
+        let mut map = [9; 1024];
+        reader.read(16, 8, &mut map).unwrap();
+        assert_eq!(reader.at(), at);
+        assert_eq!((map[136], map[256 + 68], map[512 + 34], map[768 + 17]), (1, 1, 1, 1));
+        assert_eq!(map.iter().map(|&byte| usize::from(byte)).sum::<usize>(), 4);
+    }
+    assert_eq!(reader.read(16, 8, &mut [9; 1024]), Err(Refusal::Bits));
+    assert_eq!(reader.at(), 16);
+}
+
 /// Two units of 4 beside each other, all intra, at QP 30, with a step between them: the paper's line at entry 3 and at 0.
 #[test]
 fn deblocking() {

@@ -2,8 +2,8 @@
 use lomsakeun::Points as Given;
 use lomsakeun::Refusal::{self, *};
 use lomsakeun::{
-    check, deblock, derived_chroma_qp_mapping_tables, get_avail_inter, get_avail_intra, get_mpm, get_nbr, ipred_b,
-    leaves, list_edges, listing, recon, recon_plane, reconstruct, visiting_rank, Bands, Blocks, Component, Maps,
+    check, deblock, derived_chroma_qp_mapping_tables, get_avail_inter, get_avail_intra, get_map, get_mpm, get_nbr, ipred_b,
+    leaves, list_edges, listing, put_map, recon, recon_plane, reconstruct, visiting_rank, Bands, Blocks, Component, Maps,
     Picture, Settings, LISTING_LENGTH,
 };
 use std::fmt::Debug;
@@ -133,6 +133,32 @@ fn ranks() {
     assert_eq!(get_mpm(8, 8, &words, &modes, &table, 0, 1 << 32), Err(Block));
     assert_eq!(get_mpm(8, 8, &words, &[9, 9, 5, 9], &table, 1, 1), Err(Mode));
     assert_eq!(get_mpm(8, 8, &words, &[9, 254, 0, 9], &table, 1, 1), Err(Mode));
+}
+
+#[test]
+fn compact() {
+    let mut at = 3;
+    let mut splits = [0; 1024];
+    for (w, h) in BAD_SIZES {
+        refused(Size, 1, |buf| put_map(w, h, &splits, buf, &mut at));
+        refused(Size, 1024, |map| get_map(w, h, &[], &mut at, map));
+    }
+    refused(Length, 1, |buf| put_map(8, 8, &splits[1..], buf, &mut at));
+    refused(Length, 1023, |map| get_map(8, 8, &[], &mut at, map));
+    // a block of 64 that reaches out of the picture is not cut
+    refused(Leaf, 0, |buf| put_map(8, 8, &splits, buf, &mut at));
+    refused(Leaf, 1024, |map| get_map(8, 8, &[0, 0], &mut at, map));
+    splits[136] = 2;
+    refused(Split, 2, |buf| put_map(64, 64, &splits, buf, &mut at));
+    splits[136] = 0;
+    refused(Bits, 1, |buf| put_map(64, 64, &splits, buf, &mut at));
+    refused(Bits, 1024, |map| get_map(64, 64, &[0], &mut at, map));
+    refused(Bits, 1024, |map| get_map(64, 64, &[0, 1], &mut at, map));
+    assert_eq!(at, 3);
+    for mut far in [9, usize::MAX] {
+        refused(Bits, 1, |buf| put_map(64, 64, &splits, buf, &mut far));
+        refused(Bits, 1024, |map| get_map(64, 64, &[0], &mut far, map));
+    }
 }
 
 #[test]

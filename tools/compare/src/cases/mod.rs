@@ -14,6 +14,8 @@ mod driver_refusals;
 pub mod gather;
 #[cfg(feature = "archive")]
 pub mod listing;
+#[cfg(feature = "archive")]
+pub mod pack;
 pub mod predict;
 pub mod ranks;
 pub mod recon;

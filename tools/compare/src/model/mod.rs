@@ -7,6 +7,8 @@ pub mod chroma;
 pub mod deblock;
 pub mod driver;
 pub mod gather;
+#[cfg(feature = "archive")]
+pub mod pack;
 pub mod predict;
 pub mod ranks;
 pub mod residual;
@@ -30,6 +32,8 @@ pub const PIVOT: u32 = 11;
 pub const SHEET: u32 = 12;
 pub const RECORD: u32 = 13;
 pub const BAND: u32 = 14;
+#[cfg(feature = "archive")]
+pub const BITS: u32 = 16;
 pub const STREAM: u32 = 17;
 pub const SHORT: u32 = 18;
 pub const OLD: u32 = 20;
