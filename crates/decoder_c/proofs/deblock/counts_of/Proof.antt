@@ -1,0 +1,11 @@
+-- `decoder_c::deblock::counts_of` meets its contract: an arm for each answer. Assumes nothing.
+use mathlib.Core.Path.{refl}
+use borrow.Author.Needs.{needs}
+use Rattle.decoder_c.proofs.deblock.counts_of.Statement.{statement}
+use Rattle.decoder_c.proofs.deblock.counts_of.Tie as tie
+
+returns-2 : tie.Need-returns-2
+returns-2 c = rw (c .before .before .a2 .given .1) (c .refusal-number .ensures, refl, refl)
+
+pub counts-of-spec : {M : Type 1} → statement M
+counts-of-spec = tie.close (tie.spec (λ c. search needs) (λ c. search needs) (λ c κs. search needs) (λ c. search needs) returns-2)
