@@ -44,10 +44,14 @@ enum {
     LOMSAKEUN_SHEET = 12,   /* a malformed sheet */
     LOMSAKEUN_RECORD = 13,  /* the leaf or residual list's length, a mask or a spare byte */
     LOMSAKEUN_BAND = 14,    /* a band that is not the position's next, or is past the last */
+    LOMSAKEUN_KEEP = 15,    /* a byte of the keep map that is not 0 or 1 */
     LOMSAKEUN_BITS = 16,    /* bits that run out, a fill bit that is not 0, or too little room for a map's own bytes */
     LOMSAKEUN_STREAM = 17,  /* a malformed header or frame line of a stream */
     LOMSAKEUN_SHORT = 18,   /* a stream that ends before its frame does */
-    LOMSAKEUN_OLD = 20      /* a sheet of the time when V read table0 on vertical edges; the listing's text has it */
+    LOMSAKEUN_ROWS = 19,    /* a map of edge rows that differs from the rule */
+    LOMSAKEUN_OLD = 20,     /* a sheet of the time when V read table0 on vertical edges; the listing's text has it */
+    LOMSAKEUN_WINDOW = 21,  /* a window of the screen off the multiples of 4, empty or outside */
+    LOMSAKEUN_TURN = 22     /* a row of the screen out of turn */
 };
 
 /* The bits of availability's answer. RIGHT_UP is the unit above the block's last column. */

@@ -33,14 +33,22 @@ pub enum Refusal {
     Record = 13,
     /// A band that is not the position's next, or is past the last.
     Band = 14,
+    /// A byte of the keep map that is not 0 or 1.
+    Keep = 15,
     /// Bits that run out, a fill bit that is not 0, or too little room for a map's own bytes.
     Bits = 16,
     /// A malformed header or frame line of a stream.
     Stream = 17,
     /// A stream that ends before its frame does.
     Short = 18,
+    /// A map of edge rows that differs from the rule.
+    Rows = 19,
     /// A sheet of the time when V read table 0 on vertical edges.
     Old = 20,
+    /// A window of the screen off the multiples of 4, empty or outside.
+    Window = 21,
+    /// A row of the screen out of turn.
+    Turn = 22,
 }
 
 impl Refusal {
@@ -60,10 +68,14 @@ impl Refusal {
         Refusal::Sheet,
         Refusal::Record,
         Refusal::Band,
+        Refusal::Keep,
         Refusal::Bits,
         Refusal::Stream,
         Refusal::Short,
+        Refusal::Rows,
         Refusal::Old,
+        Refusal::Window,
+        Refusal::Turn,
     ];
 
     /// The refusal's number.
@@ -94,10 +106,14 @@ impl fmt::Display for Refusal {
             Refusal::Sheet => "a malformed sheet",
             Refusal::Record => "the leaf or residual list",
             Refusal::Band => "a band out of turn, or past the last",
+            Refusal::Keep => "a byte of the keep map",
             Refusal::Bits => "the bits of a split map, or the room for them",
             Refusal::Stream => "a malformed header or frame line",
             Refusal::Short => "a stream that ends before its frame does",
+            Refusal::Rows => "a map of edge rows that differs from the rule",
             Refusal::Old => "an old sheet",
+            Refusal::Window => "a window off the multiples of 4, empty or outside",
+            Refusal::Turn => "a row out of turn",
         };
         write!(f, "refused={}: {what}", self.number())
     }

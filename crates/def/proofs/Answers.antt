@@ -10,11 +10,11 @@ use lib.ListN.{getD}
 use Rattle.def.specs.Answers.{answerNumber, afterChecks}
 use Rattle.def.specs.Refusals.{numberOf}
 use Rattle.def.specs.declared.Refusal.{Refusal}
-use Rattle.def.specs.declared.Refusal.the-variants.{Size, Length, Setting, Split, Leaf, Qp, Sample, Block, Mode, Points, Pivot, Sheet, Record, Band, Bits, Stream, Short, Old}
+use Rattle.def.specs.declared.Refusal.the-variants.{Size, Length, Setting, Split, Leaf, Qp, Sample, Block, Mode, Points, Pivot, Sheet, Record, Band, Keep, Bits, Stream, Short, Rows, Old, Window, Turn}
 use Rattle.def.specs.declared.Answer.{Answer}
 use Rattle.def.specs.declared.Answer.the-variants.{Done, Refused}
 
--- the answers by their numbers; a number that no refusal has stands with `Done`
+-- the answers by their numbers
 abbrev answers : List Answer
 answers =
     Done
@@ -32,12 +32,14 @@ answers =
     ∷ Refused Sheet
     ∷ Refused Record
     ∷ Refused Band
-    ∷ Done
+    ∷ Refused Keep
     ∷ Refused Bits
     ∷ Refused Stream
     ∷ Refused Short
-    ∷ Done
+    ∷ Refused Rows
     ∷ Refused Old
+    ∷ Refused Window
+    ∷ Refused Turn
     ∷ []
 
 abbrev answerOf : ℕ → Answer
@@ -58,10 +60,14 @@ refusal-back Pivot = refl
 refusal-back Sheet = refl
 refusal-back Record = refl
 refusal-back Band = refl
+refusal-back Keep = refl
 refusal-back Bits = refl
 refusal-back Stream = refl
 refusal-back Short = refl
+refusal-back Rows = refl
 refusal-back Old = refl
+refusal-back Window = refl
+refusal-back Turn = refl
 
 back : (a : Answer) → answerOf (answerNumber a) ≡ a
 back Done = refl

@@ -187,14 +187,22 @@ pub enum Refusal {
     Record,
     // 14: a band that is not the position's next, or past the last
     Band,
+    // 15: a byte of the keep map
+    Keep,
     // 16: the bits of a compact split map, or the room for them
     Bits,
     // 17: a malformed header or frame line of a stream
     Stream,
     // 18: a stream that ends before its frame does
     Short,
+    // 19: a map of edge rows that differs from the rule
+    Rows,
     // 20: a sheet of the time when V read table 0 on vertical edges
     Old,
+    // 21: a window of the screen: its edges, or none, or outside
+    Window,
+    // 22: a row of the screen out of turn
+    Turn,
 }
 
 // The number of a refusal.
@@ -216,10 +224,14 @@ pub fn refusal_number(r: Refusal) -> u8
         Refusal::Sheet => 12,
         Refusal::Record => 13,
         Refusal::Band => 14,
+        Refusal::Keep => 15,
         Refusal::Bits => 16,
         Refusal::Stream => 17,
         Refusal::Short => 18,
+        Refusal::Rows => 19,
         Refusal::Old => 20,
+        Refusal::Window => 21,
+        Refusal::Turn => 22,
     }
 }
 

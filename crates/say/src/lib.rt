@@ -50,11 +50,17 @@ fn meaning(number: u8) {
         11 => words(b"a pivot outside -12 to 57"),
         12 => words(b"a malformed sheet"),
         13 => words(b"a leaf record, or the length of the leaf or residual list"),
+        14 => words(b"a band out of turn, or past the last"),
+        15 => words(b"a byte of the keep map that is not 0 or 1"),
         16 => words(
             b"the bits of a split map: too few, one set behind the last, or too little room",
         ),
         17 => words(b"a malformed header or frame line"),
         18 => words(b"a stream that ends before its frame does"),
+        19 => words(b"a map of edge rows that differs from the rule"),
+        20 => words(b"an old sheet"),
+        21 => words(b"a window off the multiples of 4, empty or outside"),
+        22 => words(b"a row out of turn"),
         _ => words(b"refused"),
     }
 }
