@@ -149,9 +149,15 @@ uint8_t lomsakeun_list_edges(
 
 /* Reconstructs a picture (driver): its blocks in the order of the walk, each predicted from what stands around it or taken from the lent
  * prediction, with its residual; then its unit words and its modes. leaves has four bytes a leaf: kind (a mode, or 5 for the lent
- * prediction), QP, mask (1 Y, 2 U, 4 V) and 0. residual has the masked blocks one after another: Y, U and V of each leaf. */
+ * prediction), QP, mask (1 Y, 2 U, 4 V) and 0. residual has the masked blocks one after another: Y, U and V of each leaf.
+ *
+ *                                    colour          grey (colour is false)
+ *     y, pred_y                      w*h             w*h
+ *     u, v, pred_u, pred_v           (w/2)*(h/2)     0
+ *     a mask, at most                7               1
+ *     map_scu, modes                 (w/4)*(h/4)     (w/4)*(h/4) */
 uint8_t lomsakeun_reconstruct(
-    size_t w, size_t h, const uint8_t *splits, size_t splits_len, const uint8_t *leaves, size_t leaves_len,
+    size_t w, size_t h, bool colour, const uint8_t *splits, size_t splits_len, const uint8_t *leaves, size_t leaves_len,
     const int16_t *residual, size_t residual_len, const uint16_t *pred_y, size_t pred_y_len,
     const uint16_t *pred_u, size_t pred_u_len, const uint16_t *pred_v, size_t pred_v_len, bool constrained,
     uint16_t *y, size_t y_len, uint16_t *u, size_t u_len, uint16_t *v, size_t v_len,

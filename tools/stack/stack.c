@@ -81,7 +81,7 @@ static void list(int real, int i) {
 static void reconstruct(int real, int i) {
     size_t side = sides[i / 4], count = SIZE / side * (SIZE / side), long_ = leaves_of(side, i & 1);
     tree(side, 1);
-    CALL(lomsakeun_reconstruct, SIZE, SIZE, splits, sizeof splits, records, 4 * count, residual, long_, lent, SIZE * SIZE,
+    CALL(lomsakeun_reconstruct, SIZE, SIZE, 1, splits, sizeof splits, records, 4 * count, residual, long_, lent, SIZE * SIZE,
          lent, SIZE * SIZE / 4, lent, SIZE * SIZE / 4, i & 2, y, SIZE * SIZE, u, SIZE * SIZE / 4, v, SIZE * SIZE / 4, words, UNITS, modes, UNITS);
     more = i < 19;
 }

@@ -6,9 +6,12 @@ use crate::sys;
 /// What a picture's blocks are made from.
 #[derive(Clone, Copy, Debug)]
 pub struct Blocks<'a> {
+    /// Whether the picture has colour. A grey one has no U and V: their planes and their lent predictions have length 0.
+    pub colour: bool,
     /// 1,024 bytes a root.
     pub splits: &'a [u8],
-    /// Four bytes a leaf, in the order of the walk: kind (a mode, or 5 for the lent prediction), QP, mask (1 Y, 2 U, 4 V), 0.
+    /// Four bytes a leaf, in the order of the walk: kind (a mode, or 5 for the lent prediction), QP, mask (1 Y, 2 U, 4 V; of a grey picture 1
+    /// alone), 0.
     pub leaves: &'a [u8],
     /// The masked residuals one after another: Y, U and V of each leaf.
     pub residual: &'a [i16],
@@ -24,13 +27,14 @@ pub struct Blocks<'a> {
 /// [`Record`](Refusal::Record), [`Mode`](Refusal::Mode), [`Qp`](Refusal::Qp), [`Sample`](Refusal::Sample).
 #[inline]
 pub fn reconstruct(blocks: Blocks, picture: Picture, modes: &mut [u8]) -> Result<(), Refusal> {
-    let Blocks { splits, leaves, residual, predictions: [pred_y, pred_u, pred_v], constrained } = blocks;
+    let Blocks { colour, splits, leaves, residual, predictions: [pred_y, pred_u, pred_v], constrained } = blocks;
     let Picture { w, h, y, u, v, words } = picture;
     // Each pointer comes from a slice that lives through the call, with its own length.
     let number = unsafe {
         sys::lomsakeun_reconstruct(
             w,
             h,
+            colour,
             splits.as_ptr(),
             splits.len(),
             leaves.as_ptr(),

@@ -148,6 +148,7 @@ extern "C" {
     pub fn lomsakeun_reconstruct(
         w: usize,
         h: usize,
+        colour: bool,
         splits: *const u8,
         splits_len: usize,
         leaves: *const u8,

@@ -349,7 +349,8 @@ fn driving() {
         let (mut words, mut modes) = ([u32::MAX; 4], [77; 4]);
         let picture = Picture { w: 8, h: 8, y: &mut y, u: &mut u, v: &mut v, words: &mut words };
         let predictions = lent.each_ref().map(|plane| &plane[..]);
-        let blocks = Blocks { splits: &splits(), leaves: &leaves, residual: &residual, predictions, constrained };
+        let blocks =
+            Blocks { colour: true, splits: &splits(), leaves: &leaves, residual: &residual, predictions, constrained };
         assert_eq!(reconstruct(blocks, picture, &mut modes), Ok(()));
         assert_eq!(y.to_vec(), quarters(8, [520, 520, 0, last[0]]));
         assert_eq!(u.to_vec(), quarters(4, [512, 512, 1023, last[1]]));

@@ -532,6 +532,7 @@ fn a_band_mended() {
 struct Driver {
     w: usize,
     h: usize,
+    colour: bool,
     splits: Vec<u8>,
     leaves: Vec<u8>,
     residual: Vec<i16>,
@@ -547,6 +548,7 @@ impl Driver {
         Driver {
             w: 8,
             h: 8,
+            colour: true,
             splits: root(&[(136, 1), (256 + 68, 1), (512 + 34, 1)]),
             leaves: vec![5, 51, 7, 0],
             residual: vec![-1; 96],
@@ -562,6 +564,7 @@ impl Driver {
         let picture = Picture { w: self.w, h: self.h, y, u, v, words: &mut self.words };
         let predictions = self.predictions.each_ref().map(|plane| &plane[..]);
         let blocks = Blocks {
+            colour: self.colour,
             splits: &self.splits,
             leaves: &self.leaves,
             residual: &self.residual,
@@ -571,13 +574,24 @@ impl Driver {
         reconstruct(blocks, picture, &mut self.modes)
     }
 
+    /// The same without its colour.
+    fn grey() -> Driver {
+        let mut case = Driver { colour: false, leaves: vec![5, 51, 1, 0], residual: vec![-1; 64], ..Driver::good() };
+        case.predictions[1..].iter_mut().chain(&mut case.planes[1..]).for_each(Vec::clear);
+        case
+    }
+
     /// Requires that it is refused with this change, and that nothing was written.
     fn refused(refusal: Refusal, change: impl FnOnce(&mut Driver)) {
-        let mut case = Driver::good();
-        change(&mut case);
+        Driver::good().refuses(refusal, change);
+    }
+
+    fn refuses(mut self, refusal: Refusal, change: impl FnOnce(&mut Driver)) {
+        let case = &mut self;
+        change(case);
         let before = case.clone();
         assert_eq!(case.run(), Err(refusal));
-        assert_eq!((case.planes, case.words, case.modes), (before.planes, before.words, before.modes));
+        assert_eq!((self.planes, self.words, self.modes), (before.planes, before.words, before.modes));
     }
 }
 
@@ -619,5 +633,21 @@ fn driving() {
     }
     for qp in [52, 255] {
         Driver::refused(Qp, |case| (case.leaves[1], case.predictions[0][0]) = (qp, 1024));
+    }
+}
+
+/// A grey picture: U and V are empty, and a mask has no bit of them.
+#[test]
+fn driving_grey() {
+    let mut good = Driver::grey();
+    assert_eq!(good.run(), Ok(()));
+    assert_eq!(good.planes, [vec![1022; 64], vec![], vec![]]);
+    for i in 1..3 {
+        Driver::grey().refuses(Length, |case| case.planes[i].push(0));
+        Driver::grey().refuses(Length, |case| case.predictions[i].push(0));
+        Driver::refused(Length, |case| case.planes[i].clear());
+    }
+    for mask in [2, 3, 4, 7, 8] {
+        Driver::grey().refuses(Record, |case| case.leaves[2] = mask);
     }
 }

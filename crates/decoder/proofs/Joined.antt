@@ -1,12 +1,13 @@
--- What the driver leaves is accepted by deblocking: none of 1, 4 and 5, no 2 for the planes, the words and the split bytes, no 6 for a luma QP, and no 7.
+-- What the driver leaves of a picture in colour is accepted by deblocking: none of 1, 4 and 5, no 2 for the planes, the words and the split bytes, no 6 for a luma QP, and no 7.
 -- Assumes nothing.
-use Prim.Native.Nat.{_*_, _/_}
+use Prim.Native.Nat.{ℕ, _*_, _/_}
 use native.Mathlib.Nat.{mul-zero}
 use mathlib.Core.Bool.{true}
 use mathlib.Core.Path.{_≡_, sym, ap, _∙_}
 use borrow.Author.Tests.{eq-eqb}
 use lib.ListN.{length}
 use native.Mathlib.Omega.{arith}
+use Rattle.def.specs.Formats.{inFormat}
 use Rattle.def.specs.Picture.{sizeOk, unitCount, rootCount, lumaLength, chromaLength}
 use Rattle.def.specs.declared.Answer.the-variants.{Done}
 use Rattle.samples.specs.Samples.{samplesOk}
@@ -47,11 +48,14 @@ module _ (i : driver.Input) (fine : driver.check i ≡ Done) where
         let b : i .given .h / 1 ≡ j .h = omega (arith, f .h) in
         ap length is-y ∙ last i fine .y-long ∙ (λ k. a k * b k)
 
+    in-colour : {n : ℕ} → n ≡ inFormat (i .given .format) (chromaLength (i .given .w) (i .given .h)) → n ≡ chromaLength (i .given .w) (i .given .h)
+    in-colour e = e ∙ (λ k. inFormat (f .colour k) (chromaLength (i .given .w) (i .given .h)))
+
     long-u : length (j .u) ≡ chromaLength (j .w) (j .h)
-    long-u = ap length is-u ∙ last i fine .u-long ∙ (λ k. chromaLength (sym (f .w) k) (sym (f .h) k))
+    long-u = ap length is-u ∙ in-colour (last i fine .u-long) ∙ (λ k. chromaLength (sym (f .w) k) (sym (f .h) k))
 
     long-v : length (j .v) ≡ chromaLength (j .w) (j .h)
-    long-v = ap length is-v ∙ last i fine .v-long ∙ (λ k. chromaLength (sym (f .w) k) (sym (f .h) k))
+    long-v = ap length is-v ∙ in-colour (last i fine .v-long) ∙ (λ k. chromaLength (sym (f .w) k) (sym (f .h) k))
 
     long-words : length (j .words) ≡ unitCount (j .w) (j .h)
     long-words = ap length is-words ∙ last i fine .words-long ∙ (λ k. unitCount (sym (f .w) k) (sym (f .h) k))

@@ -29,6 +29,8 @@ use Rattle.def.specs.declared.Answer.{Answer}
 use Rattle.def.specs.declared.Refusal.{Refusal}
 use Rattle.def.specs.declared.Refusal.the-variants.{Size, Length, Setting, Split, Leaf, Qp, Sample, Block, Mode, Points as BadPoints, Pivot, Sheet, Record, Band, Bits, Old}
 use Rattle.def.specs.declared.Component.the-variants.{Luma}
+use Rattle.def.specs.declared.Format.{Format}
+use Rattle.def.specs.declared.Format.the-variants.{Grey, Colour}
 use Rattle.def.proofs.Answers.{answer-apart}
 use Rattle.samples.specs.Samples.{samplesOk}
 use Rattle.chroma_qp_check.specs.Check as points-check
@@ -474,21 +476,21 @@ root-list-refusals =
 
 -- the three planes, the words and the modes
 pub reconstruct-once : Sole 11 reconstruct-kinds.ps reconstruct-kinds.r reconstruct-reads.Post
-    (λ κs r x. let t = x .1 .1 .1 .1 .1 .1 .1 .1 .1 in ended r (now (t .0) ∷ now (t .1 .0) ∷ now (t .1 .1 .0) ∷ now (t .1 .1 .1 .0) ∷ now (t .1 .1 .1 .1 .0) ∷ []))
+    (λ κs r x. let t = x .1 .1 .1 .1 .1 .1 .1 .1 .1 .1 in ended r (now (t .0) ∷ now (t .1 .0) ∷ now (t .1 .1 .0) ∷ now (t .1 .1 .1 .0) ∷ now (t .1 .1 .1 .1 .0) ∷ []))
 reconstruct-once κs a r r′ x x′ p q = settled driver.outcome (λ o. o .number) (λ o. o .y ∷ o .u ∷ o .v ∷ o .words ∷ o .modes ∷ []) p q (answer-apart r r′)
 
 pub checked-leaves-once : Sole 5 checked-leaves-kinds.ps checked-leaves-kinds.r checked-leaves-reads.Post (λ κs r x. r)
 checked-leaves-once κs a r r′ x x′ p q = p ∙ sym q
 
--- a picture of one unit, w wide: its split bytes, the word to be written, its leaf's record, and the number that every sample of the lent luma prediction is
-abbrev driven : ℕ → List ℕ → List ℕ → List ℕ → ℕ → driver.Input
-driven w splits words leaves sample =
+-- a picture of one unit, w wide, with n samples in each chroma plane: its split bytes, the word to be written, its leaf's record, and the number that every sample of the lent luma prediction is
+abbrev driven : Format → (n w : ℕ) → List ℕ → List ℕ → List ℕ → ℕ → driver.Input
+driven f n w splits words leaves sample =
     record {
-      given = record { w = w; h = 4; constrained = false; leaves = leaves; residual = []; pred-y = replicate 16 sample; pred-u = replicate 4 0; pred-v = replicate 4 0 };
+      given = record { w = w; h = 4; format = f; constrained = false; leaves = leaves; residual = []; pred-y = replicate 16 sample; pred-u = replicate n 0; pred-v = replicate n 0 };
       splits = splits;
       y = replicate 16 0;
-      u = replicate 4 0;
-      v = replicate 4 0;
+      u = replicate n 0;
+      v = replicate n 0;
       words = words;
       modes = 0 ∷ [];
     }
@@ -496,15 +498,15 @@ driven w splits words leaves sample =
 -- an input for each rung
 abbrev drivings : List driver.Input
 drivings =
-    driven 0 [] [] [] 1024
-    ∷ driven 4 [] [] [] 1024
-    ∷ driven 4 (root 2) [] [] 1024
-    ∷ driven 4 (root 2) (0 ∷ []) [] 1024
-    ∷ driven 4 (root 0) (0 ∷ []) [] 1024
-    ∷ driven 4 (root 1) (0 ∷ []) [] 1024
-    ∷ driven 4 (root 1) (0 ∷ []) (6 ∷ 52 ∷ 0 ∷ 0 ∷ []) 1024
-    ∷ driven 4 (root 1) (0 ∷ []) (5 ∷ 52 ∷ 0 ∷ 0 ∷ []) 1024
-    ∷ driven 4 (root 1) (0 ∷ []) (5 ∷ 51 ∷ 0 ∷ 0 ∷ []) 1024
+    driven Colour 4 0 [] [] [] 1024
+    ∷ driven Colour 4 4 [] [] [] 1024
+    ∷ driven Colour 4 4 (root 2) [] [] 1024
+    ∷ driven Colour 4 4 (root 2) (0 ∷ []) [] 1024
+    ∷ driven Colour 4 4 (root 0) (0 ∷ []) [] 1024
+    ∷ driven Colour 4 4 (root 1) (0 ∷ []) [] 1024
+    ∷ driven Colour 4 4 (root 1) (0 ∷ []) (6 ∷ 52 ∷ 0 ∷ 0 ∷ []) 1024
+    ∷ driven Colour 4 4 (root 1) (0 ∷ []) (5 ∷ 52 ∷ 0 ∷ 0 ∷ []) 1024
+    ∷ driven Colour 4 4 (root 1) (0 ∷ []) (5 ∷ 51 ∷ 0 ∷ 0 ∷ []) 1024
     ∷ []
 
 abbrev by-driver : List Refusal
@@ -516,10 +518,10 @@ driver-stops i =
     let g = i .given in
     let l = driver.leavesOf (g .w) (g .h) (i .splits) in
     rung (sizeOk (g .w) (g .h)) Size _
-    (rung (driver.readOk (g .w) (g .h) (length (i .splits)) (length (g .pred-y)) (length (g .pred-u)) (length (g .pred-v))) Length _
-    (rung (driver.writtenOk (g .w) (g .h) (length (i .y)) (length (i .u)) (length (i .v)) (length (i .words)) (length (i .modes))) Length _
+    (rung (driver.readOk (g .w) (g .h) (g .format) (length (i .splits)) (length (g .pred-y)) (length (g .pred-u)) (length (g .pred-v))) Length _
+    (rung (driver.writtenOk (g .w) (g .h) (g .format) (length (i .y)) (length (i .u)) (length (i .v)) (length (i .words)) (length (i .modes))) Length _
     (walk-rung (Record ∷ Mode ∷ Qp ∷ Sample ∷ []) _ _ (picture-stops (i .splits) (g .w / 4) (g .h / 4))
-    (rung (driver.recordsOk (g .leaves) (length (g .residual)) (passed (g .leaves) l first .at) (length l)) Record _
+    (rung (driver.recordsOk (g .format) (g .leaves) (length (g .residual)) (passed (g .leaves) l first .at) (length l)) Record _
     (rung (bytesOk (g .leaves) (length l) 0 5) Mode _
     (rung (bytesOk (g .leaves) (length l) 1 51) Qp _
     (rung (driver.lentOk (g .pred-y) (g .pred-u) (g .pred-v)) Sample _ last)))))))
@@ -536,6 +538,19 @@ reconstruct-refusals =
 pub checked-leaves-refusals : Refuses driver.check answerNumber by-driver
 unfolding driver.checkOf driver.readOk driver.writtenOk driver.dataCheck driver.recordsOk driver.lentOk bytesOk sizeOk leavesOf walk byByte inTurn onward leafWalk run samplesOk allBelow flagAt fieldOf
 checked-leaves-refusals = record { only = λ i. driver-stops i .by; shown = drivings; given = refl }
+
+-- by the format: a chroma bit in a grey picture's mask, chroma planes lent to one, a picture in colour without them, and a grey one that is accepted
+abbrev by-format : List driver.Input
+by-format =
+    driven Grey 0 4 (root 1) (0 ∷ []) (5 ∷ 51 ∷ 2 ∷ 0 ∷ []) 0
+    ∷ driven Grey 4 4 (root 1) (0 ∷ []) (5 ∷ 51 ∷ 0 ∷ 0 ∷ []) 0
+    ∷ driven Colour 0 4 (root 1) (0 ∷ []) (5 ∷ 51 ∷ 0 ∷ 0 ∷ []) 0
+    ∷ driven Grey 0 4 (root 1) (0 ∷ []) (5 ∷ 51 ∷ 0 ∷ 0 ∷ []) 0
+    ∷ []
+
+pub format-numbers : map (λ (i : driver.Input). driver.outcome i .number) by-format ≡ 13 ∷ 2 ∷ 2 ∷ 0 ∷ []
+unfolding driver.outcome driver.checkOf driver.readOk driver.writtenOk driver.dataCheck driver.recordsOk driver.lentOk bytesOk sizeOk leavesOf walk byByte inTurn onward leafWalk run samplesOk allBelow flagAt fieldOf
+format-numbers = refl
 
 -- ---- marks, and the compact form of a split map
 

@@ -1,14 +1,16 @@
--- From the driver to deblocking: what the one leaves, the other accepts. The proof is `joined`, in proofs/.
+-- From the driver to deblocking: what the one leaves of a picture in colour, the other accepts. The proof is `joined`, in proofs/.
 -- Assumes nothing: these are definitions.
 use Prim.Native.Nat.{_*_}
 use mathlib.Core.Bool.{true}
 use mathlib.Core.Path.{_≡_}
 use Rattle.def.specs.Picture.{unitCount}
+use Rattle.def.specs.declared.Format.the-variants.{Colour}
 use Rattle.driver_rules.specs.Call as driver
 use Rattle.df_check.specs.Checks as deblocking
 
--- deblocking is lent the picture that the driver finished: its sides, its split bytes, its planes and its words
+-- deblocking is lent the picture in colour that the driver finished: its sides, its split bytes, its planes and its words
 pub record Follows (i : driver.Input) (j : deblocking.Input) : Type 0 where
+  pub colour : i .given .format ≡ Colour
   pub w : j .w ≡ i .given .w
   pub h : j .h ≡ i .given .h
   pub splits : j .splits ≡ i .splits

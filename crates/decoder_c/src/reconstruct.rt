@@ -1,12 +1,15 @@
-// The block driver.
+// The block driver. A picture's format is a flag: whether it has colour.
 ghost use Rattle.laws.specs.Call.{Gives};
 ghost use Rattle.driver_rules.specs.Call as driving;
 ghost use Rattle.driver.specs.Lends.{givenOf};
+ghost use Rattle.decoder_c.specs.Flags.{formatOf};
+use crate::format_of;
 
 #[no_mangle]
 pub extern "C" fn lomsakeun_reconstruct(
     w: usize,
     h: usize,
+    colour: bool,
     splits: &[u8],
     leaves: &[u8],
     residual: &[i16],
@@ -22,7 +25,7 @@ pub extern "C" fn lomsakeun_reconstruct(
 ) -> u8
     ensures { λ n. ⌜ Gives driving.outcome
         (record {
-          given = givenOf w h constrained (now (leaves .entry)) (now (residual .entry)) (now («pred_y» .entry)) (now («pred_u» .entry)) (now («pred_v» .entry));
+          given = givenOf w h (formatOf colour) constrained (now (leaves .entry)) (now (residual .entry)) (now («pred_y» .entry)) (now («pred_u» .entry)) (now («pred_v» .entry));
           splits = now (splits .entry);
           y = now (y .entry);
           u = now (u .entry);
@@ -35,6 +38,7 @@ pub extern "C" fn lomsakeun_reconstruct(
     def::answer_number(driver::reconstruct(
         w,
         h,
+        format_of(colour),
         splits,
         leaves,
         residual,

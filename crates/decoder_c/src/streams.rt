@@ -8,17 +8,10 @@ ghost use Rattle.y4m_frame.specs.WriteCall as drawing;
 ghost use Rattle.y4m.specs.Import as importing;
 ghost use Rattle.decoder_c.specs.Flags.{formatOf};
 ghost use Rattle.decoder_c.specs.Streams.{headingOf, framedOf};
-use def::Format;
+use crate::format_of;
 use y4m_frame::FrameRead;
 use y4m_header::HeaderRead;
 use y4m_header::HeaderWritten;
-
-// A chroma format by its flag.
-fn format_of(colour: bool) -> Format
-    ensures { λ r. ⌜ r ≡ formatOf colour ⌝ }
-{
-    if colour { Format::Colour } else { Format::Grey }
-}
 
 // ---- answers in numbers: a value is 0 where refused
 

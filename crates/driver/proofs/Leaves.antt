@@ -1,6 +1,6 @@
 -- A leaf, from what its functions leave.
---     planes-asked, told    what its components and its units ask
---     planes-drawn    its components
+--     planes-asked, colour-asked, told    what its components and its units ask
+--     colour-drawn, colour-none, planes-drawn    its components, and a grey picture's U and V
 --     leaves-start, leaves-next, leaves-asked    the first leaves of a list
 --     kept    the lengths of what is written
 --     ended, done-ended    the planes and the maps of the last state, and the call's outcome
@@ -18,39 +18,72 @@ use Rattle.def.specs.Blocks.{blockOk}
 use Rattle.def.specs.Picture.{sizeOk, unitCount}
 use Rattle.def.specs.Word.{leafWord}
 use Rattle.def.specs.declared.Component.the-variants.{Luma, Chroma}
+use Rattle.def.specs.declared.Format.{Format}
 use Rattle.def.proofs.Blocks.{blocked}
 use Rattle.def.proofs.Sizes.{sized}
 use Rattle.nbr.proofs.Sides.{four}
 use Rattle.split.specs.Stored.{leavesFrom}
 use Rattle.driver_rules.specs.Asked.{GivenAsked, StateAsked, Stepped}
 use Rattle.driver_rules.specs.Call.{Input, leavesOf, done}
-use Rattle.driver_rules.specs.Records.{kindAt, qpAt, maskAt, isMode, codedY, codedU, codedV, residualCount, startU, startV, placeOf, passed}
+use Rattle.driver_rules.specs.Records.{kindAt, qpAt, maskAt, isMode, codedY, codedU, codedV, mostMask, residualCount, startU, placeOf, passed}
 use Rattle.driver_rules.specs.Steps.{Given, State, componentOf, withUnits, stepAt, steps}
-use Rattle.driver_rules.proofs.States.{asked-y, asked-u, asked-v}
+use Rattle.driver_rules.proofs.States.{plane-none, mask-of-y, asked-y, asked-u, asked-v}
 use Rattle.driver_rules.proofs.Walked.{one-leaf, leaves-none, leaves-more, stepped-place}
-use Rattle.driver.specs.Lends.{givenOf, stateOf, Drawn, PlanesAsked, Told, Ended}
+use Rattle.driver.specs.Lends.{givenOf, stateOf, ColourDrawn, Drawn, ColourAsked, PlanesAsked, Told, Ended}
 
-module _ {w h : ℕ} {constrained : Bool} {leaves : List ℕ} {residual : List ℤ} {py pu pv : List ℕ} where
-  pub planes-asked : {y u v words modes : List ℕ} {at k : ℕ} (x z side : ℕ) → GivenAsked (givenOf w h constrained leaves residual py pu pv) → StateAsked (givenOf w h constrained leaves residual py pu pv) (stateOf y u v words modes at k) → blockOk w h x z side ≡ true
-      → PlanesAsked (givenOf w h constrained [] residual py pu pv) x z side words y u v
-  planes-asked x z side ga sa b =
+module _ {w h : ℕ} {format : Format} {constrained : Bool} {leaves : List ℕ} {residual : List ℤ} {py pu pv : List ℕ} where
+  pub planes-asked : {y u v words modes : List ℕ} {at k : ℕ} (x z side mask : ℕ) → GivenAsked (givenOf w h format constrained leaves residual py pu pv)
+      → StateAsked (givenOf w h format constrained leaves residual py pu pv) (stateOf y u v words modes at k) → blockOk w h x z side ≡ true → mask ≤ mostMask format
+      → PlanesAsked (givenOf w h format constrained [] residual py pu pv) x z side mask words y u v
+  planes-asked x z side mask ga sa b m =
       record {
-        given = record { size = ga .size; lent-y = ga .lent-y; lent-u = ga .lent-u; lent-v = ga .lent-v };
+        y-lent = ga .lent-y;
         y-asked = asked-y _ x z side _ ga sa b;
-        u-asked = asked-u _ x z side _ ga sa b;
-        v-asked = asked-v _ x z side _ ga sa b;
+        colour =
+            record {
+              u-lent = ga .lent-u;
+              v-lent = ga .lent-v;
+              u-asked = asked-u _ x z side _ ga sa b;
+              v-asked = asked-v _ x z side _ ga sa b;
+              u-long = sa .u-long;
+              v-long = sa .v-long;
+              masked = m;
+            };
+      }
+
+  -- U and V ask nothing of Y's prediction
+  pub colour-asked : {x z side mask : ℕ} {words u v : List ℕ} → ColourAsked (givenOf w h format constrained leaves residual py pu pv) x z side mask words u v → ColourAsked (givenOf w h format constrained leaves residual [] pu pv) x z side mask words u v
+  colour-asked k =
+      record {
+        u-lent = k .u-lent;
+        v-lent = k .v-lent;
+        u-asked = k .u-asked;
+        v-asked = k .v-asked;
+        u-long = k .u-long;
+        v-long = k .v-long;
+        masked = k .masked;
       }
 
 -- the components one after another, each where the one before ended in the residual list
-module _ (g : Given) (x z side kind mask at : ℕ) (words y u v : List ℕ) {y′ u′ v′ : List ℕ} {coded-y coded-u coded-v : Bool} {a b end : ℕ} where
-  pub planes-drawn : coded-y ≡ codedY mask → coded-u ≡ codedU mask → coded-v ≡ codedV mask
+module _ (g : Given) (x z side kind mask at : ℕ) (words u v : List ℕ) where
+  pub colour-drawn : {u′ v′ : List ℕ} {coded-u coded-v : Bool} {a end : ℕ} → coded-u ≡ codedU mask → coded-v ≡ codedV mask
+      → (u′ ≡ componentOf g Chroma x z side kind (g .pred-u) coded-u at u words) × (a ≡ at + residualCount Chroma coded-u side)
+      → (v′ ≡ componentOf g Chroma x z side kind (g .pred-v) coded-v a v words) × (end ≡ a + residualCount Chroma coded-v side) → ColourDrawn g x z side kind mask at words u v u′ v′ end
+  colour-drawn {a = a} eu ev p q =
+      let first : a ≡ at + residualCount Chroma (codedU mask) side = p .1 ∙ rw eu in
+      record { u-drawn = p .0 ∙ rw eu; v-drawn = q .0 ∙ rw (first, ev); ends = q .1 ∙ rw (first, ev) }
+
+  pub colour-none : length u ≡ 0 → length v ≡ 0 → mask ≤ 1 → ColourDrawn g x z side kind mask at words u v u v at
+  colour-none eu ev m =
+      let e = mask-of-y mask m in
+      record { u-drawn = sym (plane-none _ _ _ _ _ eu); v-drawn = sym (plane-none _ _ _ _ _ ev); ends = rw (e .0, e .1) (omega arith) }
+
+  pub planes-drawn : (y : List ℕ) {y′ u′ v′ : List ℕ} {coded-y : Bool} {a end : ℕ} → coded-y ≡ codedY mask
       → (y′ ≡ componentOf g Luma x z side kind (g .pred-y) coded-y at y words) × (a ≡ at + residualCount Luma coded-y side)
-      → (u′ ≡ componentOf g Chroma x z side kind (g .pred-u) coded-u a u words) × (b ≡ a + residualCount Chroma coded-u side)
-      → (v′ ≡ componentOf g Chroma x z side kind (g .pred-v) coded-v b v words) × (end ≡ b + residualCount Chroma coded-v side) → Drawn g x z side kind mask at words y u v y′ u′ v′ end
-  planes-drawn ey eu ev p q r =
+      → ColourDrawn (givenOf (g .w) (g .h) (g .format) (g .constrained) [] (g .residual) [] (g .pred-u) (g .pred-v)) x z side kind mask a words u v u′ v′ end → Drawn g x z side kind mask at words y u v y′ u′ v′ end
+  planes-drawn y {a = a} ey p q =
       let first : a ≡ startU at mask side = p .1 ∙ rw ey in
-      let second : b ≡ startV at mask side = q .1 ∙ rw (first, eu) in
-      record { y-drawn = p .0 ∙ rw ey; u-drawn = q .0 ∙ rw (first, eu); v-drawn = r .0 ∙ rw (second, ev); ends = r .1 ∙ rw (second, ev) }
+      record { y-drawn = p .0 ∙ rw ey; u-drawn = q .u-drawn ∙ rw first; v-drawn = q .v-drawn ∙ rw first; ends = q .ends ∙ rw first }
 
 pub told : (w h x z side : ℕ) (words modes : List ℕ) → sizeOk w h ≡ true → blockOk w h x z side ≡ true → length words ≡ unitCount w h → length modes ≡ unitCount w h → Told (w / 4) (x / 4) (z / 4) (side / 4) words modes
 told w h x z side words modes s b e f =
@@ -80,7 +113,7 @@ module _ (g : Given) {x z side kind qp mask at end : ℕ} {y u v words modes y�
   pub leaves-next : {s : State} (list : List ℕ) (k j : ℕ) → GivenAsked g → blockOk (g .w) (g .h) x z side ≡ true
       → (x ≡ getD list (3 * j) 0) × (z ≡ getD list (3 * j + 1) 0) × (side ≡ getD list (3 * j + 2) 0)
       → (kind ≡ kindAt (g .leaves) (k + j)) × (qp ≡ qpAt (g .leaves) (k + j)) × (mask ≡ maskAt (g .leaves) (k + j))
-      → Drawn (givenOf (g .w) (g .h) (g .constrained) [] (g .residual) (g .pred-y) (g .pred-u) (g .pred-v)) x z side kind mask at words y u v y′ u′ v′ end
+      → Drawn (givenOf (g .w) (g .h) (g .format) (g .constrained) [] (g .residual) (g .pred-y) (g .pred-u) (g .pred-v)) x z side kind mask at words y u v y′ u′ v′ end
       → (words′ ≡ withUnits (g .w) x z side (leafWord (isMode kind) qp (codedY mask)) words) × (modes′ ≡ withUnits (g .w) x z side (pick (isMode kind) kind 255) modes)
       → Stepped g (leavesFrom list j) s (stateOf y u v words modes at (k + j)) → Stepped g (leavesFrom list (j + 1)) s (stateOf y′ u′ v′ words′ modes′ end (k + (j + 1)))
   unfolding stepAt

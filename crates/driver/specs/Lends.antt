@@ -6,31 +6,54 @@ use mathlib.Core.Bool.{Bool}
 use mathlib.Core.List.{List}
 use lib.IntN.{ℤ}
 use lib.ListN.{length}
+use Rattle.def.specs.Components.{planeLength}
+use Rattle.def.specs.Formats.{inFormat}
 use Rattle.def.specs.declared.Component.the-variants.{Luma, Chroma}
-use Rattle.driver_rules.specs.Asked.{BlockAsked, GivenAsked}
-use Rattle.driver_rules.specs.Records.{placeOf, codedY, codedU, codedV, startU, startV, endV}
+use Rattle.def.specs.declared.Format.{Format}
+use Rattle.def.specs.declared.Format.the-variants.{Colour}
+use Rattle.driver_rules.specs.Asked.{BlockAsked, LentAsked}
+use Rattle.driver_rules.specs.Records.{placeOf, codedY, codedU, codedV, residualCount, mostMask, startU, startV, endV}
 use Rattle.driver_rules.specs.Steps.{Given, State, aroundOf, componentOf}
 
-abbrev pub givenOf : (w h : ℕ) (constrained : Bool) (leaves : List ℕ) (residual : List ℤ) (py pu pv : List ℕ) → Given
-givenOf w h constrained leaves residual py pu pv =
-    record { w = w; h = h; constrained = constrained; leaves = leaves; residual = residual; pred-y = py; pred-u = pu; pred-v = pv }
+abbrev pub givenOf : (w h : ℕ) (format : Format) (constrained : Bool) (leaves : List ℕ) (residual : List ℤ) (py pu pv : List ℕ) → Given
+givenOf w h format constrained leaves residual py pu pv =
+    record { w = w; h = h; format = format; constrained = constrained; leaves = leaves; residual = residual; pred-y = py; pred-u = pu; pred-v = pv }
 
 abbrev pub stateOf : (y u v words modes : List ℕ) (at k : ℕ) → State
 stateOf y u v words modes at k = record { y = y; u = u; v = v; words = words; modes = modes; place = placeOf at k }
 
--- the three components of a leaf, the words being those before it
+-- where V's residuals end, those of U starting at `at`
+abbrev pub colourEnd : (at mask side : ℕ) → ℕ
+colourEnd at mask side = at + residualCount Chroma (codedU mask) side + residualCount Chroma (codedV mask) side
+
+-- U and V of a leaf, the words being those before it
+pub record ColourDrawn (g : Given) (x z side kind mask at : ℕ) (words u v u′ v′ : List ℕ) (end : ℕ) : Type 0 where
+  pub u-drawn : u′ ≡ componentOf g Chroma x z side kind (g .pred-u) (codedU mask) at u words
+  pub v-drawn : v′ ≡ componentOf g Chroma x z side kind (g .pred-v) (codedV mask) (at + residualCount Chroma (codedU mask) side) v words
+  pub ends : end ≡ colourEnd at mask side
+
+-- the three components of a leaf
 pub record Drawn (g : Given) (x z side kind mask at : ℕ) (words y u v y′ u′ v′ : List ℕ) (end : ℕ) : Type 0 where
   pub y-drawn : y′ ≡ componentOf g Luma x z side kind (g .pred-y) (codedY mask) at y words
   pub u-drawn : u′ ≡ componentOf g Chroma x z side kind (g .pred-u) (codedU mask) (startU at mask side) u words
   pub v-drawn : v′ ≡ componentOf g Chroma x z side kind (g .pred-v) (codedV mask) (startV at mask side) v words
   pub ends : end ≡ endV at mask side
 
+-- what U and V of a leaf ask: in a grey picture they have no samples and no residuals
+pub record ColourAsked (g : Given) (x z side mask : ℕ) (words u v : List ℕ) : Type 0 where
+  pub u-lent : g .format ≡ Colour → LentAsked Chroma (g .w) (g .h) (g .pred-u)
+  pub v-lent : g .format ≡ Colour → LentAsked Chroma (g .w) (g .h) (g .pred-v)
+  pub u-asked : g .format ≡ Colour → BlockAsked (aroundOf g Chroma x z side u words)
+  pub v-asked : g .format ≡ Colour → BlockAsked (aroundOf g Chroma x z side v words)
+  pub u-long : length u ≡ inFormat (g .format) (planeLength Chroma (g .w) (g .h))
+  pub v-long : length v ≡ inFormat (g .format) (planeLength Chroma (g .w) (g .h))
+  pub masked : mask ≤ mostMask (g .format)
+
 -- what the three components of a leaf ask
-pub record PlanesAsked (g : Given) (x z side : ℕ) (words y u v : List ℕ) : Type 0 where
-  pub given : GivenAsked g
+pub record PlanesAsked (g : Given) (x z side mask : ℕ) (words y u v : List ℕ) : Type 0 where
+  pub y-lent : LentAsked Luma (g .w) (g .h) (g .pred-y)
   pub y-asked : BlockAsked (aroundOf g Luma x z side y words)
-  pub u-asked : BlockAsked (aroundOf g Chroma x z side u words)
-  pub v-asked : BlockAsked (aroundOf g Chroma x z side v words)
+  pub colour : ColourAsked g x z side mask words u v
 
 -- a block of n by n units in two maps of rows of `columns`
 pub record Told (columns x y n : ℕ) (words modes : List ℕ) : Type 0 where

@@ -1,10 +1,11 @@
-// The block driver: a picture's leaves in walk order, each gathered around, predicted and reconstructed in its three components; then its units are told.
+// The block driver: a picture's leaves in walk order, each gathered around, predicted and reconstructed in the components that the picture has; then its units are told.
 // No Rust stands beside it: its calls are those of ipred.rs and recon.rs.
 ghost use Rattle.laws.specs.Call.{Gives};
 ghost use Rattle.def.specs.Answers.{answerNumber};
 ghost use Rattle.driver_rules.specs.Call.{outcome};
 ghost use Rattle.driver.specs.Lends.{givenOf};
 use def::Answer;
+use def::Format;
 use driver_check::checked_leaves;
 use walk::clear;
 use walk::draw_picture;
@@ -13,9 +14,11 @@ mod component; // component.rt: one component of a leaf
 mod walk; // walk.rt: the leaves of a picture
 
 // The picture of w by h whose leaves are those of the walk, by their records, their residuals and the lent prediction.
+// A grey one has no U and V: their slices are empty, and nothing is done for them.
 pub fn reconstruct(
     w: usize,
     h: usize,
+    format: Format,
     splits: &[u8],
     leaves: &[u8],
     residual: &[i16],
@@ -31,7 +34,7 @@ pub fn reconstruct(
 ) -> Answer
     ensures { λ r. ⌜ Gives outcome
         (record {
-          given = givenOf w h constrained (now (leaves .entry)) (now (residual .entry)) (now («pred_y» .entry)) (now («pred_u» .entry)) (now («pred_v» .entry));
+          given = givenOf w h format constrained (now (leaves .entry)) (now (residual .entry)) (now («pred_y» .entry)) (now («pred_u» .entry)) (now («pred_v» .entry));
           splits = now (splits .entry);
           y = now (y .entry);
           u = now (u .entry);
@@ -44,6 +47,7 @@ pub fn reconstruct(
     match checked_leaves(
         w,
         h,
+        format,
         splits,
         leaves,
         residual.len(),
@@ -62,6 +66,7 @@ pub fn reconstruct(
             draw_picture(
                 w,
                 h,
+                format,
                 constrained,
                 splits,
                 leaves,

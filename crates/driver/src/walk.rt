@@ -1,4 +1,4 @@
-// The walk over a picture's leaves: leaf by leaf the three components, and what the units are told.
+// The walk over a picture's leaves: leaf by leaf the components that the picture has, and what the units are told.
 ghost use mathlib.Core.Path.{_≡_};
 ghost use mathlib.Core.List.{[]};
 ghost use Prim.Native.Nat.{ℕ, _+_, _*_, _/_, _≤_, _<_};
@@ -12,10 +12,11 @@ ghost use Rattle.driver_rules.specs.Asked.{GivenAsked, StateAsked, Reaches, Blo
 ghost use Rattle.driver_rules.specs.Call.{leavesOf};
 ghost use Rattle.driver_rules.specs.Records.{kindAt, qpAt, maskAt, isMode, codedY, endV, placeOf, first, passed};
 ghost use Rattle.driver_rules.specs.Steps.{withUnits, steps};
-ghost use Rattle.driver.specs.Lends.{givenOf, stateOf, Drawn, PlanesAsked, Told, Ended};
+ghost use Rattle.driver.specs.Lends.{givenOf, stateOf, colourEnd, ColourDrawn, Drawn, ColourAsked, PlanesAsked, Told, Ended};
 use crate::component::Block;
 use crate::component::component;
 use def::Component;
+use def::Format;
 use def::Pel;
 use def::pel2scu;
 use driver_check::coded_u;
@@ -108,11 +109,78 @@ fn tell(map_scu: &mut [u32], modes: &mut [u8], w: usize, leaf: Leaf, said: Recor
 
 // ---- a leaf
 
-// Its three components, by one kind, from place `at` of the residual list on. The answer is where its residuals end.
+// U and V, by the leaf's kind, from place `at` of the residual list on. The answer is where their residuals end. A grey picture has neither.
 // `run` and `room` have place for the run and the prediction of any block: one of each for a picture, cleared once.
+fn leaf_colour(
+    w: usize,
+    h: usize,
+    format: Format,
+    constrained: bool,
+    leaf: Leaf,
+    said: Record,
+    pred_u: &[u16],
+    pred_v: &[u16],
+    residual: &[i16],
+    at: usize,
+    map_scu: &[u32],
+    u: &mut [u16],
+    v: &mut [u16],
+    run: &mut [u16; 257],
+    room: &mut [u16; 4096],
+) -> usize
+    requires { ⌜ ColourAsked (givenOf w h format constrained [] (now residual) [] (now «pred_u») (now «pred_v»)) (leaf .x .0) (leaf .z .0) (leaf .side) (said .mask) (now «map_scu») (now u) (now v) × (colourEnd at (said .mask) (leaf .side) ≤ length (now residual)) ⌝ }
+    ensures { λ r. ⌜ ColourDrawn (givenOf w h format constrained [] (now (residual .entry)) [] (now («pred_u» .entry)) (now («pred_v» .entry))) (leaf .x .0) (leaf .z .0) (leaf .side) (said .kind) (said .mask) at (now («map_scu» .entry))
+        (now (u .entry)) (now (v .entry)) (now (u .exit)) (now (v .exit)) r ⌝ }
+{
+    match format {
+        Format::Grey => at,
+        Format::Colour => {
+            let x = leaf.x;
+            let z = leaf.z;
+            let block = Block {
+                component: Component::Chroma,
+                w,
+                h,
+                x,
+                y: z,
+                side: leaf.side,
+                constrained,
+            };
+            let kind = said.kind;
+            let mask = said.mask;
+            let end = component(
+                block,
+                kind,
+                coded_u(mask),
+                pred_u,
+                residual,
+                at,
+                map_scu,
+                u,
+                &mut *run,
+                &mut *room,
+            );
+            component(
+                block,
+                kind,
+                coded_v(mask),
+                pred_v,
+                residual,
+                end,
+                map_scu,
+                v,
+                run,
+                room,
+            )
+        }
+    }
+}
+
+// Its components, by one kind: Y, and then U and V.
 fn leaf_planes(
     w: usize,
     h: usize,
+    format: Format,
     constrained: bool,
     leaf: Leaf,
     said: Record,
@@ -128,37 +196,25 @@ fn leaf_planes(
     run: &mut [u16; 257],
     room: &mut [u16; 4096],
 ) -> usize
-    requires { ⌜ PlanesAsked (givenOf w h constrained [] (now residual) (now «pred_y») (now «pred_u») (now «pred_v»)) (leaf .x .0) (leaf .z .0) (leaf .side) (now «map_scu») (now y) (now u) (now v) × (endV at (said .mask) (leaf .side) ≤ length (now residual)) ⌝ }
-    ensures { λ r. ⌜ Drawn (givenOf w h constrained [] (now (residual .entry)) (now («pred_y» .entry)) (now («pred_u» .entry)) (now («pred_v» .entry))) (leaf .x .0) (leaf .z .0) (leaf .side) (said .kind) (said .mask) at (now («map_scu» .entry))
+    requires { ⌜ PlanesAsked (givenOf w h format constrained [] (now residual) (now «pred_y») (now «pred_u») (now «pred_v»)) (leaf .x .0) (leaf .z .0) (leaf .side) (said .mask) (now «map_scu») (now y) (now u) (now v) × (endV at (said .mask) (leaf .side) ≤ length (now residual)) ⌝ }
+    ensures { λ r. ⌜ Drawn (givenOf w h format constrained [] (now (residual .entry)) (now («pred_y» .entry)) (now («pred_u» .entry)) (now («pred_v» .entry))) (leaf .x .0) (leaf .z .0) (leaf .side) (said .kind) (said .mask) at (now («map_scu» .entry))
         (now (y .entry)) (now (u .entry)) (now (v .entry)) (now (y .exit)) (now (u .exit)) (now (v .exit)) r ⌝ }
 {
     let x = leaf.x;
     let z = leaf.z;
-    let side = leaf.side;
-    let kind = said.kind;
-    let mask = said.mask;
     let luma = Block {
         component: Component::Luma,
         w,
         h,
         x,
         y: z,
-        side,
+        side: leaf.side,
         constrained,
     };
-    let chroma = Block {
-        component: Component::Chroma,
-        w,
-        h,
-        x,
-        y: z,
-        side,
-        constrained,
-    };
-    let a = component(
+    let end = component(
         luma,
-        kind,
-        coded_y(mask),
+        said.kind,
+        coded_y(said.mask),
         pred_y,
         residual,
         at,
@@ -167,26 +223,19 @@ fn leaf_planes(
         &mut *run,
         &mut *room,
     );
-    let b = component(
-        chroma,
-        kind,
-        coded_u(mask),
+    leaf_colour(
+        w,
+        h,
+        format,
+        constrained,
+        leaf,
+        said,
         pred_u,
-        residual,
-        a,
-        map_scu,
-        u,
-        &mut *run,
-        &mut *room,
-    );
-    component(
-        chroma,
-        kind,
-        coded_v(mask),
         pred_v,
         residual,
-        b,
+        end,
         map_scu,
+        u,
         v,
         run,
         room,
@@ -199,6 +248,7 @@ fn leaf_planes(
 fn draw_leaves(
     w: usize,
     h: usize,
+    format: Format,
     constrained: bool,
     list: &[u16],
     n: usize,
@@ -217,10 +267,10 @@ fn draw_leaves(
     run: &mut [u16; 257],
     room: &mut [u16; 4096],
 ) -> usize
-    requires { ⌜ GivenAsked (givenOf w h constrained (now leaves) (now residual) (now «pred_y») (now «pred_u») (now «pred_v»)) ⌝ }
-    requires { ⌜ StateAsked (givenOf w h constrained (now leaves) (now residual) (now «pred_y») (now «pred_u») (now «pred_v»)) (stateOf (now y) (now u) (now v) (now «map_scu») (now modes) at k) ⌝ }
+    requires { ⌜ GivenAsked (givenOf w h format constrained (now leaves) (now residual) (now «pred_y») (now «pred_u») (now «pred_v»)) ⌝ }
+    requires { ⌜ StateAsked (givenOf w h format constrained (now leaves) (now residual) (now «pred_y») (now «pred_u») (now «pred_v»)) (stateOf (now y) (now u) (now v) (now «map_scu») (now modes) at k) ⌝ }
     requires { ⌜ Blocks w h (now list) n × Reaches (now leaves) (length (now residual)) (passed (now leaves) (leavesFrom (now list) n) (placeOf at k)) ⌝ }
-    ensures { λ r. ⌜ Stepped (givenOf w h constrained (now (leaves .entry)) (now (residual .entry)) (now («pred_y» .entry)) (now («pred_u» .entry)) (now («pred_v» .entry))) (leavesFrom (now (list .entry)) n)
+    ensures { λ r. ⌜ Stepped (givenOf w h format constrained (now (leaves .entry)) (now (residual .entry)) (now («pred_y» .entry)) (now («pred_u» .entry)) (now («pred_v» .entry))) (leavesFrom (now (list .entry)) n)
         (stateOf (now (y .entry)) (now (u .entry)) (now (v .entry)) (now («map_scu» .entry)) (now (modes .entry)) at k)
         (stateOf (now (y .exit)) (now (u .exit)) (now (v .exit)) (now («map_scu» .exit)) (now (modes .exit)) r (k + n)) ⌝ }
 {
@@ -231,6 +281,7 @@ fn draw_leaves(
         end = leaf_planes(
             w,
             h,
+            format,
             constrained,
             leaf,
             said,
@@ -282,6 +333,7 @@ pub(crate) fn clear(map_scu: &mut [u32])
 pub(crate) fn draw_picture(
     w: usize,
     h: usize,
+    format: Format,
     constrained: bool,
     splits: &[u8],
     leaves: &[u8],
@@ -295,11 +347,11 @@ pub(crate) fn draw_picture(
     map_scu: &mut [u32],
     modes: &mut [u8],
 )
-    requires { ⌜ GivenAsked (givenOf w h constrained (now leaves) (now residual) (now «pred_y») (now «pred_u») (now «pred_v»)) ⌝ }
-    requires { ⌜ StateAsked (givenOf w h constrained (now leaves) (now residual) (now «pred_y») (now «pred_u») (now «pred_v»)) (stateOf (now y) (now u) (now v) (now «map_scu») (now modes) 0 0) ⌝ }
+    requires { ⌜ GivenAsked (givenOf w h format constrained (now leaves) (now residual) (now «pred_y») (now «pred_u») (now «pred_v»)) ⌝ }
+    requires { ⌜ StateAsked (givenOf w h format constrained (now leaves) (now residual) (now «pred_y») (now «pred_u») (now «pred_v»)) (stateOf (now y) (now u) (now v) (now «map_scu») (now modes) 0 0) ⌝ }
     requires { ⌜ Accepted w h (now splits) × Reaches (now leaves) (length (now residual)) (passed (now leaves) (leavesOf w h (now splits)) first) ⌝ }
     ensures { λ _. ⌜ Ended
-        (steps (givenOf w h constrained (now (leaves .entry)) (now (residual .entry)) (now («pred_y» .entry)) (now («pred_u» .entry)) (now («pred_v» .entry))) (leavesOf w h (now (splits .entry)))
+        (steps (givenOf w h format constrained (now (leaves .entry)) (now (residual .entry)) (now («pred_y» .entry)) (now («pred_u» .entry)) (now («pred_v» .entry))) (leavesOf w h (now (splits .entry)))
         (stateOf (now (y .entry)) (now (u .entry)) (now (v .entry)) (now («map_scu» .entry)) (now (modes .entry)) 0 0))
         (now (y .exit)) (now (u .exit)) (now (v .exit)) (now («map_scu» .exit)) (now (modes .exit)) ⌝ }
 {
@@ -314,6 +366,7 @@ pub(crate) fn draw_picture(
         at = draw_leaves(
             w,
             h,
+            format,
             constrained,
             &list,
             n,

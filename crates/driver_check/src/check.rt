@@ -6,11 +6,12 @@ ghost use Rattle.def.specs.Picture.{rootCount};
 ghost use Rattle.def.proofs.Sizes.{Sized};
 ghost use Rattle.split.specs.Stored.{leavesFrom};
 ghost use Rattle.driver_rules.specs.Asked.{Sides, Accepted, Listed};
-ghost use Rattle.driver_rules.specs.Call.{readOk, writtenOk, leavesOf, recordsOk, lentOk, dataCheck, checkOf};
-ghost use Rattle.driver_rules.specs.Records.{bytesOk, placeOf, first, passed};
+ghost use Rattle.driver_rules.specs.Call.{colourLength, readOk, writtenOk, leavesOf, recordsOk, lentOk, dataCheck, checkOf};
+ghost use Rattle.driver_rules.specs.Records.{bytesOk, mostMask, placeOf, first, passed};
 use crate::records::leaf_end;
 use crate::records::mask_at;
 use def::Answer;
+use def::Format;
 use def::Pel;
 use def::Refusal;
 use split::Walked;
@@ -68,14 +69,43 @@ fn past_picture(w: usize, h: usize, splits: &[u8], leaves: &[u8]) -> Place
 
 // ---- the checks
 
-// Whether what is read, but the two lists, has its lengths.
-fn read_ok(w: usize, h: usize, splits: usize, pred_y: usize, pred_u: usize, pred_v: usize) -> bool
+// Samples of U and of V.
+fn colour_length(w: usize, h: usize, format: Format) -> usize
     requires { ⌜ Sized w h ⌝ }
-    ensures { λ r. ⌜ r ≡ readOk w h splits «pred_y» «pred_u» «pred_v» ⌝ }
+    ensures { λ r. ⌜ r ≡ colourLength format w h ⌝ }
+{
+    match format {
+        Format::Grey => 0,
+        Format::Colour => w / 2 * (h / 2),
+    }
+}
+
+// The largest mask.
+fn most_mask(format: Format) -> u8
+    ensures { λ r. ⌜ r ≡ mostMask format ⌝ }
+{
+    match format {
+        Format::Grey => 1,
+        Format::Colour => 7,
+    }
+}
+
+// Whether what is read, but the two lists, has its lengths.
+fn read_ok(
+    w: usize,
+    h: usize,
+    format: Format,
+    splits: usize,
+    pred_y: usize,
+    pred_u: usize,
+    pred_v: usize,
+) -> bool
+    requires { ⌜ Sized w h ⌝ }
+    ensures { λ r. ⌜ r ≡ readOk w h format splits «pred_y» «pred_u» «pred_v» ⌝ }
 {
     let roots = (w + 63) / 64 * ((h + 63) / 64);
     let luma = w * h;
-    let chroma = w / 2 * (h / 2);
+    let chroma = colour_length(w, h, format);
     (splits == 1024 * roots) & (pred_y == luma) & (pred_u == chroma) & (pred_v == chroma)
 }
 
@@ -83,6 +113,7 @@ fn read_ok(w: usize, h: usize, splits: usize, pred_y: usize, pred_u: usize, pred
 fn written_ok(
     w: usize,
     h: usize,
+    format: Format,
     y: usize,
     u: usize,
     v: usize,
@@ -90,10 +121,10 @@ fn written_ok(
     modes: usize,
 ) -> bool
     requires { ⌜ Sized w h ⌝ }
-    ensures { λ r. ⌜ r ≡ writtenOk w h y u v «map_scu» modes ⌝ }
+    ensures { λ r. ⌜ r ≡ writtenOk w h format y u v «map_scu» modes ⌝ }
 {
     let luma = w * h;
-    let chroma = w / 2 * (h / 2);
+    let chroma = colour_length(w, h, format);
     let units = w / 4 * (h / 4);
     (y == luma) & (u == chroma) & (v == chroma) & (map_scu == units) & (modes == units)
 }
@@ -112,15 +143,16 @@ fn bytes_ok(leaves: &[u8], n: usize, b: usize, m: u8) -> bool
     ok
 }
 
-// Whether the lists are as long as the leaves ask, no mask is over 7, and every spare byte is 0. The n leaves end at `at` in the residual list.
-fn records_ok(leaves: &[u8], residual: usize, at: usize, n: usize) -> bool
+// Whether the lists are as long as the leaves ask, no mask is over the format's largest, and every spare byte is 0. The n leaves end at `at` in the residual list.
+fn records_ok(format: Format, leaves: &[u8], residual: usize, at: usize, n: usize) -> bool
     requires { ⌜ n ≤ 1048576 ⌝ }
-    ensures { λ r. ⌜ r ≡ recordsOk (now (leaves .entry)) residual at n ⌝ }
+    ensures { λ r. ⌜ r ≡ recordsOk format (now (leaves .entry)) residual at n ⌝ }
 {
     if leaves.len() != 4 * n {
         return false;
     }
-    (residual == at) & bytes_ok(leaves, n, 2, 7) & bytes_ok(leaves, n, 3, 0)
+    let most = most_mask(format);
+    (residual == at) & bytes_ok(leaves, n, 2, most) & bytes_ok(leaves, n, 3, 0)
 }
 
 // Whether every sample of the lent prediction is one of 10 bits.
@@ -134,6 +166,7 @@ fn lent_ok(pred_y: &[u16], pred_u: &[u16], pred_v: &[u16]) -> bool
 fn data_checked(
     w: usize,
     h: usize,
+    format: Format,
     splits: &[u8],
     leaves: &[u8],
     residual: usize,
@@ -142,11 +175,11 @@ fn data_checked(
     pred_v: &[u16],
 ) -> Answer
     requires { ⌜ Accepted w h (now splits) ⌝ }
-    ensures { λ r. ⌜ r ≡ dataCheck (now (leaves .entry)) residual (now («pred_y» .entry)) (now («pred_u» .entry)) (now («pred_v» .entry)) (leavesOf w h (now (splits .entry))) ⌝ }
+    ensures { λ r. ⌜ r ≡ dataCheck format (now (leaves .entry)) residual (now («pred_y» .entry)) (now («pred_u» .entry)) (now («pred_v» .entry)) (leavesOf w h (now (splits .entry))) ⌝ }
 {
     let end = past_picture(w, h, splits, leaves);
     let n = end.k;
-    if !records_ok(leaves, residual, end.at, n) {
+    if !records_ok(format, leaves, residual, end.at, n) {
         return Answer::Refused(Refusal::Record);
     }
     if !bytes_ok(leaves, n, 0, 5) {
@@ -165,6 +198,7 @@ fn data_checked(
 pub fn checked_leaves(
     w: usize,
     h: usize,
+    format: Format,
     splits: &[u8],
     leaves: &[u8],
     residual: usize,
@@ -177,19 +211,37 @@ pub fn checked_leaves(
     map_scu: usize,
     modes: usize,
 ) -> Answer
-    ensures { λ r. ⌜ r ≡ checkOf w h (now (splits .entry)) (now (leaves .entry)) residual (now («pred_y» .entry)) (now («pred_u» .entry)) (now («pred_v» .entry)) y u v «map_scu» modes ⌝ }
+    ensures { λ r. ⌜ r ≡ checkOf w h format (now (splits .entry)) (now (leaves .entry)) residual (now («pred_y» .entry)) (now («pred_u» .entry)) (now («pred_v» .entry)) y u v «map_scu» modes ⌝ }
 {
     if !def::size_ok(w, h) {
         return Answer::Refused(Refusal::Size);
     }
-    if !read_ok(w, h, splits.len(), pred_y.len(), pred_u.len(), pred_v.len()) {
+    if !read_ok(
+        w,
+        h,
+        format,
+        splits.len(),
+        pred_y.len(),
+        pred_u.len(),
+        pred_v.len(),
+    ) {
         return Answer::Refused(Refusal::Length);
     }
-    if !written_ok(w, h, y, u, v, map_scu, modes) {
+    if !written_ok(w, h, format, y, u, v, map_scu, modes) {
         return Answer::Refused(Refusal::Length);
     }
     match split::check(w, h, splits) {
         Answer::Refused(r) => Answer::Refused(r),
-        Answer::Done => data_checked(w, h, splits, leaves, residual, pred_y, pred_u, pred_v),
+        Answer::Done => data_checked(
+            w,
+            h,
+            format,
+            splits,
+            leaves,
+            residual,
+            pred_y,
+            pred_u,
+            pred_v,
+        ),
     }
 }

@@ -70,12 +70,15 @@ fn residual_count(part: Component, coded: bool, side: usize) -> usize
     0
 }
 
-// Where those of a leaf end that start at `at`.
+// Where those of a leaf end that start at `at`. A mask of Y alone asks nothing of U and V.
 pub(crate) fn leaf_end(at: usize, mask: u8, side: usize) -> usize
     requires { ⌜ (side ≤ 64) × (at ≤ 1099511627776) ⌝ }
     ensures { λ r. ⌜ (r ≡ endV at mask side) × (r ≤ at + 12288) ⌝ }
 {
     let y = residual_count(Component::Luma, coded_y(mask), side);
+    if mask <= 1 {
+        return at + y;
+    }
     let u = residual_count(Component::Chroma, coded_u(mask), side);
     let v = residual_count(Component::Chroma, coded_v(mask), side);
     at + y + u + v

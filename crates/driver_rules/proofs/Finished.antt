@@ -23,6 +23,7 @@ use Rattle.laws.proofs.ScanAll.{scan-pass}
 use Rattle.laws.proofs.Scans.{scan-at}
 use Rattle.def.specs.Blocks.{blockOk}
 use Rattle.def.specs.Components.{scaleOf, planeLength}
+use Rattle.def.specs.Formats.{inFormat}
 use Rattle.def.specs.Picture.{sizeOk, unitCount}
 use Rattle.def.specs.Word.{qpOf, doneOf}
 use Rattle.def.specs.Answers.{afterChecks}
@@ -31,6 +32,8 @@ use Rattle.def.specs.declared.Answer.the-variants.{Done, Refused}
 use Rattle.def.proofs.Answers.{number-some}
 use Rattle.def.specs.declared.Component.{Component}
 use Rattle.def.specs.declared.Component.the-variants.{Luma, Chroma}
+use Rattle.def.specs.declared.Format.{Format}
+use Rattle.def.specs.declared.Format.the-variants.{Grey, Colour}
 use Rattle.def.proofs.Sizes.{sized}
 use Rattle.def.proofs.Words.{leaf-word}
 use Rattle.def.specs.Units.{unitAt}
@@ -167,6 +170,11 @@ plane-small c w h plane words s long d all = samples-pass plane at where
       let r = d .small (k % n) (k / n) column row (all _ _ (units-below c _ w (z .by-four) column) (units-below c _ h (z .by-four-down) row)) in
       rw (div-add-mod' k n) at r
 
+-- U or V: in a grey picture there is no sample
+colour-small : (f : Format) (w h : ℕ) (plane words : List ℕ) → sizeOk w h ≡ true → length plane ≡ inFormat f (planeLength Chroma w h) → DoneSmall Chroma w h plane words → ((u v : ℕ) → u < w / 4 → v < h / 4 → doneOf (unitAt w words u v) ≡ true) → samplesOk plane ≡ true
+colour-small Grey w h plane words s long d all = samples-pass plane (λ k p. absurd (omega (arith, long, p)))
+colour-small Colour w h plane words s long d all = plane-small Chroma w h plane words s long d all
+
 -- ---- the theorem
 
 module _ (i : Input) (accepted : check i ≡ Done) where
@@ -234,8 +242,8 @@ module _ (i : Input) (accepted : check i ≡ Done) where
   finished =
       record {
         y-small = plane-small Luma w h _ _ (p .accepted .size) (last .y-long) (last .y-done) all-done;
-        u-small = plane-small Chroma w h _ _ (p .accepted .size) (last .u-long) (last .u-done) all-done;
-        v-small = plane-small Chroma w h _ _ (p .accepted .size) (last .v-long) (last .v-done) all-done;
+        u-small = colour-small (i .given .format) w h _ _ (p .accepted .size) (last .u-long) (last .u-done) all-done;
+        v-small = colour-small (i .given .format) w h _ _ (p .accepted .size) (last .v-long) (last .v-done) all-done;
         units = units;
         qps = scan-pass _ (length (end i .words)) (λ k q. le-leb _ _ (word-qp k q));
       }

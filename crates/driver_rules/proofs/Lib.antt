@@ -3,6 +3,7 @@ pub mod Checks
 pub mod Components
 pub mod Finished
 pub mod Lists
+pub mod Luma
 pub mod Places
 pub mod Small
 pub mod States

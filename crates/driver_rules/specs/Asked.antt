@@ -7,17 +7,19 @@ use mathlib.Core.List.{List}
 use lib.ListN.{length, getD}
 use Rattle.def.specs.Blocks.{blockOk}
 use Rattle.def.specs.Components.{scaleOf, planeLength}
+use Rattle.def.specs.Formats.{inFormat}
 use Rattle.def.specs.Picture.{sizeOk, rootCount, unitCount}
 use Rattle.def.specs.Word.{doneOf}
 use Rattle.def.specs.declared.Component.{Component}
 use Rattle.def.specs.declared.Component.the-variants.{Luma, Chroma}
+use Rattle.def.specs.declared.Format.the-variants.{Colour}
 use Rattle.def.specs.declared.Answer.the-variants.{Done}
 use Rattle.nbr.specs.Gather.{Around, unitSide}
 use Rattle.def.specs.Units.{unitAt}
 use Rattle.samples.specs.Samples.{samplesOk}
 use Rattle.split.specs.Picture.{pictureWalk, rootLeaves}
 use Rattle.split.specs.Stored.{leavesFrom}
-use Rattle.driver_rules.specs.Records.{Place}
+use Rattle.driver_rules.specs.Records.{Place, maskAt, mostMask}
 use Rattle.driver_rules.specs.Steps.{Given, State, steps}
 use Rattle.split.specs.Walk.{Leaf}
 
@@ -38,17 +40,19 @@ pub record LentAsked (c : Component) (w h : ℕ) (lent : List ℕ) : Type 0 wher
   pub long : length lent ≡ planeLength c w h
   pub small : samplesOk lent ≡ true
 
+-- of U and V only where the picture has them
 pub record GivenAsked (g : Given) : Type 0 where
   pub size : sizeOk (g .w) (g .h) ≡ true
   pub lent-y : LentAsked Luma (g .w) (g .h) (g .pred-y)
-  pub lent-u : LentAsked Chroma (g .w) (g .h) (g .pred-u)
-  pub lent-v : LentAsked Chroma (g .w) (g .h) (g .pred-v)
+  pub lent-u : g .format ≡ Colour → LentAsked Chroma (g .w) (g .h) (g .pred-u)
+  pub lent-v : g .format ≡ Colour → LentAsked Chroma (g .w) (g .h) (g .pred-v)
+  pub masks : (k : ℕ) → maskAt (g .leaves) k ≤ mostMask (g .format)
 
 -- the planes and the maps as they stand
 pub record StateAsked (g : Given) (s : State) : Type 0 where
   pub y-long : length (s .y) ≡ planeLength Luma (g .w) (g .h)
-  pub u-long : length (s .u) ≡ planeLength Chroma (g .w) (g .h)
-  pub v-long : length (s .v) ≡ planeLength Chroma (g .w) (g .h)
+  pub u-long : length (s .u) ≡ inFormat (g .format) (planeLength Chroma (g .w) (g .h))
+  pub v-long : length (s .v) ≡ inFormat (g .format) (planeLength Chroma (g .w) (g .h))
   pub words-long : length (s .words) ≡ unitCount (g .w) (g .h)
   pub modes-long : length (s .modes) ≡ unitCount (g .w) (g .h)
   pub y-done : DoneSmall Luma (g .w) (g .h) (s .y) (s .words)

@@ -8,8 +8,10 @@ use lib.ListN.{length}
 use Rattle.laws.specs.Call.{unless, allOf}
 use Rattle.laws.specs.Index.{tabulate}
 use Rattle.def.specs.Answers.{afterChecks}
+use Rattle.def.specs.Formats.{inFormat}
 use Rattle.def.specs.Picture.{sizeOk, lumaLength, chromaLength, unitCount, rootCount}
 use Rattle.def.specs.Refusals.{numberOf}
+use Rattle.def.specs.declared.Format.{Format}
 use Rattle.def.specs.declared.Refusal.{Refusal}
 use Rattle.def.specs.declared.Refusal.the-variants.{Size, Length, Record, Mode, Qp, Sample}
 use Rattle.def.specs.declared.Answer.{Answer}
@@ -17,7 +19,7 @@ use Rattle.def.specs.declared.Answer.the-variants.{Done, Refused}
 use Rattle.samples.specs.Samples.{samplesOk}
 use Rattle.split.specs.Picture.{pictureWalk, allLeaves}
 use Rattle.split.specs.Walk.{Leaf}
-use Rattle.driver_rules.specs.Records.{bytesOk, first, passed}
+use Rattle.driver_rules.specs.Records.{bytesOk, mostMask, first, passed}
 use Rattle.driver_rules.specs.Steps.{Given, State, steps}
 
 pub record Input : Type 0 where
@@ -42,27 +44,31 @@ leavesOf w h splits = allLeaves splits (w / 4) (h / 4)
 
 -- ---- the checks
 
+-- samples of U and of V: a grey picture has none
+abbrev pub colourLength : Format → (w h : ℕ) → ℕ
+colourLength f w h = inFormat f (chromaLength w h)
+
 -- 2: what is read, but the two lists; and what is written
-abbrev pub readTests : (w h splits py pu pv : ℕ) → List Bool
-readTests w h splits py pu pv =
-    eqb splits (1024 * rootCount w h) ∷ eqb py (lumaLength w h) ∷ eqb pu (chromaLength w h) ∷ eqb pv (chromaLength w h) ∷ []
+abbrev pub readTests : (w h : ℕ) → Format → (splits py pu pv : ℕ) → List Bool
+readTests w h f splits py pu pv =
+    eqb splits (1024 * rootCount w h) ∷ eqb py (lumaLength w h) ∷ eqb pu (colourLength f w h) ∷ eqb pv (colourLength f w h) ∷ []
 
-unfoldable pub readOk : (w h splits py pu pv : ℕ) → Bool
-readOk w h splits py pu pv = allOf (readTests w h splits py pu pv)
+unfoldable pub readOk : (w h : ℕ) → Format → (splits py pu pv : ℕ) → Bool
+readOk w h f splits py pu pv = allOf (readTests w h f splits py pu pv)
 
-abbrev pub writtenTests : (w h y u v words modes : ℕ) → List Bool
-writtenTests w h y u v words modes =
-    eqb y (lumaLength w h) ∷ eqb u (chromaLength w h) ∷ eqb v (chromaLength w h) ∷ eqb words (unitCount w h) ∷ eqb modes (unitCount w h) ∷ []
+abbrev pub writtenTests : (w h : ℕ) → Format → (y u v words modes : ℕ) → List Bool
+writtenTests w h f y u v words modes =
+    eqb y (lumaLength w h) ∷ eqb u (colourLength f w h) ∷ eqb v (colourLength f w h) ∷ eqb words (unitCount w h) ∷ eqb modes (unitCount w h) ∷ []
 
-unfoldable pub writtenOk : (w h y u v words modes : ℕ) → Bool
-writtenOk w h y u v words modes = allOf (writtenTests w h y u v words modes)
+unfoldable pub writtenOk : (w h : ℕ) → Format → (y u v words modes : ℕ) → Bool
+writtenOk w h f y u v words modes = allOf (writtenTests w h f y u v words modes)
 
--- 13: four bytes a leaf, as many residuals as the leaves take, no mask over 7, and the spare byte 0. residual: its list's length; at, k: where the leaves end
-abbrev pub recordTests : (r : List ℕ) (residual at k : ℕ) → List Bool
-recordTests r residual at k = eqb (length r) (4 * k) ∷ eqb residual at ∷ bytesOk r k 2 7 ∷ bytesOk r k 3 0 ∷ []
+-- 13: four bytes a leaf, as many residuals as the leaves take, no bit in a mask that the format does not have, and the spare byte 0. residual: its list's length; at, k: where the leaves end
+abbrev pub recordTests : Format → (r : List ℕ) (residual at k : ℕ) → List Bool
+recordTests f r residual at k = eqb (length r) (4 * k) ∷ eqb residual at ∷ bytesOk r k 2 (mostMask f) ∷ bytesOk r k 3 0 ∷ []
 
-unfoldable pub recordsOk : (r : List ℕ) (residual at k : ℕ) → Bool
-recordsOk r residual at k = allOf (recordTests r residual at k)
+unfoldable pub recordsOk : Format → (r : List ℕ) (residual at k : ℕ) → Bool
+recordsOk f r residual at k = allOf (recordTests f r residual at k)
 
 -- 7: the lent prediction, whether a leaf uses it or not
 abbrev pub lentTests : (py pu pv : List ℕ) → List Bool
@@ -72,27 +78,27 @@ unfoldable pub lentOk : (py pu pv : List ℕ) → Bool
 lentOk py pu pv = allOf (lentTests py pu pv)
 
 -- over all leaves, 13, 9, 6 and 7
-unfoldable pub dataCheck : (r : List ℕ) (residual : ℕ) (py pu pv : List ℕ) (l : List Leaf) → Answer
-dataCheck r residual py pu pv l =
-    unless (recordsOk r residual (passed r l first .at) (length l)) (Refused Record)
+unfoldable pub dataCheck : Format → (r : List ℕ) (residual : ℕ) (py pu pv : List ℕ) (l : List Leaf) → Answer
+dataCheck f r residual py pu pv l =
+    unless (recordsOk f r residual (passed r l first .at) (length l)) (Refused Record)
     (unless (bytesOk r (length l) 0 5) (Refused Mode)
     (unless (bytesOk r (length l) 1 51) (Refused Qp)
     (unless (lentOk py pu pv) (Refused Sample)
     Done)))
 
 -- 1, 2, then 4 or 5 as the walk meets them, and then the data. residual and what is written by their lengths
-unfoldable pub checkOf : (w h : ℕ) (splits leaves : List ℕ) (residual : ℕ) (py pu pv : List ℕ) (y u v words modes : ℕ) → Answer
-checkOf w h splits leaves residual py pu pv y u v words modes =
+unfoldable pub checkOf : (w h : ℕ) → Format → (splits leaves : List ℕ) (residual : ℕ) (py pu pv : List ℕ) (y u v words modes : ℕ) → Answer
+checkOf w h f splits leaves residual py pu pv y u v words modes =
     unless (sizeOk w h) (Refused Size)
-    (unless (readOk w h (length splits) (length py) (length pu) (length pv)) (Refused Length)
-    (unless (writtenOk w h y u v words modes) (Refused Length)
-    (afterChecks Refused (dataCheck leaves residual py pu pv (leavesOf w h splits))
+    (unless (readOk w h f (length splits) (length py) (length pu) (length pv)) (Refused Length)
+    (unless (writtenOk w h f y u v words modes) (Refused Length)
+    (afterChecks Refused (dataCheck f leaves residual py pu pv (leavesOf w h splits))
     (pictureWalk splits (w / 4) (h / 4) .answer))))
 
 abbrev pub check : Input → Answer
 check i =
     let g = i .given in
-    checkOf (g .w) (g .h) (i .splits) (g .leaves) (length (g .residual)) (g .pred-y) (g .pred-u) (g .pred-v)
+    checkOf (g .w) (g .h) (g .format) (i .splits) (g .leaves) (length (g .residual)) (g .pred-y) (g .pred-u) (g .pred-v)
     (length (i .y)) (length (i .u)) (length (i .v)) (length (i .words)) (length (i .modes))
 
 -- ---- the outcome

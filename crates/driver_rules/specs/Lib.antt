@@ -1,5 +1,6 @@
 pub mod Asked
 pub mod Call
 pub mod Finished
+pub mod Luma
 pub mod Records
 pub mod Steps

@@ -1,4 +1,4 @@
--- The leaf records, four bytes a leaf in walk order: kind (0 to 4 a mode, 5 the lent prediction), QP, mask (1 Y, 2 U, 4 V), 0.
+-- The leaf records, four bytes a leaf in walk order: kind (0 to 4 a mode, 5 the lent prediction), QP, mask (1 Y, 2 U, 4 V; in a grey picture 1 alone), 0.
 -- And where a leaf's residuals lie in their list: Y, U, V one after another, only the masked ones.
 -- Assumes nothing: these are definitions.
 use Prim.Native.Nat.{ℕ, _+_, _*_}
@@ -12,6 +12,8 @@ use Rattle.laws.specs.Scan.{allBelow}
 use Rattle.def.specs.Word.{flagAt, leafWord}
 use Rattle.def.specs.declared.Component.{Component}
 use Rattle.def.specs.declared.Component.the-variants.{Luma, Chroma}
+use Rattle.def.specs.declared.Format.{Format}
+use Rattle.def.specs.declared.Format.the-variants.{Grey, Colour}
 use Rattle.nbr.specs.Gather.{sideOf}
 use Rattle.split.specs.Walk.{Leaf}
 
@@ -45,6 +47,11 @@ codedU mask = flagAt 1 mask
 
 abbrev pub codedV : ℕ → Bool
 codedV mask = flagAt 2 mask
+
+-- the largest mask: of Y alone, or of all three
+abbrev pub mostMask : Format → ℕ
+mostMask Grey = 1
+mostMask Colour = 7
 
 -- what the leaf's units are told: intra for a mode, the QP, luma-coded and done; and the mode, 255 for the lent prediction
 abbrev pub wordAt : List ℕ → ℕ → ℕ

@@ -1,4 +1,5 @@
 -- What the driver does at a leaf. Each component is gathered around, predicted and reconstructed as the calls of `nbr`, `ipred` and `recon` have it.
+-- Both formats have one rule: in a grey picture U and V are [], where no block changes anything (`plane-none`), and no leaf has residuals of them.
 -- Assumes nothing: these are definitions.
 use Prim.Native.Nat.{ℕ, _+_, _*_, _/_}
 use mathlib.Core.Bool.{Bool}
@@ -10,6 +11,7 @@ use Rattle.laws.specs.Orders.{run}
 use Rattle.laws.specs.Plane.{withBlock}
 use Rattle.def.specs.declared.Component.{Component}
 use Rattle.def.specs.declared.Component.the-variants.{Luma, Chroma}
+use Rattle.def.specs.declared.Format.{Format}
 use Rattle.ipred.specs.Modes.{predicted, blockOf}
 use Rattle.nbr.specs.Gather.{Around, across, column, row, sideOf, runOf}
 use Rattle.recon.specs.Plane as recon
@@ -50,6 +52,7 @@ planeOf a kind lent coded coef =
 pub record Given : Type 0 where
   pub w : ℕ
   pub h : ℕ
+  pub format : Format
   pub constrained : Bool
   pub leaves : List ℕ
   pub residual : List ℤ

@@ -1,13 +1,17 @@
 // Replays recorded cases of the block driver. A line of data/cases is a call; the line printed for it is the number that it answers, and
 // the planes, the unit words and the modes as it leaves them.
+use def::Format;
 
-// The picture's size and the flag come first in a case, then its split bytes and the two lists of its leaves.
+// The picture's size and two flags come first in a case, whether it has colour and whether its intra is constrained; then its split bytes
+// and the two lists of its leaves.
 fn one(s: &[u8], at: usize) -> usize {
     let w = cases::number(s, at);
     let h = cases::number(s, w.next);
-    let flag = cases::number(s, h.next);
+    let colour = cases::number(s, h.next);
+    let format = format_of(colour.size == 1);
+    let constrained = cases::number(s, colour.next);
     let mut splits = [0u8; 67000];
-    let ps = cases::slice_u8(s, flag.next, &mut splits);
+    let ps = cases::slice_u8(s, constrained.next, &mut splits);
     let mut leaves = [0u8; 5000];
     let pl = cases::slice_u8(s, ps.next, &mut leaves);
     let mut residual = [0i16; 30000];
@@ -20,11 +24,16 @@ fn one(s: &[u8], at: usize) -> usize {
         pr.next,
         w.size,
         h.size,
-        flag.size == 1,
+        format,
+        constrained.size == 1,
         &splits[..ns],
         &leaves[..nl],
         &residual[..nr],
     )
+}
+
+fn format_of(colour: bool) -> Format {
+    if colour { Format::Colour } else { Format::Grey }
 }
 
 // Then the lent prediction.
@@ -33,6 +42,7 @@ fn predictions(
     at: usize,
     w: usize,
     h: usize,
+    format: Format,
     constrained: bool,
     splits: &[u8],
     leaves: &[u8],
@@ -52,6 +62,7 @@ fn predictions(
         pv.next,
         w,
         h,
+        format,
         constrained,
         splits,
         leaves,
@@ -68,6 +79,7 @@ fn planes(
     at: usize,
     w: usize,
     h: usize,
+    format: Format,
     constrained: bool,
     splits: &[u8],
     leaves: &[u8],
@@ -94,6 +106,7 @@ fn planes(
     reconstructed(
         w,
         h,
+        format,
         constrained,
         splits,
         leaves,
@@ -113,6 +126,7 @@ fn planes(
 fn reconstructed(
     w: usize,
     h: usize,
+    format: Format,
     constrained: bool,
     splits: &[u8],
     leaves: &[u8],
@@ -129,6 +143,7 @@ fn reconstructed(
     let answer = driver::reconstruct(
         w,
         h,
+        format,
         splits,
         leaves,
         residual,
@@ -167,8 +182,8 @@ fn every(s: &[u8]) {
 }
 
 // A call keeps the checker from looking into the array.
-fn room() -> [u8; 5000000] {
-    [0u8; 5000000]
+fn room() -> [u8; 5500000] {
+    [0u8; 5500000]
 }
 
 fn main() {

@@ -69,8 +69,9 @@ impl Work {
                 let predictions = lent.each_ref().map(|plane| &plane[..]);
                 let picture = lomsakeun::Picture { w: self.size, h: self.size, y, u, v, words };
                 let (splits, leaves) = (&self.splits[..], &records[..]);
-                let constrained = false;
-                let blocks = lomsakeun::Blocks { splits, leaves, residual: &residual, predictions, constrained };
+                let (colour, constrained) = (true, false);
+                let blocks =
+                    lomsakeun::Blocks { colour, splits, leaves, residual: &residual, predictions, constrained };
                 lomsakeun::reconstruct(blocks, picture, modes).unwrap();
             },
         );

@@ -14,7 +14,7 @@ abbrev input : tie.Start → Input
 input s =
     let a = s .args in
     record {
-      given = givenOf (a .w) (a .h) (a .constrained) (a .leaves .now) (a .residual .now) (a .pred-y .now) (a .pred-u .now) (a .pred-v .now);
+      given = givenOf (a .w) (a .h) (a .format) (a .constrained) (a .leaves .now) (a .residual .now) (a .pred-y .now) (a .pred-u .now) (a .pred-v .now);
       splits = a .splits .now;
       y = a .y .now;
       u = a .u .now;
@@ -46,4 +46,4 @@ pub reconstruct-spec : {M : Type 1} → statement M
 reconstruct-spec =
     tie.close
     (tie.spec (λ c κs. search needs) (λ c. search needs) (λ c. search needs) (λ c κs. search needs) draw-picture-requires returns
-    (λ c. c .before .before .before .before .before .before .before .before .before .before .draw-picture .kept .1 .1 .1 .1 .1 .1 .1 .1 .1 .0) (λ c. c .before .before .before .before .before .before .before .before .before .before .draw-picture .kept .1 .1 .1 .1 .1 .1 .1 .1 .1 .1 .0) (λ c. c .before .before .before .before .before .before .before .before .before .before .draw-picture .kept .1 .1 .1 .1 .1 .1 .1 .1 .1 .1 .1 .0) (λ c. c .before .before .before .before .before .before .before .before .before .before .draw-picture .kept .1 .1 .1 .1 .1 .1 .1 .1 .1 .1 .1 .1 .0 ∙ c .before .before .before .before .before .before .before .before .before .before .before .before .before .before .before .before .before .before .clear .kept .0) (λ c. c .before .before .before .before .before .before .before .before .before .before .draw-picture .kept .1 .1 .1 .1 .1 .1 .1 .1 .1 .1 .1 .1 .1 .0) returns-2)
+    (λ c. c .before .before .before .before .before .before .before .before .before .before .draw-picture .kept .1 .1 .1 .1 .1 .1 .1 .1 .1 .1 .0) (λ c. c .before .before .before .before .before .before .before .before .before .before .draw-picture .kept .1 .1 .1 .1 .1 .1 .1 .1 .1 .1 .1 .0) (λ c. c .before .before .before .before .before .before .before .before .before .before .draw-picture .kept .1 .1 .1 .1 .1 .1 .1 .1 .1 .1 .1 .1 .0) (λ c. c .before .before .before .before .before .before .before .before .before .before .draw-picture .kept .1 .1 .1 .1 .1 .1 .1 .1 .1 .1 .1 .1 .1 .0 ∙ c .before .before .before .before .before .before .before .before .before .before .before .before .before .before .before .before .before .before .clear .kept .0) (λ c. c .before .before .before .before .before .before .before .before .before .before .draw-picture .kept .1 .1 .1 .1 .1 .1 .1 .1 .1 .1 .1 .1 .1 .1 .0) returns-2)

@@ -16,7 +16,7 @@ slice-aggregate-predictions-3 c = let p = c .before .before .before .before .bef
 pub one-spec : {M : Type 1} → statement M
 one-spec =
     tie.close
-    (tie.spec (λ c κs. search needs) (λ c κs. search needs) (λ c κs. search needs) (λ c. search needs) (λ c κs. search needs)
+    (tie.spec (λ c κs. search needs) (λ c κs. search needs) (λ c κs. search needs) (λ c κs. search needs) (λ c κs. search needs) (λ c. search needs) (λ c κs. search needs)
     (λ c. search needs) (λ c κs. search needs) (λ c. search needs) (λ c κs. search needs) (λ c. search needs) slice-aggregate-predictions
     (λ c. search needs) slice-aggregate-predictions-2 (λ c. search needs) slice-aggregate-predictions-3 (λ c κs. search needs)
     (λ c. search needs))

@@ -14,6 +14,7 @@ use oracle::{gather, predict, residual};
 pub struct Driver {
     pub w: usize,
     pub h: usize,
+    pub colour: bool,
     pub constrained: bool,
     pub splits: Vec<u8>,
     pub records: Vec<u8>,
@@ -29,6 +30,7 @@ impl Driver {
         Given {
             w: self.w,
             h: self.h,
+            colour: self.colour,
             splits: &self.splits,
             records: &self.records,
             residuals: &self.residuals,
@@ -37,11 +39,34 @@ impl Driver {
         }
     }
 
-    /// The three components of one leaf, by the Rust's own functions. Answers where the next residuals start.
+    /// The same picture without its colour: masks of Y alone, and of the residuals Y's blocks.
+    pub fn grey(&self) -> Driver {
+        let mut out = Driver { colour: false, residuals: vec![], ..self.clone() };
+        let leaves = walk::leaves(self.w, self.h, walk::cut_by(&self.splits, self.w)).unwrap_or_default();
+        let mut rest = &self.residuals[..];
+        for (leaf, record) in leaves.iter().zip(model::records(&self.given())) {
+            let luma = if record.mask & 1 == 1 { leaf.wide * leaf.wide } else { 0 };
+            out.residuals.extend_from_slice(&rest[..luma]);
+            rest = &rest[model::residual_len((leaf, record))..];
+        }
+        out.records.iter_mut().skip(2).step_by(4).for_each(|mask| *mask &= 1);
+        out.predictions[1..].iter_mut().chain(&mut out.planes[1..]).for_each(Vec::clear);
+        out
+    }
+
+    /// The luma plane, the words and the modes of the model's answer.
+    pub fn luma(&self) -> Vec<i64> {
+        let mut line = self.model().0;
+        let (y, colour) = (1 + self.planes[0].len(), self.planes[1].len() + self.planes[2].len());
+        line.drain(y..y + colour);
+        line
+    }
+
+    /// The components of one leaf, by the Rust's own functions. Answers where the next residuals start.
     fn leaf(&self, leaf: walk::Leaf, record: model::Record, at: usize, out: &mut Driver) -> Option<usize> {
         let (size, block) = ((self.w, self.h), (leaf.x, leaf.y, leaf.wide));
         let mut at = at;
-        for i in 0..3 {
+        for i in 0..if self.colour { 3 } else { 1 } {
             let (chroma, scale) = (i > 0, if i > 0 { 2 } else { 1 });
             let side = leaf.wide / scale;
             let mut prediction = vec![0; side * side];
@@ -72,7 +97,7 @@ impl Driver {
 
 impl Case for Driver {
     fn input(&self) -> Line {
-        let line = Line::new().num(self.w).num(self.h).flag(self.constrained).slice(&self.splits);
+        let line = Line::new().num(self.w).num(self.h).flag(self.colour).flag(self.constrained).slice(&self.splits);
         let line = line.slice(&self.records).slice(&self.residuals);
         let line = self.predictions.iter().chain(&self.planes).fold(line, |line, plane| line.slice(plane));
         line.slice(&self.words).slice(&self.modes)
@@ -111,6 +136,7 @@ impl Case for Driver {
             sys::lomsakeun_reconstruct(
                 self.w,
                 self.h,
+                self.colour,
                 splits.ptr(),
                 splits.len(),
                 records.ptr(),
@@ -174,6 +200,7 @@ pub fn drawn(rng: &mut Rng, (w, h): (usize, usize), splits: Vec<u8>, kinds: &[u8
     let mut picture = Driver {
         w,
         h,
+        colour: true,
         constrained: rng.one_in(2),
         splits,
         records: leaves.iter().flat_map(|_| record(rng)).collect(),

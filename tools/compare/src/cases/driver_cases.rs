@@ -22,11 +22,15 @@ pub fn record(tape: &mut Tape) {
     roots(tape, rng);
     longest(tape, rng);
     super::driver_refusals::record(tape, rng);
+    greys(tape, rng);
+    super::driver_refusals::greys(tape, rng);
     tape.say("recorded pictures compared");
     for _ in 0..1500 {
         let most = rng.pick(&[8, 16, 36, 72, 140]);
         let size = square(rng, most);
-        tape.compare(&any(rng, size));
+        let case = any(rng, size);
+        tape.compare(&case);
+        tape.compare(&grey(&case));
     }
     tape.say("further pictures up to 140 by 140 compared");
 }
@@ -40,11 +44,40 @@ fn any(rng: &mut Rng, (w, h): (usize, usize)) -> Driver {
 pub fn draw(rng: &mut Rng) -> Box<dyn Case> {
     let most = rng.pick(&[8, 16, 36, 72, 140]);
     let size = (size(rng, most), size(rng, most));
-    Box::new(any(rng, size))
+    let case = any(rng, size);
+    Box::new(if rng.one_in(3) { grey(&case) } else { case })
 }
 
 pub fn damaged(rng: &mut Rng) -> Box<dyn Case> {
     Box::new(driver_refusals::damaged(rng))
+}
+
+/// A picture without its colour: its luma plane, its words and its modes must be those of the run in colour.
+fn grey(case: &Driver) -> Driver {
+    let grey = case.grey();
+    assert!(
+        grey.luma() == case.luma(),
+        "a grey picture has another luma plane, word or mode than the one in colour"
+    );
+    grey
+}
+
+/// Grey pictures: the smallest and one of the longest, each kind, each mask, and any.
+fn greys(tape: &mut Tape, rng: &mut Rng) {
+    tape.record(&grey(&of(rng, (4, 4), trees::FINEST, &KINDS, &[7])));
+    let mut long = of(rng, (4, 4096), trees::FINEST, &KINDS, &[0, 0, 0, 2, 4]);
+    digits(rng, &mut long);
+    tape.record(&grey(&long));
+    for kind in KINDS {
+        tape.record(&grey(&of(rng, (12, 12), trees::FINE, &[kind], &MASKS)));
+    }
+    for mask in MASKS {
+        tape.record(&grey(&of(rng, (12, 8), trees::FINE, &KINDS, &[mask])));
+    }
+    for _ in 0..24 {
+        let size = square(rng, 16);
+        tape.record(&grey(&any(rng, size)));
+    }
 }
 
 /// Each kind on leaves of each side, beside and below others, and each mask, constrained and not.

@@ -149,6 +149,37 @@ fn over(tape: &mut Tape, rng: &mut Rng) {
     }
 }
 
+/// Of a grey picture: 2 where a chroma plane is lent, as to a picture in colour where none is; 13 for a chroma bit, with the residuals that it asks and without.
+pub fn greys(tape: &mut Tape, rng: &mut Rng) {
+    let colour = picture(rng, 8, 8, trees::FINEST);
+    let good = colour.grey();
+    for i in 1..3 {
+        for lent in [vec![0], colour.planes[i].clone()] {
+            let mut bad = good.clone();
+            bad.planes[i] = lent.clone();
+            tape.record(&bad);
+            bad = good.clone();
+            bad.predictions[i] = lent;
+            tape.record(&bad);
+        }
+    }
+    tape.record(&Driver { colour: false, ..colour.clone() });
+    tape.record(&Driver { colour: true, ..good.clone() });
+    for mask in 1..8 {
+        for leaf in 0..4 {
+            let mut bad = of(rng, (8, 8), trees::FINEST, &KINDS, &[0]).grey();
+            bad.records[4 * leaf + 2] = mask;
+            bad.residuals.resize([0, 16, 4, 20, 4, 20, 8, 24][mask as usize], 1);
+            tape.record(&bad);
+            bad.residuals.resize([0, 16][mask as usize & 1], 1);
+            tape.record(&bad);
+        }
+    }
+    for _ in 0..20 {
+        tape.record(&damage(rng, true));
+    }
+}
+
 /// Several reasons at once: 1, 2, the walk's 4 or 5, 13, 9, 6, 7. A later one stands in an earlier leaf.
 fn order(tape: &mut Tape, rng: &mut Rng) {
     for reasons in 0..64 {
@@ -192,9 +223,17 @@ fn spoil_list(rng: &mut Rng, bad: &mut Driver) {
 
 /// An accepted picture with one or two things changed.
 pub fn damaged(rng: &mut Rng) -> Driver {
+    let grey = rng.one_in(3);
+    damage(rng, grey)
+}
+
+fn damage(rng: &mut Rng, grey: bool) -> Driver {
     let (w, h) = (size(rng, 16), size(rng, 16));
     let taste = trees::taste(rng);
     let mut case = picture(rng, w, h, taste);
+    if grey {
+        case = case.grey();
+    }
     for _ in 0..1 + rng.below(2) {
         let plane = rng.below(3);
         let leaf = 4 * rng.below((case.records.len() / 4).max(1));
@@ -206,7 +245,7 @@ pub fn damaged(rng: &mut Rng) -> Driver {
         match rng.below(14) {
             0 => set(0, rng.pick(&[5, 6, 7, 254, 255])),
             1 => set(1, rng.pick(&[51, 52, 64, 128, 255])),
-            2 => set(2, rng.pick(&[7, 8, 9, 255])),
+            2 => set(2, rng.pick(&[1, 2, 7, 8, 9, 255])),
             3 => set(3, rng.pick(&[1, 128, 255])),
             4 => spoil(rng, &mut case.w),
             5 => spoil(rng, &mut case.h),

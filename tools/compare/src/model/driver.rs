@@ -7,6 +7,8 @@ use super::*;
 pub struct Given<'a> {
     pub w: usize,
     pub h: usize,
+    /// Whether the picture has colour. A grey one has no U and V, and its leaves no mask bit and no residual of them.
+    pub colour: bool,
     pub splits: &'a [u8],
     /// Four bytes a leaf: kind, QP, mask, 0.
     pub records: &'a [u8],
@@ -34,7 +36,7 @@ pub fn reconstruct(given: &Given, mut planes: [&mut [u16]; 3], words: &mut [u32]
     words.fill(0);
     let mut residuals = given.residuals;
     for (leaf, record) in leaves.iter().zip(records(given)) {
-        for (i, plane) in planes.iter_mut().enumerate() {
+        for (i, plane) in planes.iter_mut().enumerate().take(if given.colour { 3 } else { 1 }) {
             let prediction = predicted(given, *leaf, record, i, plane, words);
             let coded = record.mask >> i & 1 == 1;
             let (own, rest) = residuals.split_at(if coded { prediction.len() } else { 0 });
@@ -75,13 +77,16 @@ fn check(given: &Given, planes: [usize; 3], words: usize, modes: usize) -> Resul
     let (units, roots) = ((w / 4) * (h / 4), w.div_ceil(64) * h.div_ceil(64));
     let lent = given.predictions.iter().map(|plane| plane.len());
     let long = planes.into_iter().chain(lent).zip([false, true, true].into_iter().cycle());
-    let planes_ok = long.into_iter().all(|(n, chroma)| n == plane_len(chroma, w, h));
+    let chroma_len = if given.colour { plane_len(true, w, h) } else { 0 };
+    let planes_ok =
+        long.into_iter().all(|(n, chroma)| n == if chroma { chroma_len } else { plane_len(false, w, h) });
     if !planes_ok || words != units || modes != units || given.splits.len() != 1024 * roots {
         return Err(LENGTH);
     }
     let leaves = walk::leaves(w, h, walk::cut_by(given.splits, w))?;
+    let most = if given.colour { 7 } else { 1 };
     if given.records.len() != 4 * leaves.len()
-        || !records(given).all(|record| record.mask <= 7 && record.spare == 0)
+        || !records(given).all(|record| record.mask <= most && record.spare == 0)
     {
         return Err(RECORD);
     }

@@ -15,11 +15,11 @@ use Rattle.driver.proofs.walk.draw_leaves.Statement.{statement}
 use Rattle.driver.proofs.walk.draw_leaves.Tie as tie
 
 abbrev Inv-loop : tie.InvT-loop
-Inv-loop w h constrained list n leaves k pred-y pred-u pred-v residual at y₀ u₀ v₀ words₀ modes₀ run₀ room₀ end₀ j₀ y u v words modes run room end j =
-    (j ≤ n) × Stepped (givenOf w h constrained leaves residual pred-y pred-u pred-v) (leavesFrom list j) (stateOf y₀ u₀ v₀ words₀ modes₀ at k) (stateOf y u v words modes end (k + j))
+Inv-loop w h format constrained list n leaves k pred-y pred-u pred-v residual at y₀ u₀ v₀ words₀ modes₀ run₀ room₀ end₀ j₀ y u v words modes run room end j =
+    (j ≤ n) × Stepped (givenOf w h format constrained leaves residual pred-y pred-u pred-v) (leavesFrom list j) (stateOf y₀ u₀ v₀ words₀ modes₀ at k) (stateOf y u v words modes end (k + j))
 
 abbrev μ-loop : tie.MeasureT-loop
-μ-loop w h constrained list n leaves k pred-y pred-u pred-v residual at y₀ u₀ v₀ words₀ modes₀ run₀ room₀ end₀ j₀ y u v words modes run room end j = n - j
+μ-loop w h format constrained list n leaves k pred-y pred-u pred-v residual at y₀ u₀ v₀ words₀ modes₀ run₀ room₀ end₀ j₀ y u v words modes run room end j = n - j
 
 loop-holds : tie.Need-loop-holds Inv-loop μ-loop
 loop-holds c = let s = c .before .before .before .before .before .before .before .before .before .before in (omega arith, leaves-start (s .args .list .now) (s .args .k) (s .pre .1 .0))
@@ -43,7 +43,7 @@ block c = let e = c .leaf-at .ensures in rw (e .0, e .1, e .2) (c .before .befor
 leaf-planes-requires : tie.Need-leaf-planes-requires Inv-loop μ-loop
 leaf-planes-requires c κs =
     let s = c .before .before .before .before .before .before .before .before .before .before .before .before .before .before .before .before .before .before .before .before in
-    (planes-asked _ _ _ (s .pre .0) (c .before .before .before .before .before .before .before .before .before .loop .inv .1 .asked) (block (c .before .before .before .before .before .before .before)), rw (c .before .before .before .before .before .before .record-at .ensures .2, c .before .before .before .before .before .before .before .leaf-at .ensures .2) (reached (c .before .before .before .before .before .before .before .before) .residuals))
+    (planes-asked _ _ _ _ (s .pre .0) (c .before .before .before .before .before .before .before .before .before .loop .inv .1 .asked) (block (c .before .before .before .before .before .before .before)) (rw (c .before .before .before .before .before .before .record-at .ensures .2) (s .pre .0 .masks _)), rw (c .before .before .before .before .before .before .record-at .ensures .2, c .before .before .before .before .before .before .before .leaf-at .ensures .2) (reached (c .before .before .before .before .before .before .before .before) .residuals))
 
 tell-requires : tie.Need-tell-requires Inv-loop μ-loop
 tell-requires c κs =
@@ -55,7 +55,7 @@ loop-again c =
     let s = c .before .before .before .before .before .before .before .before .before .before .before .before .before .before .before .before .before .before .before .before .before .before .before .before .before .before .before .before .before .before .before .before .before .before in
     let l = c .before .before .before .before .before .before .before .before .before .before .before .before .before .before .before .before .before .before .before .before .before .before .before .loop in (
       omega (arith, c .before .before .before .before .before .before .before .before .before .before .before .before .before .before .before .before .before .before .before .before .before .before .loop-test .taken),
-      leaves-next (givenOf (s .args .w) (s .args .h) (s .args .constrained) (s .args .leaves .now) (s .args .residual .now) (s .args .pred-y .now) (s .args .pred-u .now) (s .args .pred-v .now)) (s .args .list .now) (s .args .k) (l .j) (s .pre .0) (block (c .before .before .before .before .before .before .before .before .before .before .before .before .before .before .before .before .before .before .before .before .before)) (c .before .before .before .before .before .before .before .before .before .before .before .before .before .before .before .before .before .before .before .before .before .leaf-at .ensures) (c .before .before .before .before .before .before .before .before .before .before .before .before .before .before .before .before .before .before .before .before .record-at .ensures) (c .before .before .before .before .before .before .before .before .before .before .before .before .before .leaf-planes .ensures) (c .before .before .before .before .tell .ensures) (l .inv .1),
+      leaves-next (givenOf (s .args .w) (s .args .h) (s .args .format) (s .args .constrained) (s .args .leaves .now) (s .args .residual .now) (s .args .pred-y .now) (s .args .pred-u .now) (s .args .pred-v .now)) (s .args .list .now) (s .args .k) (l .j) (s .pre .0) (block (c .before .before .before .before .before .before .before .before .before .before .before .before .before .before .before .before .before .before .before .before .before)) (c .before .before .before .before .before .before .before .before .before .before .before .before .before .before .before .before .before .before .before .before .before .leaf-at .ensures) (c .before .before .before .before .before .before .before .before .before .before .before .before .before .before .before .before .before .before .before .before .record-at .ensures) (c .before .before .before .before .before .before .before .before .before .before .before .before .before .leaf-planes .ensures) (c .before .before .before .before .tell .ensures) (l .inv .1),
     )
 
 -- at the end

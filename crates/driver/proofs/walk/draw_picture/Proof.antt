@@ -16,13 +16,13 @@ use Rattle.driver.proofs.walk.draw_picture.Statement.{statement}
 use Rattle.driver.proofs.walk.draw_picture.Tie as tie
 
 abbrev Inv-loop : tie.InvT-loop
-Inv-loop w h constrained splits leaves pred-y pred-u pred-v residual y₀ u₀ v₀ words₀ modes₀ roots list₀ run₀ room₀ at₀ k₀ i₀ y u v words modes list run room at k i =
+Inv-loop w h format constrained splits leaves pred-y pred-u pred-v residual y₀ u₀ v₀ words₀ modes₀ roots list₀ run₀ room₀ at₀ k₀ i₀ y u v words modes list run room at k i =
     (i ≤ roots) × (length list ≡ 768)
-    × Stepped (givenOf w h constrained leaves residual pred-y pred-u pred-v) (leavesOf splits (w / 4) (h / 4) i) (stateOf y₀ u₀ v₀ words₀ modes₀ 0 0) (stateOf y u v words modes at k)
+    × Stepped (givenOf w h format constrained leaves residual pred-y pred-u pred-v) (leavesOf splits (w / 4) (h / 4) i) (stateOf y₀ u₀ v₀ words₀ modes₀ 0 0) (stateOf y u v words modes at k)
     × (k ≤ 256 * i)
 
 abbrev μ-loop : tie.MeasureT-loop
-μ-loop w h constrained splits leaves pred-y pred-u pred-v residual y₀ u₀ v₀ words₀ modes₀ roots list₀ run₀ room₀ at₀ k₀ i₀ y u v words modes list run room at k i = roots - i
+μ-loop w h format constrained splits leaves pred-y pred-u pred-v residual y₀ u₀ v₀ words₀ modes₀ roots list₀ run₀ room₀ at₀ k₀ i₀ y u v words modes list run room at k i = roots - i
 
 size : (s : tie.Start Inv-loop μ-loop) → Sized (s .args .w) (s .args .h)
 size s = sized _ _ (s .pre .0 .size)

@@ -22,7 +22,7 @@ size c = sym (c .before .size-ok .ensures) ∙ not-false _ (c .if1 .left)
 -- the walk's answer
 walked : (c : tie.After-check) → let a = c .before .before .before .before .before .before .before .before .before .before .before .before .args in c .check .result ≡ pictureWalk (a .splits .now) (a .w / 4) (a .h / 4) .answer
 walked c =
-    let read = read-told _ _ _ _ _ _ (sym (c .before .before .before .before .read-ok .ensures) ∙ not-false _ (c .before .before .before .if2 .left)) in
+    let read = read-told _ _ _ _ _ _ _ (sym (c .before .before .before .before .read-ok .ensures) ∙ not-false _ (c .before .before .before .if2 .left)) in
     check-is _ _ (c .check .ensures) ∙ walk-answer _ _ _ (size (c .before .before .before .before .before)) (read .splits-long)
 
 returns : tie.Need-returns
@@ -44,7 +44,7 @@ returns-3 c =
 
 data-checked-requires : tie.Need-data-checked-requires
 data-checked-requires c κs =
-    let read = read-told _ _ _ _ _ _ (sym (c .before .before .before .before .before .before .read-ok .ensures) ∙ not-false _ (c .before .before .before .before .before .if2 .left)) in
+    let read = read-told _ _ _ _ _ _ _ (sym (c .before .before .before .before .before .before .read-ok .ensures) ∙ not-false _ (c .before .before .before .before .before .if2 .left)) in
     record { size = size (c .before .before .before .before .before .before .before); long = read .splits-long; walked = sym (walked (c .before .before)) ∙ c .enum-told .given .1 }
 
 returns-4 : tie.Need-returns-4

@@ -11,14 +11,14 @@ use Rattle.driver_rules.proofs.Checks.{dataRow, data-row, records-long}
 use Rattle.driver_check.proofs.check.data_checked.Statement.{statement}
 use Rattle.driver_check.proofs.check.data_checked.Tie as tie
 
-row : (c : tie.After-past-picture) → let a = c .before .before .before .before .before .before .args in dataRow (a .leaves .now) (a .residual) (c .past-picture .result .at) (c .past-picture .result .k) (a .pred-y .now) (a .pred-u .now) (a .pred-v .now) ≡ dataCheck (a .leaves .now) (a .residual) (a .pred-y .now) (a .pred-u .now) (a .pred-v .now) (leavesOf (a .w) (a .h) (a .splits .now))
+row : (c : tie.After-past-picture) → let a = c .before .before .before .before .before .before .args in dataRow (a .format) (a .leaves .now) (a .residual) (c .past-picture .result .at) (c .past-picture .result .k) (a .pred-y .now) (a .pred-u .now) (a .pred-v .now) ≡ dataCheck (a .format) (a .leaves .now) (a .residual) (a .pred-y .now) (a .pred-u .now) (a .pred-v .now) (leavesOf (a .w) (a .h) (a .splits .now))
 row c =
     let a = c .before .before .before .before .before .before .args in
-    data-row (a .leaves .now) (a .residual) (c .past-picture .result .at) (c .past-picture .result .k) (a .pred-y .now) (a .pred-u .now) (a .pred-v .now) (leavesOf (a .w) (a .h) (a .splits .now)) (c .past-picture .ensures .0)
+    data-row (a .format) (a .leaves .now) (a .residual) (c .past-picture .result .at) (c .past-picture .result .k) (a .pred-y .now) (a .pred-u .now) (a .pred-v .now) (leavesOf (a .w) (a .h) (a .splits .now)) (c .past-picture .ensures .0)
 
 -- as many records as leaves
 long : (c : tie.Else1) → length (c .before .before .before .before .before .before .before .before .args .leaves .now) ≡ 4 * c .before .before .past-picture .result .k
-long c = records-long _ _ _ _ (sym (c .before .records-ok .ensures) ∙ not-false _ (c .if1 .left))
+long c = records-long _ _ _ _ _ (sym (c .before .records-ok .ensures) ∙ not-false _ (c .if1 .left))
 
 returns : tie.Need-returns
 returns c = stops _ _ _ _ (c .before .records-ok .ensures) (c .if1 .taken) ∙ row (c .before .before)

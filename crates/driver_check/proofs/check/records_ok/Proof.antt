@@ -11,12 +11,12 @@ returns : tie.Need-returns
 unfolding recordsOk
 returns c =
     let a = c .before .before .args in
-    sym (all-fails (recordTests (a .leaves .now) (a .residual) (a .at) (a .n)) 0 (ne-eqb _ _ (c .if1 .taken)))
+    sym (all-fails (recordTests (a .format) (a .leaves .now) (a .residual) (a .at) (a .n)) 0 (ne-eqb _ _ (c .if1 .taken)))
 
 returns-2 : tie.Need-returns-2
 unfolding recordsOk
-returns-2 c = rw (eq-eqb _ _ (c .before .before .if1 .left), c .before .bytes-ok .ensures, c .bytes-ok2 .ensures)
+returns-2 c = rw (eq-eqb _ _ (c .before .before .before .if1 .left), c .before .bytes-ok .ensures, c .bytes-ok2 .ensures, c .before .before .most-mask .ensures)
 
 pub records-ok-spec : {M : Type 1} → statement M
 records-ok-spec =
-    tie.close (tie.spec (λ c. search needs) returns (λ c κs. search needs) (λ c κs. search needs) returns-2)
+    tie.close (tie.spec (λ c. search needs) returns (λ c κs. search needs) (λ c κs. search needs) (λ c κs. search needs) returns-2)

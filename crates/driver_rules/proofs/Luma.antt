@@ -1,0 +1,77 @@
+-- Two calls that are lent the same luma data leave the same luma plane, words and modes, whatever their formats.
+--     step-same    a leaf
+--     steps-same    the leaves of a list
+--     same-luma    the theorem
+-- Assumes nothing.
+use Prim.Native.Nat.{ℕ, suc, _*_, _/_, _<_}
+use mathlib.Core.Path.{_≡_, refl, ap, _∙_}
+use mathlib.Core.Bool.{Bool, true, false}
+use mathlib.Core.List.{List, [], _∷_}
+use native.Mathlib.Omega.{arith}
+use lib.IntN.{ℤ}
+use lib.ListN.{length, take}
+use Rattle.laws.specs.Index.{pick, tabulate}
+use Rattle.laws.specs.Orders.{run}
+use Rattle.def.specs.Word.{leafWord}
+use Rattle.def.specs.declared.Answer.the-variants.{Done}
+use Rattle.def.specs.declared.Component.the-variants.{Luma}
+use Rattle.nbr.specs.Gather.{Around}
+use Rattle.split.specs.Walk.{Leaf}
+use Rattle.driver_rules.specs.Call.{Input, Outcome, leavesOf, check, start, end, done, outcome}
+use Rattle.driver_rules.specs.Luma.{lumaResidual, SameLeaf, SameLeaves, SameGiven, SameLuma, LumaAgrees}
+use Rattle.driver_rules.specs.Records.{isMode, first}
+use Rattle.driver_rules.specs.Steps.{Given, State, planeOf, withUnits, stepAt, step, steps}
+use Rattle.driver_rules.proofs.Components.{plane-uncoded}
+
+-- ---- a leaf
+
+plane-same : (a : Around) (kind : ℕ) (lent : List ℕ) (coded : Bool) (coef other : List ℤ) → (coded ≡ true → coef ≡ other) → planeOf a kind lent coded coef ≡ planeOf a kind lent coded other
+plane-same a kind lent true coef other e = ap (planeOf a kind lent true) (e refl)
+plane-same a kind lent false coef other e = plane-uncoded a kind lent coef other
+
+pub record Agree (s t : State) : Type 0 where
+  pub y : s .y ≡ t .y
+  pub words : s .words ≡ t .words
+  pub modes : s .modes ≡ t .modes
+
+module _ (g o : Given) (e : SameGiven g o) where
+  step-same : (x z side : ℕ) (s t : State) → Agree s t → SameLeaf g o side (s .place) (t .place) → Agree (stepAt g x z side s) (stepAt o x z side t)
+  unfolding stepAt
+  step-same x z side s t a l =
+      record {
+        y =
+            plane-same _ _ _ _ (lumaResidual g side (s .place)) (lumaResidual o side (t .place)) (l .residual)
+            ∙ (λ k. planeOf
+            (record { component = Luma; w = e .w k; h = e .h k; plane = a .y k; words = a .words k; x = x; y = z; side = side; constrained = e .constrained k })
+            (l .kind k) (e .pred-y k) (l .coded k) (lumaResidual o side (t .place)));
+        words = (λ k. withUnits (e .w k) x z side (leafWord (isMode (l .kind k)) (l .qp k) (l .coded k)) (a .words k));
+        modes = (λ k. withUnits (e .w k) x z side (pick (isMode (l .kind k)) (l .kind k) 255) (a .modes k));
+      }
+
+  -- ---- the leaves of a list
+
+  steps-same : (l : List Leaf) (s t : State) → Agree s t → SameLeaves g o l (s .place) (t .place) → Agree (steps g l s) (steps o l t)
+  unfolding run stepAt
+  steps-same [] s t a f = a
+  steps-same (p ∷ l) s t a f =
+      steps-same l (step g p s) (step o p t) (step-same (4 * p .x) (4 * p .y) (4 * p .side) s t a (f 0 (omega arith)))
+      (λ n q. f (suc n) (omega (arith, q)))
+
+-- ---- the theorem
+
+module _ (i j : Input) (e : SameLuma i j) where
+  same-start : Agree (start i) (start j)
+  same-start = record { y = e .y; words = ap (λ (n : ℕ). tabulate n (λ (k : ℕ). 0)) (e .words); modes = e .modes }
+
+  same-leaves : leavesOf (i .given .w) (i .given .h) (i .splits) ≡ leavesOf (j .given .w) (j .given .h) (j .splits)
+  same-leaves = (λ k. leavesOf (e .given .w k) (e .given .h k) (e .splits k))
+
+  same-end : Agree (end i) (end j)
+  same-end = rw (← same-leaves) (steps-same (i .given) (j .given) (e .given) (leavesOf (i .given .w) (i .given .h) (i .splits)) (start i) (start j) same-start (e .leaves))
+
+  left : (n : Input) → check n ≡ Done → outcome n ≡ done n
+  unfolding outcome
+  left n c = rw c
+
+  pub same-luma : check i ≡ Done → check j ≡ Done → LumaAgrees (outcome i) (outcome j)
+  same-luma c d = rw (left i c, left j d) (record { y = same-end .y; words = same-end .words; modes = same-end .modes })

@@ -1,0 +1,54 @@
+-- What two calls have in common that are lent the same luma data, whatever their formats: they leave the same luma plane, words and modes.
+-- So a grey picture's are those of the run in colour. That the leaves are the same needs no word: `leavesOf` is not given the format. The proof is `same-luma`, in proofs/.
+-- Assumes nothing: these are definitions.
+use Prim.Native.Nat.{ℕ, _*_, _<_}
+use mathlib.Core.Path.{_≡_}
+use mathlib.Core.Bool.{true}
+use mathlib.Core.List.{List}
+use lib.IntN.{ℤ}
+use lib.ListN.{length, getD, take, drop}
+use Rattle.def.specs.declared.Component.the-variants.{Luma}
+use Rattle.split.specs.Walk.{Leaf, leaf}
+use Rattle.driver_rules.specs.Call.{Input, Outcome, leavesOf}
+use Rattle.driver_rules.specs.Records.{kindAt, qpAt, maskAt, codedY, sampleCount, Place, first, passed}
+use Rattle.driver_rules.specs.Steps.{Given}
+
+-- ---- a leaf
+
+-- Y's residual of a leaf of side `side` that stands at place t
+abbrev pub lumaResidual : Given → (side : ℕ) → Place → List ℤ
+lumaResidual g side t = take (sampleCount Luma side) (drop (t .at) (g .residual))
+
+-- its kind, its QP, whether Y is coded, and Y's residual where it is. The masks' other bits, and so the two places, may differ
+pub record SameLeaf (g o : Given) (side : ℕ) (t u : Place) : Type 0 where
+  pub kind : kindAt (g .leaves) (t .k) ≡ kindAt (o .leaves) (u .k)
+  pub qp : qpAt (g .leaves) (t .k) ≡ qpAt (o .leaves) (u .k)
+  pub coded : codedY (maskAt (g .leaves) (t .k)) ≡ codedY (maskAt (o .leaves) (u .k))
+  pub residual : codedY (maskAt (g .leaves) (t .k)) ≡ true → lumaResidual g side t ≡ lumaResidual o side u
+
+-- each leaf of a list, from these places on
+abbrev pub SameLeaves : (g o : Given) → List Leaf → (t u : Place) → Type 0
+SameLeaves g o l t u = (n : ℕ) → n < length l → SameLeaf g o (4 * getD l n (leaf 0 0 0) .side) (passed (g .leaves) (take n l) t) (passed (o .leaves) (take n l) u)
+
+-- ---- a call
+
+pub record SameGiven (g o : Given) : Type 0 where
+  pub w : g .w ≡ o .w
+  pub h : g .h ≡ o .h
+  pub constrained : g .constrained ≡ o .constrained
+  pub pred-y : g .pred-y ≡ o .pred-y
+
+pub record SameLuma (i j : Input) : Type 0 where
+  pub given : SameGiven (i .given) (j .given)
+  pub splits : i .splits ≡ j .splits
+  pub leaves : SameLeaves (i .given) (j .given) (leavesOf (i .given .w) (i .given .h) (i .splits)) first first
+  pub y : i .y ≡ j .y
+  pub modes : i .modes ≡ j .modes
+  -- what the words held counts for nothing
+  pub words : length (i .words) ≡ length (j .words)
+
+-- what both leave
+pub record LumaAgrees (a b : Outcome) : Type 0 where
+  pub y : a .y ≡ b .y
+  pub words : a .words ≡ b .words
+  pub modes : a .modes ≡ b .modes
