@@ -1,6 +1,6 @@
 -- What the checks of the call tell where they find nothing, and the outcome by what they found.
 --     read-told, written-told    the lengths
---     all-passed    the whole input
+--     all-passed, outcome-done    the whole input
 --     walk-answer, onward    the answer of the walk, where size and splits passed
 --     data-row, records-long    the data's checks, by where the walk ended
 -- Assumes nothing.
@@ -34,8 +34,8 @@ use Rattle.samples.specs.Samples.{samplesOk}
 use Rattle.split.specs.CheckCall as check-call
 use Rattle.split.specs.Picture.{pictureWalk}
 use Rattle.split.specs.Walk.{Leaf}
-use Rattle.driver_rules.specs.Asked.{LentAsked, GivenAsked, StateAsked, Reaches, Accepted}
-use Rattle.driver_rules.specs.Call.{Input, colourLength, readTests, readOk, writtenTests, writtenOk, recordTests, recordsOk, lentTests, lentOk, dataCheck, checkOf, check, leavesOf, start}
+use Rattle.driver_rules.specs.Asked.{Small, LentAsked, GivenAsked, StateAsked, Reaches, Accepted}
+use Rattle.driver_rules.specs.Call.{Input, colourLength, readTests, readOk, writtenTests, writtenOk, recordTests, recordsOk, lentTests, lentOk, dataCheck, checkOf, check, leavesOf, start, done, outcome}
 use Rattle.driver_rules.specs.Records.{byteAt, maskAt, bytesOk, mostMask, Place, first, passed}
 use Rattle.driver_rules.proofs.Places.{passed-count}
 use Rattle.driver_rules.proofs.Small.{done-none}
@@ -92,6 +92,10 @@ pub record Passed (i : Input) : Type 0 where
   pub state : StateAsked (i .given) (start i)
   pub accepted : Accepted (i .given .w) (i .given .h) (i .splits)
   pub reaches : Reaches (i .given .leaves) (length (i .given .residual)) (passed (i .given .leaves) (leavesOf (i .given .w) (i .given .h) (i .splits)) first)
+  pub written : writtenOk (i .given .w) (i .given .h) (i .given .format) (length (i .y)) (length (i .u)) (length (i .v)) (length (i .words)) (length (i .modes)) ≡ true
+  pub records : length (i .given .leaves) ≡ 4 * length (leavesOf (i .given .w) (i .given .h) (i .splits))
+  pub spares : bytesOk (i .given .leaves) (length (leavesOf (i .given .w) (i .given .h) (i .splits))) 3 0 ≡ true
+  pub kinds : bytesOk (i .given .leaves) (length (leavesOf (i .given .w) (i .given .h) (i .splits))) 0 5 ≡ true
   pub qps : bytesOk (i .given .leaves) (length (leavesOf (i .given .w) (i .given .h) (i .splits))) 1 51 ≡ true
 
 -- a plane of the lent prediction, where the picture has it
@@ -142,9 +146,9 @@ all-passed i e =
             v-long = w .v-long;
             words-long = long ∙ w .words-long;
             modes-long = w .modes-long;
-            y-done = done-none Luma _ _ (i .y) _ (size .holds) (w .words-long);
-            u-done = done-none Chroma _ _ (i .u) _ (size .holds) (w .words-long);
-            v-done = done-none Chroma _ _ (i .v) _ (size .holds) (w .words-long);
+            y-done = done-none Luma _ _ Small (i .y) (i .y) _ (size .holds) (w .words-long);
+            u-done = done-none Chroma _ _ Small (i .u) (i .u) _ (size .holds) (w .words-long);
+            v-done = done-none Chroma _ _ Small (i .v) (i .v) _ (size .holds) (w .words-long);
           };
       accepted = record { size = size .holds; long = r .splits-long; walked = walk .walked };
       reaches =
@@ -152,8 +156,16 @@ all-passed i e =
             records = rw (passed-count (g .leaves) l first) (omega (arith, four));
             residuals = le-of-eq (sym all);
           };
+      written = written .holds;
+      records = four;
+      spares = all-at lists 3 (records .holds);
+      kinds = modes .holds;
       qps = qps .holds;
     }
+
+pub outcome-done : (i : Input) → check i ≡ Done → outcome i ≡ done i
+unfolding outcome
+outcome-done i e = rw e
 
 -- ---- the data's checks, by where the walk ended
 

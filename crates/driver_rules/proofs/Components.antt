@@ -1,12 +1,13 @@
 -- One component of a leaf: none of the calls is refused, and what they give is of 10 bits.
 --     side-short, samples-few    a block's side and its samples in a component
---     run-small    gathering reads units that are done, so every sample of a run is at most 1023
+--     run-as    gathering reads units that are done: what holds of their samples holds of the run
+--     run-small, run-same    so every sample of a run is at most 1023; and what the other units hold counts for nothing
 --     gathers    a call of gathering whose input is right is done
 --     prediction-long, prediction-small    a prediction has its length, and its samples pass
 --     plane-is    the plane with the block in it
 -- Assumes nothing.
-use Prim.Native.Nat.{ℕ, _+_, _-_, _*_, _/_, _%_, _≤_, _<_}
-use mathlib.Core.Path.{_≡_, refl, subst}
+use Prim.Native.Nat.{ℕ, _+_, _*_, _/_, _%_, _≤_, _<_}
+use mathlib.Core.Path.{_≡_, refl, _∙_, subst}
 use mathlib.Core.Bool.{Bool, true, false, not, _&&_, _||_}
 use mathlib.Core.List.{List, [], _∷_}
 use native.Mathlib.Nat.{mul-le-mul}
@@ -15,11 +16,11 @@ use borrow.Author.Tests.{ltb-true, le-leb, eq-eqb}
 use lib.Dec.{ltb}
 use lib.IntN.{ℤ}
 use lib.ListN.{length, getD}
-use Rattle.laws.specs.Index.{pick}
+use Rattle.laws.specs.Index.{pick, tabulate}
 use Rattle.laws.specs.Plane.{withBlock}
 use Rattle.laws.proofs.Calls.{all-at}
 use Rattle.laws.proofs.ScanAll.{scan-pass}
-use Rattle.laws.proofs.Tabulate.{length-tabulate, getD-tabulate}
+use Rattle.laws.proofs.Tabulate.{length-tabulate, getD-tabulate, is-tabulate}
 use Rattle.def.specs.Blocks.{blockOk}
 use Rattle.def.specs.Components.{scaleOf, planeLength}
 use Rattle.def.specs.Picture.{sizeOk, unitCount}
@@ -38,8 +39,8 @@ use Rattle.nbr.proofs.Runs.{run-long, run-samples}
 use Rattle.nbr.proofs.Sides.{scaled-le}
 use Rattle.recon.specs.Recon.{blockAt}
 use Rattle.samples.specs.Samples.{samplesOk}
-use Rattle.samples.proofs.Samples.{sample-any, samples-pass, one-of-two}
-use Rattle.driver_rules.specs.Asked.{DoneSmall, BlockAsked, LentAsked}
+use Rattle.samples.proofs.Samples.{sample-any, samples-pass}
+use Rattle.driver_rules.specs.Asked.{DoneAs, Small, DoneSmall, BlockAsked, LentAsked}
 use Rattle.driver_rules.specs.Records.{isMode, sampleCount}
 use Rattle.driver_rules.specs.Steps.{lentAt, predictionOf, planeOf}
 
@@ -58,7 +59,19 @@ in-plane : (c : Component) (k n : ℕ) → n % 4 ≡ 0 → k / unitSide c < n / 
 in-plane Luma k n e p = omega arith
 in-plane Chroma k n e p = omega arith
 
-module _ (a : Around) (wide : a .w % 4 ≡ 0) (high : a .h % 4 ≡ 0) (d : DoneSmall (a .component) (a .w) (a .h) (a .plane) (a .words)) where
+one-as : (R : ℕ → ℕ → Type 0) (b : Bool) (x y z t : ℕ) → R x z → R y t → R (pick b x y) (pick b z t)
+one-as R true x y z t p q = p
+one-as R false x y z t p q = q
+
+-- the block in another plane
+abbrev pub inPlane : Around → List ℕ → Around
+inPlane a plane =
+    record { component = a .component; w = a .w; h = a .h; plane = plane; words = a .words; x = a .x; y = a .y; side = a .side; constrained = a .constrained }
+
+module _ (R : ℕ → ℕ → Type 0) (missing : R 512 512) (a : Around) (other : List ℕ) (wide : a .w % 4 ≡ 0) (high : a .h % 4 ≡ 0) (d : DoneAs (a .component) (a .w) (a .h) R (a .plane) other (a .words)) where
+  abbrev b : Around
+  b = inPlane a other
+
   abbrev u : ℕ → ℕ
   u c = c / unitSide (a .component)
 
@@ -68,27 +81,33 @@ module _ (a : Around) (wide : a .w % 4 ≡ 0) (high : a .h % 4 ≡ 0) (d : DoneS
   abbrev tests : ℕ → ℕ → List Bool
   tests c r = ltb (u c) (a .w / 4) ∷ ltb (u r) (a .h / 4) ∷ counts (a .constrained) (word c r) ∷ []
 
-  sample-small : (c r : ℕ) → sampleAt a c r ≤ 1023
-  sample-small c r = go (presentAt a (u c) (u r)) refl where
-    go : (b : Bool) → presentAt a (u c) (u r) ≡ b → pick b (getD (a .plane) (r * across a + c) 0) 512 ≤ 1023
+  sample-as : (c r : ℕ) → R (sampleAt a c r) (sampleAt b c r)
+  sample-as c r = go (presentAt a (u c) (u r)) refl where
+    go : (p : Bool) → presentAt a (u c) (u r) ≡ p → R (pick p (getD (a .plane) (r * across a + c) 0) 512) (pick p (getD other (r * across a + c) 0) 512)
     go true e =
-        d .small c r
+        d .each c r
         (in-plane (a .component) c (a .w) wide (ltb-true _ _ (all-at (tests c r) 0 e)))
         (in-plane (a .component) r (a .h) high (ltb-true _ _ (all-at (tests c r) 1 e)))
         (all-at (doneOf (word c r) ∷ (not (a .constrained) || intraOf (word c r)) ∷ []) 0 (all-at (tests c r) 2 e))
-    go false e = omega arith
+    go false e = missing
 
-  near-small : (i j : ℕ) → nearAt a i j ≤ 1023
+  near-as : (i j : ℕ) → R (nearAt a i j) (nearAt b i j)
   unfolding nearAt
-  near-small i j = one-of-two (ltb 0 (column a + i) && ltb 0 (row a + j)) _ _ (sample-small _ _) (omega arith)
+  near-as i j = one-as R (ltb 0 (column a + i) && ltb 0 (row a + j)) _ _ _ _ (sample-as _ _) missing
 
-  pub run-small : (k : ℕ) → runAt a k ≤ 1023
+  pub run-as : (k : ℕ) → R (runAt a k) (runAt b k)
   unfolding runAt
-  run-small k = one-of-two (ltb k (2 * sideOf (a .component) (a .side))) _ _ (near-small _ _) (near-small _ _)
+  run-as k = one-as R (ltb k (2 * sideOf (a .component) (a .side))) _ _ _ _ (near-as _ _) (near-as _ _)
 
-  pub gathered-small : nbr.samplesOk a ≡ true
+module _ (a : Around) (wide : a .w % 4 ≡ 0) (high : a .h % 4 ≡ 0) where
+  pub gathered-small : DoneSmall (a .component) (a .w) (a .h) (a .plane) (a .words) → nbr.samplesOk a ≡ true
   unfolding nbr.samplesOk
-  gathered-small = scan-pass _ (runLength (a .component) (a .side)) (λ k p. le-leb (runAt a k) 1023 (run-small k))
+  gathered-small d = scan-pass _ (runLength (a .component) (a .side)) (λ k p. le-leb (runAt a k) 1023 (run-as Small (omega arith) a (a .plane) wide high d k))
+
+  pub run-same : (other : List ℕ) → DoneAs (a .component) (a .w) (a .h) (_≡_ {A = ℕ}) (a .plane) other (a .words) → runOf a ≡ runOf (inPlane a other)
+  unfolding runOf
+  run-same other d = let n = runLength (a .component) (a .side) in
+      is-tabulate (runAt (inPlane a other)) n (tabulate n (runAt a)) 0 (length-tabulate (runAt a) n) (λ k p. getD-tabulate (runAt a) n k 0 p ∙ run-as (_≡_ {A = ℕ}) refl a other wide high d k)
 
 -- a call whose input is right is done, and does not refuse
 gathers : (i : nbr.Input) → let a = i .around in sizeOk (a .w) (a .h) ≡ true → length (a .plane) ≡ planeLength (a .component) (a .w) (a .h) → length (a .words) ≡ unitCount (a .w) (a .h) → blockOk (a .w) (a .h) (a .x) (a .y) (a .side) ≡ true → length (i .run) ≡ runLength (a .component) (a .side) → nbr.samplesOk a ≡ true → nbr.outcome i ≡ nbr.done i

@@ -7,9 +7,9 @@
 use Prim.Native.Nat.{ℕ, suc, _+_, _*_, _/_, _%_, _≤_, _<_}
 use mathlib.Core.Path.{_≡_, refl, sym, ap, _∙_, subst}
 use mathlib.Core.Bool.{Bool, true, false}
-use mathlib.Core.Logic.{_⊎_, ⊎-elim}
+use mathlib.Core.Logic.{⊎-elim}
 use mathlib.Core.List.{List, [], _∷_, List·Memᴰ, List·Memᴰ·head, List·Memᴰ·tail}
-use native.Mathlib.Nat.{div-add-mod', mod-lt, div-lt-iff-lt-mul, mul-comm, add-zero, zero-add}
+use native.Mathlib.Nat.{add-zero, zero-add}
 use native.Mathlib.Omega.{arith}
 use borrow.Author.Tests.{le-leb, leb-true}
 use lib.Dec.{leb}
@@ -22,7 +22,7 @@ use Rattle.laws.proofs.Planes.{within-yes, within-low}
 use Rattle.laws.proofs.ScanAll.{scan-pass}
 use Rattle.laws.proofs.Scans.{scan-at}
 use Rattle.def.specs.Blocks.{blockOk}
-use Rattle.def.specs.Components.{scaleOf, planeLength}
+use Rattle.def.specs.Components.{planeLength}
 use Rattle.def.specs.Formats.{inFormat}
 use Rattle.def.specs.Picture.{sizeOk, unitCount}
 use Rattle.def.specs.Word.{qpOf, doneOf}
@@ -46,14 +46,14 @@ use Rattle.split.proofs.Demand3.{demand-3}
 use Rattle.split.proofs.Places.{Before, leaves-order}
 use Rattle.split.proofs.Roots.{some-wide}
 use Rattle.split.proofs.Walks.{each-done}
-use Rattle.driver_rules.specs.Asked.{DoneSmall, GivenAsked, StateAsked}
+use Rattle.driver_rules.specs.Asked.{Small, DoneSmall, GivenAsked, StateAsked}
 use Rattle.driver_rules.specs.Call.{Input, Outcome, check, leavesOf, start, end, refused, done, outcome}
 use Rattle.driver_rules.specs.Finished.{Told, Finished}
 use Rattle.driver_rules.specs.Records.{byteAt, qpAt, bytesOk, wordAt, modeAt}
 use Rattle.driver_rules.specs.Steps.{Given, State, withUnits, stepAt, step, steps}
 use Rattle.driver_rules.proofs.Checks.{Passed, all-passed}
 use Rattle.driver_rules.proofs.Lists.{leaf-block}
-use Rattle.driver_rules.proofs.Small.{at-block, units-below}
+use Rattle.driver_rules.proofs.Small.{at-block, every-place, whole-as}
 use Rattle.driver_rules.proofs.States.{step-asked}
 
 -- ---- a unit of a map in which a leaf's units are told
@@ -89,7 +89,7 @@ module _ (w h : ℕ) (p : Leaf) (v₀ : ℕ) (l : List ℕ) (long : length l ≡
 
 module _ (g : Given) (ga : GivenAsked g) where
   -- each of a list is a block of the picture
-  abbrev Fits : List Leaf → Type 0
+  abbrev pub Fits : List Leaf → Type 0
   Fits l = (p : Leaf) → List·Memᴰ p l → blockOk (g .w) (g .h) (4 * p .x) (4 * p .y) (4 * p .side) ≡ true
 
   pub steps-asked : (l : List Leaf) (s : State) → Fits l → StateAsked g s → StateAsked g (steps g l s)
@@ -153,22 +153,8 @@ module _ (g : Given) (ga : GivenAsked g) where
 
 -- ---- a plane all of whose units are done
 
-wide : (c : Component) (n : ℕ) → 4 ≤ n → 0 < n / scaleOf c
-wide Luma n q = omega arith
-wide Chroma n q = omega arith
-
 plane-small : (c : Component) (w h : ℕ) (plane words : List ℕ) → sizeOk w h ≡ true → length plane ≡ planeLength c w h → DoneSmall c w h plane words → ((u v : ℕ) → u < w / 4 → v < h / 4 → doneOf (unitAt w words u v) ≡ true) → samplesOk plane ≡ true
-plane-small c w h plane words s long d all = samples-pass plane at where
-  at : (k : ℕ) → k < length plane → getD plane k 0 ≤ 1023
-  at k p =
-      let z = sized w h s in
-      let n = w / scaleOf c in
-      let some : 0 < n = wide c w (z .some-wide) in
-      let q : k < h / scaleOf c * n = rw (mul-comm (h / scaleOf c) n) (omega arith) in
-      let column : k % n < n = mod-lt k some in
-      let row : k / n < h / scaleOf c = div-lt-iff-lt-mul some .1 q in
-      let r = d .small (k % n) (k / n) column row (all _ _ (units-below c _ w (z .by-four) column) (units-below c _ h (z .by-four-down) row)) in
-      rw (div-add-mod' k n) at r
+plane-small c w h plane words s long d all = samples-pass plane (λ k p. whole-as c w h Small plane plane words s d all k (rw long at p))
 
 -- U or V: in a grey picture there is no sample
 colour-small : (f : Format) (w h : ℕ) (plane words : List ℕ) → sizeOk w h ≡ true → length plane ≡ inFormat f (planeLength Chroma w h) → DoneSmall Chroma w h plane words → ((u v : ℕ) → u < w / 4 → v < h / 4 → doneOf (unitAt w words u v) ≡ true) → samplesOk plane ≡ true
@@ -196,7 +182,7 @@ module _ (i : Input) (accepted : check i ≡ Done) where
   some : 1 ≤ w / 4
   some = some-wide (sized w h (p .accepted .size))
 
-  fits : (q : Leaf) → List·Memᴰ q l → blockOk w h (4 * q .x) (4 * q .y) (4 * q .side) ≡ true
+  pub fits : (q : Leaf) → List·Memᴰ q l → blockOk w h (4 * q .x) (4 * q .y) (4 * q .side) ≡ true
   fits q m =
       let a = demand-3 false (i .splits) (w / 4) (h / 4) some (p .accepted .walked) .aligned q m in
       let x : 4 * q .x / 4 ≡ q .x = omega arith in
@@ -221,7 +207,7 @@ module _ (i : Input) (accepted : check i ≡ Done) where
         done = ap doneOf word ∙ leaf-word _ _ _ .done-bit;
       }
 
-  all-done : (u v : ℕ) → u < w / 4 → v < h / 4 → doneOf (unitAt w (end i .words) u v) ≡ true
+  pub all-done : (u v : ℕ) → u < w / 4 → v < h / 4 → doneOf (unitAt w (end i .words) u v) ≡ true
   all-done u v cu cv = units u v cu cv .done
 
   -- the QP of a leaf's record
@@ -229,14 +215,13 @@ module _ (i : Input) (accepted : check i ≡ Done) where
   unfolding bytesOk
   record-qp k q = leb-true _ _ (scan-at (λ (j : ℕ). leb (byteAt (i .given .leaves) j 1) 51) (length l) k q (p .qps))
 
-  word-qp : (k : ℕ) → k < length (end i .words) → qpOf (getD (end i .words) k 0) ≤ 51
-  word-qp k q =
-      let n = w / 4 in
-      let r : k < h / 4 * n = rw (mul-comm (h / 4) n) (omega (arith, last .words-long)) in
-      let t = units (k % n) (k / n) (mod-lt k some) (div-lt-iff-lt-mul some .1 r) in
-      let e : getD (end i .words) k 0 ≡ wordAt (i .given .leaves) (t .number) = rw (div-add-mod' k n) at (t .word) in
-      let f : qpOf (getD (end i .words) k 0) ≡ qpAt (i .given .leaves) (t .number) % 128 = ap qpOf e ∙ leaf-word _ _ _ .qp-bits in
-      omega (arith, f, record-qp (t .number) (t .early))
+  word-qp : (k : ℕ) → k < w / 4 * (h / 4) → qpOf (getD (end i .words) k 0) ≤ 51
+  word-qp =
+      every-place (w / 4) (h / 4) some (λ (k : ℕ). qpOf (getD (end i .words) k 0) ≤ 51)
+      (λ u v cu cv.
+      let t = units u v cu cv in
+      let f : qpOf (unitAt w (end i .words) u v) ≡ qpAt (i .given .leaves) (t .number) % 128 = ap qpOf (t .word) ∙ leaf-word _ _ _ .qp-bits in
+      omega (arith, f, record-qp (t .number) (t .early)))
 
   pub finished : Finished i
   finished =
@@ -245,7 +230,7 @@ module _ (i : Input) (accepted : check i ≡ Done) where
         u-small = colour-small (i .given .format) w h _ _ (p .accepted .size) (last .u-long) (last .u-done) all-done;
         v-small = colour-small (i .given .format) w h _ _ (p .accepted .size) (last .v-long) (last .v-done) all-done;
         units = units;
-        qps = scan-pass _ (length (end i .words)) (λ k q. le-leb _ _ (word-qp k q));
+        qps = scan-pass _ (length (end i .words)) (λ k q. le-leb _ _ (word-qp k (rw (last .words-long) at q)));
       }
 
 -- ---- what a caller learns from an answer of 0

@@ -1,7 +1,9 @@
 pub mod Calls
 pub mod Checks
 pub mod Components
+pub mod Entry
 pub mod Finished
+pub mod Grey
 pub mod Lists
 pub mod Luma
 pub mod Places

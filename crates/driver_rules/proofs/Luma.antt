@@ -3,25 +3,27 @@
 --     steps-same    the leaves of a list
 --     same-luma    the theorem
 -- Assumes nothing.
-use Prim.Native.Nat.{ℕ, suc, _*_, _/_, _<_}
-use mathlib.Core.Path.{_≡_, refl, ap, _∙_}
+use Prim.Native.Nat.{ℕ, suc, _*_}
+use mathlib.Core.Path.{_≡_, refl, sym, ap, _∙_}
 use mathlib.Core.Bool.{Bool, true, false}
 use mathlib.Core.List.{List, [], _∷_}
 use native.Mathlib.Omega.{arith}
 use lib.IntN.{ℤ}
-use lib.ListN.{length, take}
-use Rattle.laws.specs.Index.{pick, tabulate}
+use Rattle.laws.specs.Index.{pick}
 use Rattle.laws.specs.Orders.{run}
 use Rattle.def.specs.Word.{leafWord}
 use Rattle.def.specs.declared.Answer.the-variants.{Done}
 use Rattle.def.specs.declared.Component.the-variants.{Luma}
 use Rattle.nbr.specs.Gather.{Around}
 use Rattle.split.specs.Walk.{Leaf}
-use Rattle.driver_rules.specs.Call.{Input, Outcome, leavesOf, check, start, end, done, outcome}
+use Rattle.driver_rules.specs.Call.{Input, leavesOf, check, start, end, outcome}
+use Rattle.driver_rules.specs.Entry.{HeldForNothing}
 use Rattle.driver_rules.specs.Luma.{lumaResidual, SameLeaf, SameLeaves, SameGiven, SameLuma, LumaAgrees}
-use Rattle.driver_rules.specs.Records.{isMode, first}
+use Rattle.driver_rules.specs.Records.{isMode}
 use Rattle.driver_rules.specs.Steps.{Given, State, planeOf, withUnits, stepAt, step, steps}
+use Rattle.driver_rules.proofs.Checks.{outcome-done}
 use Rattle.driver_rules.proofs.Components.{plane-uncoded}
+use Rattle.driver_rules.proofs.Entry.{held-for-nothing}
 
 -- ---- a leaf
 
@@ -60,18 +62,23 @@ module _ (g o : Given) (e : SameGiven g o) where
 -- ---- the theorem
 
 module _ (i j : Input) (e : SameLuma i j) where
-  same-start : Agree (start i) (start j)
-  same-start = record { y = e .y; words = ap (λ (n : ℕ). tabulate n (λ (k : ℕ). 0)) (e .words); modes = e .modes }
+  -- the second call's input, with what the first held in the luma plane and the maps
+  abbrev alike : Input
+  alike = record { given = j .given; splits = j .splits; y = i .y; u = j .u; v = j .v; words = i .words; modes = i .modes }
+
+  held : HeldForNothing j alike
+  held = held-for-nothing j alike (record { given = refl; splits = refl; y = sym (e .y); u = refl; v = refl; words = sym (e .words); modes = sym (e .modes) })
 
   same-leaves : leavesOf (i .given .w) (i .given .h) (i .splits) ≡ leavesOf (j .given .w) (j .given .h) (j .splits)
   same-leaves = (λ k. leavesOf (e .given .w k) (e .given .h k) (e .splits k))
 
-  same-end : Agree (end i) (end j)
-  same-end = rw (← same-leaves) (steps-same (i .given) (j .given) (e .given) (leavesOf (i .given .w) (i .given .h) (i .splits)) (start i) (start j) same-start (e .leaves))
-
-  left : (n : Input) → check n ≡ Done → outcome n ≡ done n
-  unfolding outcome
-  left n c = rw c
+  same-end : Agree (end i) (end alike)
+  same-end =
+      rw (← same-leaves)
+      (steps-same (i .given) (j .given) (e .given) (leavesOf (i .given .w) (i .given .h) (i .splits)) (start i) (start alike)
+      (record { y = refl; words = refl; modes = refl }) (e .leaves))
 
   pub same-luma : check i ≡ Done → check j ≡ Done → LumaAgrees (outcome i) (outcome j)
-  same-luma c d = rw (left i c, left j d) (record { y = same-end .y; words = same-end .words; modes = same-end .modes })
+  same-luma c d =
+      rw (held .all d, outcome-done i c, outcome-done alike (sym (held .answer) ∙ d))
+      (record { y = same-end .y; words = same-end .words; modes = same-end .modes })

@@ -1,6 +1,6 @@
 -- How far the walk has come, in the records and in the residual list.
 --     run-more    a member more
---     passed-count    a record for each leaf
+--     passed-count, passed-more    a record for each leaf, and never back
 --     passed-grows    where a list of leaves has come is not past where a longer one comes
 --     passed-few    a leaf takes at most 6144 residuals
 -- Assumes nothing.
@@ -29,7 +29,7 @@ module _ (r : List ℕ) where
   passed-count [] t = sym (add-zero (t .k))
   passed-count (p ∷ l) t = passed-count l (advance r p t) ∙ omega arith
 
-  passed-more : (l : List Leaf) (t : Place) → (t .at ≤ passed r l t .at) × (t .k ≤ passed r l t .k)
+  pub passed-more : (l : List Leaf) (t : Place) → (t .at ≤ passed r l t .at) × (t .k ≤ passed r l t .k)
   unfolding run
   passed-more [] t = (le-refl _, le-refl _)
   passed-more (p ∷ l) t = let h = passed-more l (advance r p t) in let a = h .0 in let b = h .1 in (omega arith, omega arith)

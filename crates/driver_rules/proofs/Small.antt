@@ -1,11 +1,13 @@
--- A leaf more: the units that are done have small samples, whatever the others hold.
+-- A leaf more: what holds of the samples of units that are done, whatever the others hold.
 --     done-none    where no word is done
---     done-more    after a block of small samples, whose units are then told
+--     done-more    after a block, whose units are then told
+--     every-place, whole-as    all places; where every unit is done
 -- Assumes nothing.
 use Prim.Native.Nat.{ℕ, _+_, _-_, _*_, _/_, _%_, _≤_, _<_}
-use mathlib.Core.Path.{_≡_, refl, sym, _∙_}
+use mathlib.Core.Path.{_≡_, refl, sym, _∙_, subst}
 use mathlib.Core.Bool.{Bool, true, false}
 use mathlib.Core.List.{List}
+use native.Mathlib.Nat.{div-add-mod', mod-lt, div-lt-iff-lt-mul, mul-comm}
 use native.Mathlib.Decide.{decLt}
 use native.Mathlib.Omega.{arith}
 use lib.Arith.{digits-div, digits-mod}
@@ -27,7 +29,7 @@ use Rattle.def.proofs.Sizes.{sized}
 use Rattle.nbr.specs.Gather.{unitSide}
 use Rattle.def.specs.Units.{unitAt}
 use Rattle.nbr.proofs.Sides.{four}
-use Rattle.driver_rules.specs.Asked.{DoneSmall}
+use Rattle.driver_rules.specs.Asked.{DoneAs}
 use Rattle.driver_rules.specs.Steps.{withUnits}
 
 -- ---- one element of a plane or map in which a block is replaced
@@ -61,27 +63,44 @@ not-done : doneOf 0 ≡ false
 unfolding flagAt fieldOf
 not-done = refl
 
-pub done-none : (c : Component) (w h : ℕ) (plane : List ℕ) (n : ℕ) → sizeOk w h ≡ true → n ≡ unitCount w h → DoneSmall c w h plane (tabulate n (λ (k : ℕ). 0))
-done-none c w h plane n s e = record { small = at } where
-  at : (x y : ℕ) → x < w / scaleOf c → y < h / scaleOf c → doneOf (unitAt w (tabulate n (λ (k : ℕ). 0)) (x / unitSide c) (y / unitSide c)) ≡ true → getD plane (y * (w / scaleOf c) + x) 0 ≤ 1023
-  at x y p q d =
-      let z = sized w h s in
-      let below = place-below (w / 4) (h / 4) (x / unitSide c) (y / unitSide c) n (units-below c x w (z .by-four) p) (units-below c y h (z .by-four-down) q) e in
-      let word : unitAt w (tabulate n (λ (k : ℕ). 0)) (x / unitSide c) (y / unitSide c) ≡ 0 = getD-tabulate (λ (k : ℕ). 0) n _ 0 below in
-      absurd (let f : doneOf 0 ≡ true = rw word at d in let g : _≡_ {A = ℕ} 0 1 = cc (not-done) in omega arith)
+-- a unit of words that are all 0
+pub none-done : (w h n u v : ℕ) → n ≡ unitCount w h → u < w / 4 → v < h / 4 → doneOf (unitAt w (tabulate n (λ (k : ℕ). 0)) u v) ≡ true → ⊥
+none-done w h n u v e p q d =
+    let word : unitAt w (tabulate n (λ (k : ℕ). 0)) u v ≡ 0 = getD-tabulate (λ (k : ℕ). 0) n _ 0 (place-below (w / 4) (h / 4) u v n p q e) in
+    let f : doneOf 0 ≡ true = rw word at d in
+    let g : _≡_ {A = ℕ} 0 1 = cc (not-done) in
+    omega arith
+
+pub done-none : (c : Component) (w h : ℕ) (R : ℕ → ℕ → Type 0) (plane other : List ℕ) (n : ℕ) → sizeOk w h ≡ true → n ≡ unitCount w h → DoneAs c w h R plane other (tabulate n (λ (k : ℕ). 0))
+done-none c w h R plane other n s e =
+    record {
+      each = λ x y p q d.
+          let z = sized w h s in
+          absurd (none-done w h n (x / unitSide c) (y / unitSide c) e (units-below c x w (z .by-four) p) (units-below c y h (z .by-four-down) q) d);
+    }
 
 -- ---- a block more
 
-either : (b c : Bool) (new old word before : ℕ) → new ≤ 1023 → (doneOf before ≡ true → old ≤ 1023) → doneOf (pick b (pick c word before) before) ≡ true → pick b (pick c new old) old ≤ 1023
-either true true new old word before s k d = s
-either true false new old word before s k d = k d
-either false c new old word before s k d = k d
+pub either : (R : ℕ → ℕ → Type 0) (b c : Bool) (new new′ old old′ word before : ℕ) → R new new′ → (doneOf before ≡ true → R old old′)
+    → doneOf (pick b (pick c word before) before) ≡ true → R (pick b (pick c new old) old) (pick b (pick c new′ old′) old′)
+either R true true new new′ old old′ word before s k d = s
+either R true false new new′ old old′ word before s k d = k d
+either R false c new new′ old old′ word before s k d = k d
 
 module _ (c : Component) (w h x y side : ℕ) (s : sizeOk w h ≡ true) (b : blockOk w h x y side ≡ true) where
-  pub done-more : (plane words : List ℕ) → length plane ≡ planeLength c w h → length words ≡ unitCount w h → (f : ℕ → ℕ → ℕ) → ((i j : ℕ) → f i j ≤ 1023) → (word : ℕ) → DoneSmall c w h plane words
-      → DoneSmall c w h (withBlock 0 (w / scaleOf c) (x / scaleOf c) (y / scaleOf c) (side / scaleOf c) (side / scaleOf c) f plane) (withUnits w x y side word words)
-  done-more plane words ep ew f small word d = record { small = at } where
-    at : (i j : ℕ) → i < w / scaleOf c → j < h / scaleOf c → doneOf (unitAt w (withUnits w x y side word words) (i / unitSide c) (j / unitSide c)) ≡ true → getD (withBlock 0 (w / scaleOf c) (x / scaleOf c) (y / scaleOf c) (side / scaleOf c) (side / scaleOf c) f plane) (j * (w / scaleOf c) + i) 0 ≤ 1023
+  -- the plane with the block's samples in it
+  abbrev drawn : (ℕ → ℕ → ℕ) → List ℕ → List ℕ
+  drawn f plane = withBlock 0 (w / scaleOf c) (x / scaleOf c) (y / scaleOf c) (side / scaleOf c) (side / scaleOf c) f plane
+
+  pub done-more : (R : ℕ → ℕ → Type 0) (plane other words : List ℕ) → length plane ≡ planeLength c w h → length other ≡ planeLength c w h → length words ≡ unitCount w h
+      → (f g : ℕ → ℕ → ℕ) → ((i j : ℕ) → R (f i j) (g i j)) → (word : ℕ) → DoneAs c w h R plane other words → DoneAs c w h R (drawn f plane) (drawn g other) (withUnits w x y side word words)
+  done-more R plane other words ep eo ew f g new word d = record { each = at } where
+    sample : (f : ℕ → ℕ → ℕ) (l : List ℕ) → length l ≡ planeLength c w h → (i j : ℕ) → i < w / scaleOf c → j < h / scaleOf c → let old = getD l (j * (w / scaleOf c) + i) 0 in
+        getD (drawn f l) (j * (w / scaleOf c) + i) 0 ≡ pick (within (y / scaleOf c) (side / scaleOf c) j) (pick (within (x / scaleOf c) (side / scaleOf c) i) (f (j - y / scaleOf c) (i - x / scaleOf c)) old) old
+    sample f l e i j p q = at-block 0 (w / scaleOf c) (h / scaleOf c) (x / scaleOf c) (y / scaleOf c) (side / scaleOf c) (side / scaleOf c) f l e i j p q
+
+    at : (i j : ℕ) → i < w / scaleOf c → j < h / scaleOf c → doneOf (unitAt w (withUnits w x y side word words) (i / unitSide c) (j / unitSide c)) ≡ true
+        → R (getD (drawn f plane) (j * (w / scaleOf c) + i) 0) (getD (drawn g other) (j * (w / scaleOf c) + i) 0)
     at i j p q e =
         let z = sized w h s in
         let k = blocked w h x y side b in
@@ -91,5 +110,24 @@ module _ (c : Component) (w h x y side : ℕ) (s : sizeOk w h ≡ true) (b : blo
         let across = within-units c x side i (four x side (k .side-ok) (k .column)) (k .by-four) in
         let down = within-units c y side j (four y side (k .side-ok) (k .row)) (k .by-four) in
         let e′ = rw (told, ← across, ← down) at e in
-        rw (at-block 0 (w / scaleOf c) (h / scaleOf c) (x / scaleOf c) (y / scaleOf c) (side / scaleOf c) (side / scaleOf c) f plane ep i j p q)
-        (either (within (y / scaleOf c) (side / scaleOf c) j) (within (x / scaleOf c) (side / scaleOf c) i) _ _ word _ (small _ _) (d .small i j p q) e′)
+        rw (sample f plane ep i j p q, sample g other eo i j p q)
+        (either R (within (y / scaleOf c) (side / scaleOf c) j) (within (x / scaleOf c) (side / scaleOf c) i) _ _ _ _ word _ (new _ _) (d .each i j p q) e′)
+
+-- ---- every unit is done
+
+-- the places of n columns and m rows, one by one
+pub every-place : (n m : ℕ) → 0 < n → (P : ℕ → Type 0) → ((c r : ℕ) → c < n → r < m → P (r * n + c)) → (k : ℕ) → k < n * m → P k
+every-place n m some P each k p =
+    let q : k < m * n = rw (mul-comm m n) (omega arith) in
+    subst P (div-add-mod' k n) (each (k % n) (k / n) (mod-lt k some) (div-lt-iff-lt-mul some .1 q))
+
+wide : (c : Component) (n : ℕ) → 4 ≤ n → 0 < n / scaleOf c
+wide Luma n q = omega arith
+wide Chroma n q = omega arith
+
+pub whole-as : (c : Component) (w h : ℕ) (R : ℕ → ℕ → Type 0) (plane other words : List ℕ) → sizeOk w h ≡ true → DoneAs c w h R plane other words
+    → ((u v : ℕ) → u < w / 4 → v < h / 4 → doneOf (unitAt w words u v) ≡ true) → (k : ℕ) → k < planeLength c w h → R (getD plane k 0) (getD other k 0)
+whole-as c w h R plane other words s d all =
+    let z = sized w h s in
+    every-place (w / scaleOf c) (h / scaleOf c) (wide c w (z .some-wide)) (λ (k : ℕ). R (getD plane k 0) (getD other k 0))
+    (λ x y p q. d .each x y p q (all _ _ (units-below c x w (z .by-four) p) (units-below c y h (z .by-four-down) q)))

@@ -12,7 +12,7 @@ use mathlib.Core.List.{List, [], _∷_, _++_}
 use native.Mathlib.Omega.{arith}
 use borrow.Author.Tests.{ne-eqb}
 use lib.IntN.{ℤ}
-use lib.ListN.{length, getD, List·getD-eq-default}
+use lib.ListN.{length, List·getD-eq-default}
 use Rattle.laws.specs.Bits.{fieldOf}
 use Rattle.laws.specs.Orders.{run}
 use Rattle.laws.proofs.Orders.{run-append}
@@ -29,7 +29,7 @@ use Rattle.nbr.specs.Gather.{Around}
 use Rattle.recon.specs.Recon.{blockAt}
 use Rattle.recon.proofs.Promises.{recon-at-small}
 use Rattle.split.specs.Walk.{Leaf}
-use Rattle.driver_rules.specs.Asked.{DoneSmall, BlockAsked, LentAsked, GivenAsked, StateAsked, Stepped}
+use Rattle.driver_rules.specs.Asked.{Small, DoneSmall, BlockAsked, LentAsked, GivenAsked, StateAsked, Stepped}
 use Rattle.driver_rules.specs.Records.{codedU, codedV, passed}
 use Rattle.driver_rules.specs.Steps.{Given, State, aroundOf, planeOf, predictionOf, withUnits, stepAt, step, steps}
 use Rattle.driver_rules.proofs.Components.{plane-is, prediction-small}
@@ -51,7 +51,7 @@ pub plane-none : (a : Around) (kind : ℕ) (lent : List ℕ) (coded : Bool) (coe
 plane-none a kind lent coded coef e = nothing _ (a .plane) (plane-kept a kind lent coded coef ∙ e) e
 
 done-nothing : (c : Component) (w h : ℕ) (plane words : List ℕ) → length plane ≡ 0 → DoneSmall c w h plane words
-done-nothing c w h plane words e = record { small = λ x y p q d. let z = List·getD-eq-default plane 0 {n = y * (w / scaleOf c) + x} (omega (arith, e)) in omega (arith, z) }
+done-nothing c w h plane words e = record { each = λ x y p q d. let z = List·getD-eq-default plane 0 {n = y * (w / scaleOf c) + x} (omega (arith, e)) in omega (arith, z) }
 
 pub mask-of-y : (mask : ℕ) → mask ≤ 1 → (codedU mask ≡ false) × (codedV mask ≡ false)
 unfolding flagAt fieldOf
@@ -65,8 +65,8 @@ units-kept w x y side v l = length-block 0 _ _ _ _ _ _ l
 plane-done : (a : Around) (lent : List ℕ) → BlockAsked a → LentAsked (a .component) (a .w) (a .h) lent → (kind : ℕ) (coded : Bool) (coef : List ℤ) (word : ℕ) → DoneSmall (a .component) (a .w) (a .h) (planeOf a kind lent coded coef) (withUnits (a .w) (a .x) (a .y) (a .side) word (a .words))
 plane-done a lent k l kind coded coef word =
     rw (plane-is a kind lent coded coef)
-    (done-more (a .component) (a .w) (a .h) (a .x) (a .y) (a .side) (k .size) (k .block) (a .plane) (a .words) (k .plane-long) (k .words-long)
-    (blockAt coded (predictionOf a kind lent) coef _) (λ i j. recon-at-small coded (predictionOf a kind lent) coef (prediction-small a k lent l kind) _) word (k .done-small))
+    (done-more (a .component) (a .w) (a .h) (a .x) (a .y) (a .side) (k .size) (k .block) Small (a .plane) (a .plane) (a .words) (k .plane-long) (k .plane-long) (k .words-long)
+    (blockAt coded (predictionOf a kind lent) coef _) (blockAt coded (predictionOf a kind lent) coef _) (λ i j. recon-at-small coded (predictionOf a kind lent) coef (prediction-small a k lent l kind) _) word (k .done-small))
 
 -- ---- a leaf
 

@@ -23,9 +23,17 @@ use Rattle.driver_rules.specs.Records.{Place, maskAt, mostMask}
 use Rattle.driver_rules.specs.Steps.{Given, State, steps}
 use Rattle.split.specs.Walk.{Leaf}
 
--- every sample of a unit that is done is one of 10 bits. Nothing is asked of the others, which are never gathered
-pub record DoneSmall (c : Component) (w h : ℕ) (plane words : List ℕ) : Type 0 where
-  pub small : (x y : ℕ) → x < w / scaleOf c → y < h / scaleOf c → doneOf (unitAt w words (x / unitSide c) (y / unitSide c)) ≡ true → getD plane (y * (w / scaleOf c) + x) 0 ≤ 1023
+-- every sample of a unit that is done stands to the one at its place in another plane as R says. Nothing is asked of the others, which are never gathered
+pub record DoneAs (c : Component) (w h : ℕ) (R : ℕ → ℕ → Type 0) (plane other words : List ℕ) : Type 0 where
+  pub each : (x y : ℕ) → x < w / scaleOf c → y < h / scaleOf c → doneOf (unitAt w words (x / unitSide c) (y / unitSide c)) ≡ true
+      → R (getD plane (y * (w / scaleOf c) + x) 0) (getD other (y * (w / scaleOf c) + x) 0)
+
+-- it is one of 10 bits
+abbrev pub Small : (sample other : ℕ) → Type 0
+Small sample other = sample ≤ 1023
+
+abbrev pub DoneSmall : (c : Component) (w h : ℕ) (plane words : List ℕ) → Type 0
+DoneSmall c w h plane words = DoneAs c w h Small plane plane words
 
 -- a block in a component's plane, with the words
 pub record BlockAsked (a : Around) : Type 0 where

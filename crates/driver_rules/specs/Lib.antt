@@ -1,5 +1,6 @@
 pub mod Asked
 pub mod Call
+pub mod Entry
 pub mod Finished
 pub mod Luma
 pub mod Records

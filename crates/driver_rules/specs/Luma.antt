@@ -1,16 +1,21 @@
--- What two calls have in common that are lent the same luma data, whatever their formats: they leave the same luma plane, words and modes.
--- So a grey picture's are those of the run in colour. That the leaves are the same needs no word: `leavesOf` is not given the format. The proof is `same-luma`, in proofs/.
+-- What two calls have in common that are lent the same luma data, whatever their formats: they leave the same luma plane, words and modes (`same-luma`, in proofs/).
+-- So a grey picture's are those of the run in colour. That the leaves are the same needs no word: `leavesOf` is not given the format.
+-- And a picture without its colour is accepted where the picture is (`without-colour`, in proofs/).
 -- Assumes nothing: these are definitions.
-use Prim.Native.Nat.{ℕ, _*_, _<_}
+use Prim.Native.Nat.{ℕ, _*_, _%_, _<_}
 use mathlib.Core.Path.{_≡_}
 use mathlib.Core.Bool.{true}
-use mathlib.Core.List.{List}
+use mathlib.Core.List.{List, [], _∷_, _++_}
+use lib.Dec.{eqb}
 use lib.IntN.{ℤ}
 use lib.ListN.{length, getD, take, drop}
+use Rattle.laws.specs.Index.{pick, tabulate}
+use Rattle.def.specs.declared.Answer.the-variants.{Done}
 use Rattle.def.specs.declared.Component.the-variants.{Luma}
+use Rattle.def.specs.declared.Format.the-variants.{Grey}
 use Rattle.split.specs.Walk.{Leaf, leaf}
-use Rattle.driver_rules.specs.Call.{Input, Outcome, leavesOf}
-use Rattle.driver_rules.specs.Records.{kindAt, qpAt, maskAt, codedY, sampleCount, Place, first, passed}
+use Rattle.driver_rules.specs.Call.{Input, Outcome, leavesOf, check, outcome}
+use Rattle.driver_rules.specs.Records.{kindAt, qpAt, maskAt, codedY, sampleCount, Place, first, advance, passed}
 use Rattle.driver_rules.specs.Steps.{Given}
 
 -- ---- a leaf
@@ -42,13 +47,52 @@ pub record SameLuma (i j : Input) : Type 0 where
   pub given : SameGiven (i .given) (j .given)
   pub splits : i .splits ≡ j .splits
   pub leaves : SameLeaves (i .given) (j .given) (leavesOf (i .given .w) (i .given .h) (i .splits)) first first
-  pub y : i .y ≡ j .y
-  pub modes : i .modes ≡ j .modes
-  -- what the words held counts for nothing
+  -- what these held counts for nothing
+  pub y : length (i .y) ≡ length (j .y)
   pub words : length (i .words) ≡ length (j .words)
+  pub modes : length (i .modes) ≡ length (j .modes)
 
 -- what both leave
 pub record LumaAgrees (a b : Outcome) : Type 0 where
   pub y : a .y ≡ b .y
   pub words : a .words ≡ b .words
   pub modes : a .modes ≡ b .modes
+
+-- ---- a picture without its colour
+
+-- the leaf records, the masks with Y's bit alone
+abbrev pub lumaRecords : List ℕ → List ℕ
+lumaRecords r = tabulate (length r) (λ (k : ℕ). pick (eqb (k % 4) 2) (getD r k 0 % 2) (getD r k 0))
+
+-- the residuals of Y, of the leaves of a list that stands at place t
+unfoldable pub lumaResiduals : Given → List Leaf → Place → List ℤ
+lumaResiduals g [] t = []
+lumaResiduals g (p ∷ l) t = pick (codedY (maskAt (g .leaves) (t .k))) (lumaResidual g (4 * p .side) t) [] ++ lumaResiduals g l (advance (g .leaves) p t)
+
+abbrev pub withoutColour : Input → Input
+withoutColour i =
+    let g = i .given in
+    record {
+      given =
+          record {
+            w = g .w;
+            h = g .h;
+            format = Grey;
+            constrained = g .constrained;
+            leaves = lumaRecords (g .leaves);
+            residual = lumaResiduals g (leavesOf (g .w) (g .h) (i .splits)) first;
+            pred-y = g .pred-y;
+            pred-u = [];
+            pred-v = [];
+          };
+      splits = i .splits;
+      y = i .y;
+      u = [];
+      v = [];
+      words = i .words;
+      modes = i .modes;
+    }
+
+pub record WithoutColour (i : Input) : Type 0 where
+  pub accepted : check (withoutColour i) ≡ Done
+  pub luma : LumaAgrees (outcome i) (outcome (withoutColour i))

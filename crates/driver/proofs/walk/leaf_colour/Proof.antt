@@ -1,5 +1,5 @@
 -- `driver::walk::leaf_colour` meets its contract: in a grey picture nothing, and in colour U and then V. Assumes nothing.
-use Prim.Native.Nat.{_+_, _≤_}
+use Prim.Native.Nat.{_+_}
 use mathlib.Core.Path.{_≡_, _∙_}
 use mathlib.Core.List.{[]}
 use native.Mathlib.Omega.{arith}
