@@ -7,6 +7,7 @@ use Prim.Native.Nat.{ℕ, _+_, _*_}
 use native.Mathlib.Nat.{zero-mul, zero-add, add-zero}
 use lib.IntN.{ℤ}
 use lib.ListN.{length, take, drop}
+use Rattle.def.specs.declared.Format.{Format}
 use Rattle.split.specs.Edges.{Pass, vertical, horizontal, Edge, edgesOf, edgeList}
 use Rattle.split.specs.Picture.{allLeaves}
 use Rattle.split.specs.Walk.{Leaf}
@@ -36,5 +37,5 @@ both-zero {m} {t} {w} short s n {p} b =
       marks = b .marks ∙ ap (λ (k : ℕ). doneFrom k (m .words)) (zero-mul w);
     }
 
-pub frame-zero : {w h : ℕ} {y u v words : List ℕ} {motion refs : List ℤ} {t : List ℕ} → Frame.Frame w h y u v words motion refs t → Frame.Frame w (0 + h) y u v words motion refs t
-frame-zero {w} {h} {y} {u} {v} {words} {motion} {refs} {t} f = subst (λ (k : ℕ). Frame.Frame w k y u v words motion refs t) (sym (zero-add h)) f
+pub frame-zero : {format : Format} {w h : ℕ} {y u v words : List ℕ} {motion refs : List ℤ} {t : List ℕ} → Frame.Frame format w h y u v words motion refs t → Frame.Frame format w (0 + h) y u v words motion refs t
+frame-zero {format} {w} {h} {y} {u} {v} {words} {motion} {refs} {t} f = subst (λ (k : ℕ). Frame.Frame format w k y u v words motion refs t) (sym (zero-add h)) f

@@ -11,12 +11,15 @@ use borrow.Author.Tests.{leb-true}
 use lib.Dec.{eqb, leb}
 use lib.IntN.{ℤ}
 use lib.ListN.{length, getD, take, drop, length-drop, drop-of-length-le, take-append-drop}
-use lib.Seq.{take-all, take-add, drop-drop}
+use lib.Seq.{take-all, take-add, drop-drop, take-nil, drop-nil}
 use Rattle.def.proofs.Sizes.{sized}
 use Rattle.def.specs.Word.{qpOf}
 use Rattle.def.specs.declared.Answer.{Answer}
 use Rattle.def.specs.declared.Answer.the-variants.{Done, Refused as Bad}
 use Rattle.def.specs.declared.Refusal.{Refusal}
+use Rattle.def.specs.Formats.{inFormat}
+use Rattle.def.specs.declared.Format.{Format}
+use Rattle.def.specs.declared.Format.the-variants.{Grey, Colour}
 use Rattle.def.specs.declared.Component.{Component}
 use Rattle.def.specs.declared.Component.the-variants.{Luma, Chroma}
 use Rattle.laws.proofs.Flat.{flat-within}
@@ -36,7 +39,7 @@ use Rattle.df_rules.specs.Places.{unitQ, unitP}
 use Rattle.df_rules.specs.Window.{Samples}
 use Rattle.df_rules.specs.Visit.{allDone}
 use Rattle.df_rules.specs.Strength.{Maps, rowAt, qpAt, strengthOf, strength}
-use Rattle.df_rules.proofs.Planes.{planes-finished}
+use Rattle.df_rules.proofs.Planes.{planes-finished, no-samples, finished-none}
 use Rattle.df_rules.proofs.Strengths.{row-few}
 use Rattle.bands_rules.specs.Bands.{edgeDown, listFrom, mapPart, mapsPart, placesOf, inPart, doneFrom, Both}
 use Rattle.df_check.specs.Rows.{rowsAbove}
@@ -84,6 +87,19 @@ chroma-rows s w =
     let h = mul-assoc 2 w s in
     omega (arith, places-step Chroma w s)
 
+-- lengths of colour, by the format
+in-sum : (f : Format) (a b c : ℕ) → a + b ≡ c → inFormat f a + inFormat f b ≡ inFormat f c
+in-sum Grey a b c e = refl
+in-sum Colour a b c e = e
+
+no-sample : Samples []
+no-sample k = omega arith
+
+-- what is judged of a plane of colour
+colour-any : (f : Format) (a n l : ℕ) (p : List ℕ) → length p ≡ inFormat f l → a ≡ n → samplesOk (drop n p) ≡ true → Samples (drop (inFormat f a) p)
+colour-any Grey a n l p e q g k = subst Samples (sym (no-samples p e)) no-sample k
+colour-any Colour a n l p e q g k = sample-any (drop a p) k (ap (λ (z : ℕ). samplesOk (drop z p)) q ∙ g)
+
 module _ (j : band.Input) (fine : band.check j ≡ Done) (pos : 1 ≤ band.wide j) where
   abbrev w : ℕ
   w = band.wide j
@@ -102,6 +118,9 @@ module _ (j : band.Input) (fine : band.check j ≡ Done) (pos : 1 ≤ band.wide 
 
   abbrev list : Pass → List Edge
   list d = listFrom d short top (j .splits) w n
+
+  abbrev f : Format
+  f = j .settings .format
 
   abbrev t : Told j
   t = told j fine
@@ -178,6 +197,12 @@ module _ (j : band.Input) (fine : band.check j ≡ Done) (pos : 1 ≤ band.wide 
   long-by : (c : Component) {l : ℕ} → l ≡ placesOf c w (rowsAbove (j .band) + n) → l ≡ placesOf c w skip + placesOf c w (top + n)
   long-by c e = e ∙ sym (places-sum c)
 
+  plane-whole : (k : Component) (at : ℕ → ℕ) (p : List ℕ) (z : ℕ) → z ≡ placesOf k w skip → length p ≡ placesOf k w (rowsAbove (j .band) + n)
+      → mapsPart w skip (top + n) (band.mapsOf j) ≡ m
+      → take z p ++ finished m (j .strengths) at k w (list vertical) (list horizontal) (drop z p) ≡ band.deblocked j k at p
+  plane-whole k at p z e l same =
+      ap (λ (x : ℕ). take x p ++ finished m (j .strengths) at k w (list vertical) (list horizontal) (drop x p)) e ∙ part-whole k at p (long-by k l) same
+
   maps-same : length (j .words) ≡ (rowsAbove (j .band) + n) * w → length (j .motion) ≡ 4 * ((rowsAbove (j .band) + n) * w) → length (j .refs) ≡ 2 * ((rowsAbove (j .band) + n) * w) → mapsPart w skip (top + n) (band.mapsOf j) ≡ m
   maps-same lw lm lr =
       let e = add-mul skip (top + n) w ∙ refl in
@@ -188,8 +213,18 @@ module _ (j : band.Input) (fine : band.check j ≡ Done) (pos : 1 ≤ band.wide 
       let c = end-of (2 * (skip * w)) (2 * ((top + n) * w)) (j .refs) (omega arith) in
       λ i. record { words = a i; motion = b i; refs = c i }
 
+  -- a plane of colour, by the format
+  colour-whole : (g : Format) (at : ℕ → ℕ) (p : List ℕ) (z : ℕ) → z ≡ inFormat g (placesOf Chroma w skip) → length p ≡ inFormat g (placesOf Chroma w (rowsAbove (j .band) + n))
+      → mapsPart w skip (top + n) (band.mapsOf j) ≡ m
+      → take z p ++ finished m (j .strengths) at Chroma w (list vertical) (list horizontal) (drop z p) ≡ band.deblocked j Chroma at p
+  colour-whole Grey at p z e l same =
+      subst (λ (q : List ℕ). take z q ++ finished m (j .strengths) at Chroma w (list vertical) (list horizontal) (drop z q) ≡ band.deblocked j Chroma at q) (sym (no-samples p l))
+      (rw (take-nil {A = ℕ} z, drop-nil {A = ℕ} z) (finished-none m (j .strengths) at Chroma w (list vertical) (list horizontal)
+      ∙ sym (finished-none (band.mapsOf j) (j .strengths) at Chroma w (band.passEdges vertical j) (band.passEdges horizontal j))))
+  colour-whole Colour at p z e l same = plane-whole Chroma at p z e l same
+
   -- what `band_passes` leaves of the slices is what the rule says. a and c: the samples that were not handed on, of luma and of a chroma plane
-  pub band-done : (a c : ℕ) → a ≡ placesOf Luma w skip → c ≡ placesOf Chroma w skip → (y u v words : List ℕ) (ver hor : ℕ)
+  pub band-done : (a c : ℕ) → a ≡ placesOf Luma w skip → c ≡ inFormat f (placesOf Chroma w skip) → (y u v words : List ℕ) (ver hor : ℕ)
       → take a y ≡ take a (j .y) → take c u ≡ take c (j .u) → take c v ≡ take c (j .v) → take (skip * w) words ≡ take (skip * w) (j .words)
       → Both m entriesIn w top (list vertical) (list horizontal)
       (record { y = drop a (j .y); u = drop c (j .u); v = drop c (j .v) }) (record { y = drop a y; u = drop c u; v = drop c v }) (drop (skip * w) words) ver hor
@@ -198,12 +233,9 @@ module _ (j : band.Input) (fine : band.check j ≡ Done) (pos : 1 ≤ band.wide 
       let same = maps-same (t .long-words) (t .long-motion) (t .long-refs) in
       let done = parts-done _ _ _ _ _ b in
       let split : (a : ℕ) (l : List ℕ) → l ≡ take a l ++ drop a l = λ a l. sym (take-append-drop a l) in
-      let whole : (k : Component) (at : ℕ → ℕ) (p : List ℕ) (z : ℕ) → z ≡ placesOf k w skip → length p ≡ placesOf k w (rowsAbove (j .band) + n)
-      → take z p ++ finished m (j .strengths) at k w (list vertical) (list horizontal) (drop z p) ≡ band.deblocked j k at p =
-      λ k at p z e l. ap (λ (x : ℕ). take x p ++ finished m (j .strengths) at k w (list vertical) (list horizontal) (drop x p)) e ∙ part-whole k at p (long-by k l) same in
-      let ey = split a y ∙ ap₂ _++_ ty (ap (λ (q : Planes). q .y) done) ∙ whole Luma (band.qpY j) (j .y) a ea (t .long-y) in
-      let eu = split c u ∙ ap₂ _++_ tu (ap (λ (q : Planes). q .u) done) ∙ whole Chroma (band.qpU j) (j .u) c ec (t .long-u) in
-      let ev = split c v ∙ ap₂ _++_ tv (ap (λ (q : Planes). q .v) done) ∙ whole Chroma (band.qpV j) (j .v) c ec (t .long-v) in
+      let ey = split a y ∙ ap₂ _++_ ty (ap (λ (q : Planes). q .y) done) ∙ plane-whole Luma (band.qpY j) (j .y) a ea (t .long-y) same in
+      let eu = split c u ∙ ap₂ _++_ tu (ap (λ (q : Planes). q .u) done) ∙ colour-whole f (band.qpU j) (j .u) c ec (t .long-u) same in
+      let ev = split c v ∙ ap₂ _++_ tv (ap (λ (q : Planes). q .v) done) ∙ colour-whole f (band.qpV j) (j .v) c ec (t .long-v) same in
       let nv = b .ups-counted ∙ sym (edges-long skip (list vertical)) ∙ ap length (list-lent vertical) in
       let nh = b .levels-counted ∙ sym (edges-long skip (list horizontal)) ∙ ap length (list-lent horizontal) in
       let ew = split (skip * w) words ∙ ap₂ _++_ tw (b .marks) ∙ words-lent in
@@ -237,8 +269,8 @@ module _ (j : band.Input) (fine : band.check j ≡ Done) (pos : 1 ≤ band.wide 
   -- the units that are not handed on
   pub record Skipped : Type 0 where
     pub y : 16 * (skip * w) + placesOf Luma w (top + n) ≡ length (j .y)
-    pub u : 4 * (skip * w) + placesOf Chroma w (top + n) ≡ length (j .u)
-    pub v : 4 * (skip * w) + placesOf Chroma w (top + n) ≡ length (j .v)
+    pub u : inFormat f (4 * (skip * w)) + inFormat f (placesOf Chroma w (top + n)) ≡ length (j .u)
+    pub v : inFormat f (4 * (skip * w)) + inFormat f (placesOf Chroma w (top + n)) ≡ length (j .v)
     pub words : skip * w + (top + n) * w ≡ length (j .words)
     pub motion : 4 * (skip * w) + 4 * ((top + n) * w) ≡ length (j .motion)
     pub refs : 2 * (skip * w) + 2 * ((top + n) * w) ≡ length (j .refs)
@@ -254,8 +286,8 @@ module _ (j : band.Input) (fine : band.check j ≡ Done) (pos : 1 ≤ band.wide 
       let wide : w ≤ 1024 = omega (arith, sized (j .w) (j .h) (t .size) .wide) in
       record {
         y = ap (λ (z : ℕ). z + placesOf Luma w (top + n)) a ∙ sym (long-by Luma (t .long-y));
-        u = ap (λ (z : ℕ). z + placesOf Chroma w (top + n)) b ∙ sym (long-by Chroma (t .long-u));
-        v = ap (λ (z : ℕ). z + placesOf Chroma w (top + n)) b ∙ sym (long-by Chroma (t .long-v));
+        u = in-sum f _ _ _ (ap (λ (z : ℕ). z + placesOf Chroma w (top + n)) b ∙ places-sum Chroma) ∙ sym (t .long-u);
+        v = in-sum f _ _ _ (ap (λ (z : ℕ). z + placesOf Chroma w (top + n)) b ∙ places-sum Chroma) ∙ sym (t .long-v);
         words = units ∙ sym (t .long-words);
         motion = omega (arith, units, t .long-motion);
         refs = omega (arith, units, t .long-refs);
@@ -268,7 +300,7 @@ module _ (j : band.Input) (fine : band.check j ≡ Done) (pos : 1 ≤ band.wide 
   left-over a b l e = length-drop a l ∙ omega arith
 
   pub framed : (es : List ℕ) → length es ≡ 624
-      → Frame w (top + n) (drop (16 * (skip * w)) (j .y)) (drop (4 * (skip * w)) (j .u)) (drop (4 * (skip * w)) (j .v)) (drop (skip * w) (j .words))
+      → Frame f w (top + n) (drop (16 * (skip * w)) (j .y)) (drop (inFormat f (4 * (skip * w))) (j .u)) (drop (inFormat f (4 * (skip * w))) (j .v)) (drop (skip * w) (j .words))
       (drop (4 * (skip * w)) (j .motion)) (drop (2 * (skip * w)) (j .refs)) es
   framed es e =
       let k = skipped in
@@ -286,6 +318,6 @@ module _ (j : band.Input) (fine : band.check j ≡ Done) (pos : 1 ≤ band.wide 
         long-entries = e;
         qps = few;
         all-y = small Luma (16 * (skip * w)) (j .y) (luma-rows skip w) (t .y);
-        all-u = small Chroma (4 * (skip * w)) (j .u) (chroma-rows skip w) (t .u);
-        all-v = small Chroma (4 * (skip * w)) (j .v) (chroma-rows skip w) (t .v);
+        all-u = colour-any f (4 * (skip * w)) _ _ (j .u) (t .long-u) (chroma-rows skip w) (t .u);
+        all-v = colour-any f (4 * (skip * w)) _ _ (j .v) (t .long-v) (chroma-rows skip w) (t .v);
       }

@@ -6,7 +6,8 @@ use mathlib.Core.List.{List, List·Memᴰ}
 use native.Mathlib.Nat.{mul-comm}
 use native.Mathlib.Omega.{arith}
 use lib.ListN.{length}
-use Rattle.def.specs.Picture.{unitCount}
+use Rattle.def.specs.Formats.{inFormat}
+use Rattle.def.specs.Picture.{chromaLength, unitCount}
 use Rattle.def.specs.declared.Answer.{Answer}
 use Rattle.def.specs.declared.Answer.the-variants.{Done as Fine, Refused as Bad}
 use Rattle.def.specs.declared.Refusal.{Refusal}
@@ -44,7 +45,7 @@ module _ (i : Input) (fine : check i ≡ Fine) where
 
   -- ---- the picture, by any entries
 
-  pub framed : (t : List ℕ) → length t ≡ 624 → Frame (i .w / 4) (i .h / 4) (i .y) (i .u) (i .v) (i .words) (i .motion) (i .refs) t
+  pub framed : (t : List ℕ) → length t ≡ 624 → Frame (i .settings .format) (i .w / 4) (i .h / 4) (i .y) (i .u) (i .v) (i .words) (i .motion) (i .refs) t
   framed t e =
       let n = told .lengths in
       let z = size in
@@ -52,12 +53,13 @@ module _ (i : Input) (fine : check i ≡ Fine) where
       let b : 4 * (i .h / 4) ≡ i .h = omega (arith, z .by-four-down) in
       let c : 2 * (i .w / 4) ≡ i .w / 2 = omega (arith, z .by-four) in
       let d : 2 * (i .h / 4) ≡ i .h / 2 = omega (arith, z .by-four-down) in
+      let colour : chromaLength (i .w) (i .h) ≡ 2 * (i .h / 4) * (2 * (i .w / 4)) = mul-comm (i .w / 2) (i .h / 2) ∙ (λ k. sym d k * sym c k) in
       record {
         wide = omega (arith, z .wide);
         high = omega (arith, z .high);
         long-y = n .y ∙ mul-comm (i .w) (i .h) ∙ (λ k. sym b k * sym a k);
-        long-u = n .u ∙ mul-comm (i .w / 2) (i .h / 2) ∙ (λ k. sym d k * sym c k);
-        long-v = n .v ∙ mul-comm (i .w / 2) (i .h / 2) ∙ (λ k. sym d k * sym c k);
+        long-u = n .u ∙ ap (inFormat (i .settings .format)) colour;
+        long-v = n .v ∙ ap (inFormat (i .settings .format)) colour;
         long-words = n .words ∙ units;
         long-motion = n .motion ∙ ap (λ (k : ℕ). 4 * k) units;
         long-refs = n .refs ∙ ap (λ (k : ℕ). 2 * k) units;

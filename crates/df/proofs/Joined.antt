@@ -16,12 +16,16 @@ use Rattle.def.proofs.Sizes.{Sized, sized}
 use Rattle.df_check.specs.BandCheck as band-check
 use Rattle.df_check.specs.BandCheck.{bandOk}
 use Rattle.df_check.specs.Checks as checks
+use Rattle.df_check.proofs.Formats.{none-before}
 use Rattle.df_check.proofs.Passed.{LengthsTold, lengths-told, rest-passed}
 use Rattle.def.proofs.Words.{Alike, set-alike}
 use Rattle.split.proofs.Induct.{test}
 use Rattle.split.proofs.Roots.{some-wide}
 use Rattle.def.specs.declared.Component.{Component}
 use Rattle.def.specs.declared.Component.the-variants.{Luma, Chroma}
+use Rattle.def.specs.Formats.{inFormat}
+use Rattle.def.specs.declared.Format.{Format}
+use Rattle.def.specs.declared.Format.the-variants.{Grey, Colour}
 use Rattle.laws.proofs.Tabulate.{is-tabulate}
 use Rattle.split.specs.Edges.{Pass, vertical, horizontal}
 use Rattle.df_rules.specs.Filter.{finished}
@@ -30,7 +34,7 @@ use Rattle.df_rules.proofs.Finished.{demand-3}
 use Rattle.df_rules.proofs.Alikes.{Alikes, alikes-at}
 use Rattle.bands_rules.specs.Bands.{mapPart, edgeDown, bandList, doneFrom, placesOf, called, calledAll, joined as joined-lists}
 use Rattle.df_check.specs.Rows.{bandRows, rowsAbove, rowsBefore}
-use Rattle.bands_rules.proofs.Called.{above-before, list-at, calls-long, calls-below, calls-finished, calls-final, finished-alike, part-alikes}
+use Rattle.bands_rules.proofs.Called.{Held, above-before, list-at, calls-long, calls-below, calls-finished, calls-final, finished-alike, part-alikes}
 use Rattle.bands_rules.proofs.Down.{band}
 use Rattle.bands_rules.proofs.Lists.{BandDone, lists-joined, walks-joined}
 use Rattle.bands_rules.proofs.Words.{done-from-long, done-from-above, done-from-at}
@@ -73,8 +77,8 @@ pub record Told (j : band.Input) : Type 0 where
   pub position : bandOk (j .next) (j .band) (j .h) ≡ true
   pub settings : settingsOk (j .settings) ≡ true
   pub long-y : length (j .y) ≡ placesOf Luma (band.wide j) (band.top j + band.rows j)
-  pub long-u : length (j .u) ≡ placesOf Chroma (band.wide j) (band.top j + band.rows j)
-  pub long-v : length (j .v) ≡ placesOf Chroma (band.wide j) (band.top j + band.rows j)
+  pub long-u : length (j .u) ≡ inFormat (j .settings .format) (placesOf Chroma (band.wide j) (band.top j + band.rows j))
+  pub long-v : length (j .v) ≡ inFormat (j .settings .format) (placesOf Chroma (band.wide j) (band.top j + band.rows j))
   pub long-words : length (j .words) ≡ (band.top j + band.rows j) * band.wide j
   pub long-splits : length (j .splits) ≡ 1024 * rootCount (j .w) (4 * band.rows j)
   pub long-motion : length (j .motion) ≡ 4 * ((band.top j + band.rows j) * band.wide j)
@@ -85,6 +89,11 @@ pub record Told (j : band.Input) : Type 0 where
   pub u : samplesOk (band.checkedPlane j Chroma (j .u)) ≡ true
   pub v : samplesOk (band.checkedPlane j Chroma (j .v)) ≡ true
 
+-- the samples of colour that are judged, by the format
+colour-small : (f : Format) (n m l : ℕ) (p : List ℕ) → m ≡ n → length p ≡ inFormat f l → samplesOk (drop (inFormat f m) p) ≡ true → samplesOk (drop n p) ≡ true
+colour-small Grey n m l p q e g = samples-pass (drop n p) (λ k h. absurd (omega (arith, length-drop n p)))
+colour-small Colour n m l p q e g = ap (λ (k : ℕ). samplesOk (drop k p)) (sym q) ∙ g
+
 pub told : (j : band.Input) → band.check j ≡ Done → Told j
 unfolding band-check.checkOf
 told j e =
@@ -93,6 +102,7 @@ told j e =
     let rest = rest-passed _ _ _ _ (next .rest) in
     let whole = sized (j .w) (j .h) (size .holds) .by-four in
     let r = band.top j + band.rows j in
+    let f = j .settings .format in
     let n = rest .lengths in
     let small : (c : Component) (p : List ℕ) (m : ℕ) → m ≡ placesOf c (band.wide j) (band.unchecked j) → samplesOk (drop m p) ≡ true → samplesOk (band.checkedPlane j c p) ≡ true =
     λ c p m q g. ap (λ (k : ℕ). samplesOk (drop k p)) (sym q) ∙ g in
@@ -102,8 +112,8 @@ told j e =
       position = next .holds;
       settings = rest .settings;
       long-y = n .y ∙ luma-places (j .w) r whole;
-      long-u = n .u ∙ chroma-places (j .w) r whole;
-      long-v = n .v ∙ chroma-places (j .w) r whole;
+      long-u = n .u ∙ ap (inFormat f) (chroma-places (j .w) r whole);
+      long-v = n .v ∙ ap (inFormat f) (chroma-places (j .w) r whole);
       long-words = n .words ∙ unit-places (j .w) r whole;
       long-splits = n .splits;
       long-motion = n .motion ∙ ap (λ (k : ℕ). 4 * k) (unit-places (j .w) r whole);
@@ -111,8 +121,8 @@ told j e =
       walk = ap (λ (k : ℕ). pictureWalk (j .splits) (band.wide j) k .answer) (sym units) ∙ rest .walk;
       qps = ap (λ (k : ℕ). qpsOk (drop k (j .words))) (sym (unit-places (j .w) (band.unchecked j) whole)) ∙ rest .qps;
       y = small Luma (j .y) _ (luma-places (j .w) (band.unchecked j) whole) (rest .y);
-      u = small Chroma (j .u) _ (chroma-places (j .w) (band.unchecked j) whole) (rest .u);
-      v = small Chroma (j .v) _ (chroma-places (j .w) (band.unchecked j) whole) (rest .v);
+      u = colour-small f _ _ (chromaLength (j .w) (4 * r)) (j .u) (chroma-places (j .w) (band.unchecked j) whole) (n .u) (rest .u);
+      v = colour-small f _ _ (chromaLength (j .w) (4 * r)) (j .v) (chroma-places (j .w) (band.unchecked j) whole) (n .v) (rest .v);
     }
 
 -- the band is the position's next
@@ -346,9 +356,24 @@ module _ (i : Input) (sides : sizeOk (i .w) (i .h) ≡ true) (long : length (i .
 
 -- ---- lengths of planes and words
 
-module _ (i : Input) (sides : sizeOk (i .w) (i .h) ≡ true) (lengths : checks.lengthsOk (i .w) (i .h) (i .h) (checks.lengthsOf (checked i)) ≡ true) where
-  abbrev lengths-of : LengthsTold (i .w) (i .h) (i .h) (checks.lengthsOf (checked i))
-  lengths-of = lengths-told (i .w) (i .h) (i .h) (checks.lengthsOf (checked i)) lengths
+-- a plane's length, by the format: a grey picture's U and V have no samples
+abbrev pub inPlane : Plane → Format → ℕ → ℕ
+inPlane luma-plane f n = n
+inPlane u-plane f n = inFormat f n
+inPlane v-plane f n = inFormat f n
+
+held-colour : (f : Format) (n : ℕ) (p : List ℕ) → length p ≡ inFormat f n → Held n p
+held-colour Grey n p e l = absurd (omega arith)
+held-colour Colour n p e l = e
+
+held-in : (x : Plane) (f : Format) (n : ℕ) (p : List ℕ) → length p ≡ inPlane x f n → Held n p
+held-in luma-plane f n p e l = e
+held-in u-plane f n p e l = held-colour f n p e l
+held-in v-plane f n p e l = held-colour f n p e l
+
+module _ (i : Input) (sides : sizeOk (i .w) (i .h) ≡ true) (lengths : checks.lengthsOk (i .settings .format) (i .w) (i .h) (i .h) (checks.lengthsOf (checked i)) ≡ true) where
+  abbrev lengths-of : LengthsTold (i .settings .format) (i .w) (i .h) (i .h) (checks.lengthsOf (checked i))
+  lengths-of = lengths-told (i .settings .format) (i .w) (i .h) (i .h) (checks.lengthsOf (checked i)) lengths
 
   abbrev z : Sized (i .w) (i .h)
   z = sized (i .w) (i .h) sides
@@ -356,17 +381,23 @@ module _ (i : Input) (sides : sizeOk (i .w) (i .h) ≡ true) (lengths : checks.l
   whole : 4 * (i .h / 4) ≡ i .h
   whole = omega (arith, z .by-four-down)
 
-  pub long-plane : (x : Plane) → length (planeIn x i) ≡ placesOf (componentOf x) (i .w / 4) (i .h / 4)
+  colour : chromaLength (i .w) (i .h) ≡ placesOf Chroma (i .w / 4) (i .h / 4)
+  colour = ap (chromaLength (i .w)) (sym whole) ∙ chroma-places (i .w) (i .h / 4) (z .by-four)
+
+  pub long-plane : (x : Plane) → length (planeIn x i) ≡ inPlane x (i .settings .format) (placesOf (componentOf x) (i .w / 4) (i .h / 4))
   long-plane luma-plane = lengths-of .y ∙ ap (lumaLength (i .w)) (sym whole) ∙ luma-places (i .w) (i .h / 4) (z .by-four)
-  long-plane u-plane = lengths-of .u ∙ ap (chromaLength (i .w)) (sym whole) ∙ chroma-places (i .w) (i .h / 4) (z .by-four)
-  long-plane v-plane = lengths-of .v ∙ ap (chromaLength (i .w)) (sym whole) ∙ chroma-places (i .w) (i .h / 4) (z .by-four)
+  long-plane u-plane = lengths-of .u ∙ ap (inFormat (i .settings .format)) colour
+  long-plane v-plane = lengths-of .v ∙ ap (inFormat (i .settings .format)) colour
+
+  pub held-plane : (x : Plane) → Held (placesOf (componentOf x) (i .w / 4) (i .h / 4)) (planeIn x i)
+  held-plane x = held-in x (i .settings .format) (placesOf (componentOf x) (i .w / 4) (i .h / 4)) (planeIn x i) (long-plane x)
 
   pub long-words : length (i .words) ≡ i .h / 4 * (i .w / 4)
   long-words = lengths-of .words ∙ mul-comm (i .w / 4) (i .h / 4)
 
 -- ---- a picture all of whose bands were accepted
 
-module _ (i : Input) (sides : sizeOk (i .w) (i .h) ≡ true) (lengths : checks.lengthsOk (i .w) (i .h) (i .h) (checks.lengthsOf (checked i)) ≡ true) (acc : Accepted i) where
+module _ (i : Input) (sides : sizeOk (i .w) (i .h) ≡ true) (lengths : checks.lengthsOk (i .settings .format) (i .w) (i .h) (i .h) (checks.lengthsOf (checked i)) ≡ true) (acc : Accepted i) where
   abbrev all : bands i ≤ bands i
   all = omega arith
 
@@ -407,18 +438,19 @@ module _ (i : Input) (sides : sizeOk (i .w) (i .h) ≡ true) (lengths : checks.l
       let rows = i .h / 4 in
       let p = planeIn x i in
       let at = mappedAs x i in
-      let long = long-plane i sides lengths x in
+      let held = held-plane i sides lengths x in
+      let long = held (omega arith) in
       let long₁ : length p ≡ rows * stepOf c W = long ∙ places-step c W rows in
       let b = in-band (stepOf c W) rows j (step-some c W (pos i sides)) (omega arith) in
       let k = b .k in
       let less = b .less in
       let from = b .from in
       let q = calledAll (mapsOf i) (i .strengths) at c short (i .splits) W rows k p in
-      let lq = calls-long (mapsOf i) (i .strengths) at c short (i .splits) W rows (pos i sides) walked k (omega arith) p long in
-      let d = in-checked (stepOf c W) rows q (lq ∙ places-step c W rows) j b _ _ _ (places-step c W (rowsBefore k)) (places-step c W (lent i k)) (places-step c W (rowsAbove k - 1)) in
+      let lq = calls-long (mapsOf i) (i .strengths) at c short (i .splits) W rows (pos i sides) walked k (omega arith) p held in
+      let d = in-checked (stepOf c W) rows q (lq ∙ long₁) j b _ _ _ (places-step c W (rowsBefore k)) (places-step c W (lent i k)) (places-step c W (rowsAbove k - 1)) in
       let g = subst (λ (y : List ℕ). samplesOk (drop (placesOf c W (rowsAbove k - 1)) (planePart i k c y)) ≡ true) (after-plane i sides words-long (bands i) all acc x k (omega arith)) (part-small x k less) in
       let small = sample-at _ (d .q) g (d .inside) in
-      let same : getD q j 0 ≡ getD p j 0 = calls-below (mapsOf i) (i .strengths) at c short (i .splits) W rows (pos i sides) walked k (omega arith) p long j (omega (arith, places-step c W (16 * k))) in
+      let same : getD q j 0 ≡ getD p j 0 = calls-below (mapsOf i) (i .strengths) at c short (i .splits) W rows (pos i sides) walked k (omega arith) p held j (omega (arith, places-step c W (16 * k))) in
       omega (arith, d .is, same))
 
   qps-fine : qpsOk (i .words) ≡ true
@@ -443,7 +475,7 @@ module _ (i : Input) (sides : sizeOk (i .w) (i .h) ≡ true) (lengths : checks.l
   accepted =
       rw (
         mul-zero (i .w),
-        mul-zero (i .w / 2),
+        none-before (i .settings .format) (i .w),
         mul-zero (i .w / 4),
         sides,
         lengths,
@@ -503,7 +535,7 @@ module _ (i : Input) (sides : sizeOk (i .w) (i .h) ≡ true) (lengths : checks.l
 
   abbrev fill : (x : Plane) → calledAll (mapsOf i) (i .strengths) (mappedAs x i) (componentOf x) short (i .splits) (i .w / 4) (i .h / 4) (bands i) (planeIn x i) ≡ planeAfter x (outcome i)
   fill x =
-      calls-finished (mapsOf i) (i .strengths) (mappedAs x i) (componentOf x) short (i .splits) (i .w / 4) (i .h / 4) (pos i sides) walked (planeIn x i) (long-plane i sides lengths x)
+      calls-finished (mapsOf i) (i .strengths) (mappedAs x i) (componentOf x) short (i .splits) (i .w / 4) (i .h / 4) (pos i sides) walked (planeIn x i) (held-plane i sides lengths x)
       ∙ sym (outcome-plane x) ∙ ap (planeAfter x) (sym is-whole)
 
   pub joined : Joined i
@@ -517,7 +549,7 @@ module _ (i : Input) (sides : sizeOk (i .w) (i .h) ≡ true) (lengths : checks.l
         next = position i sides words-long (bands i) all acc;
         finals = λ x k l j h.
             ap (λ (q : List ℕ). getD q j 0) (after-plane i sides words-long (bands i) all acc x k l)
-            ∙ calls-final (mapsOf i) (i .strengths) (mappedAs x i) (componentOf x) short (i .splits) (i .w / 4) (i .h / 4) (pos i sides) walked k l (planeIn x i) (long-plane i sides lengths x) j h
+            ∙ calls-final (mapsOf i) (i .strengths) (mappedAs x i) (componentOf x) short (i .splits) (i .w / 4) (i .h / 4) (pos i sides) walked k l (planeIn x i) (held-plane i sides lengths x) j h
             ∙ ap (λ (q : List ℕ). getD q j 0) (fill x);
         edges = demand-3 short (i .splits) (i .w / 4) (i .h / 4) (pos i sides) (walks-joined (i .splits) (i .w / 4) (i .h / 4) (pos i sides) walked);
         lists = all-lists;

@@ -7,6 +7,7 @@ pub mod Joined
 pub mod Lanes
 pub mod Lengths
 pub mod Listed
+pub mod Luma
 pub mod Moved
 pub mod Parted
 pub mod Plans

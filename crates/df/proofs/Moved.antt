@@ -26,7 +26,7 @@ use Rattle.df.specs.Deblock.{Input, checked, check, passEdges, mapsOf, d
 use Rattle.df.specs.Moved.{MovesIn, Moved, firstEdges, MovedBands}
 use Rattle.df.proofs.Calls.{accepted}
 use Rattle.df.proofs.Demand3.{is-done}
-use Rattle.df.proofs.Joined.{pos, after-plane, long-plane, long-words}
+use Rattle.df.proofs.Joined.{pos, after-plane, held-plane, long-words}
 use Rattle.df.proofs.Parted.{lengths, walked}
 
 plane-done : (i : Input) (x : Plane) → planeAfter x (done i) ≡ deblocked i (componentOf x) (mappedAs x i) (planeIn x i)
@@ -44,7 +44,7 @@ state-plane i fine acc x n few =
     let size = passed (checked i) fine .size in
     let long = lengths i fine in
     after-plane i size (long-words i size long) (bands i) (omega arith) acc x n few
-    ∙ calls-joined (mapsOf i) (i .strengths) (mappedAs x i) (componentOf x) (eqb (i .settings .limit) 5) (i .splits) (i .w / 4) (i .h / 4) (pos i size) (walked i fine) n few (planeIn x i) (long-plane i size long x)
+    ∙ calls-joined (mapsOf i) (i .strengths) (mappedAs x i) (componentOf x) (eqb (i .settings .limit) 5) (i .splits) (i .w / 4) (i .h / 4) (pos i size) (walked i fine) n few (planeIn x i) (held-plane i size long x)
 
 -- ---- the picture at once
 

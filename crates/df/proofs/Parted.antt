@@ -18,6 +18,9 @@ use Rattle.def.specs.Word.{qpOf}
 use Rattle.def.specs.declared.Answer.{Answer}
 use Rattle.def.specs.declared.Answer.the-variants.{Done, Refused}
 use Rattle.def.specs.declared.Refusal.the-variants.{Size, Length}
+use Rattle.def.specs.Formats.{inFormat}
+use Rattle.def.specs.declared.Format.{Format}
+use Rattle.def.specs.declared.Format.the-variants.{Grey, Colour}
 use Rattle.def.specs.declared.Component.{Component}
 use Rattle.def.specs.declared.Component.the-variants.{Luma, Chroma}
 use Rattle.def.proofs.Answers.{number-some}
@@ -29,8 +32,9 @@ use Rattle.split.specs.Picture.{across, pictureWalk}
 use Rattle.df_check.specs.BandCheck as band-check
 use Rattle.df_check.specs.BandCheck.{bandOk}
 use Rattle.df_check.specs.Checks as checks
-use Rattle.df_check.specs.Checks.{lengthsOk, settingsOk, qpsOk, planesOk}
+use Rattle.df_check.specs.Checks.{colourLength, lengthsOk, settingsOk, qpsOk, planesOk}
 use Rattle.df_check.specs.Rows.{bandRows, rowsAbove, rowsBefore}
+use Rattle.df_check.proofs.Formats.{none-before}
 use Rattle.df_check.proofs.Passed.{LengthsTold, lengths-told, Rest, rest-passed, word-any}
 use Rattle.df_rules.specs.Window.{Samples}
 use Rattle.bands_rules.specs.Bands.{mapPart, bandBytes, placesOf, calledAll}
@@ -40,7 +44,7 @@ use Rattle.bands_rules.proofs.Lists.{BandDone, walks-apart}
 use Rattle.df.specs.Band as call
 use Rattle.df.specs.Bands.{stateAfter, inputOf, lent, planePart, bands, AcceptedTo, Accepted, Parted, Plane, luma-plane, u-plane, v-plane, componentOf, mappedAs, planeIn, planeOf}
 use Rattle.df.specs.Deblock.{Input, checked, check, mapsOf, refused, done, outcome}
-use Rattle.df.proofs.Joined.{is-done, Marked, marked-alikes, pos, position, words-marked, after-plane, long-plane, long-words, stepOf, places-step}
+use Rattle.df.proofs.Joined.{is-done, Marked, marked-alikes, pos, position, words-marked, after-plane, inPlane, long-plane, held-plane, long-words, stepOf, places-step}
 use Rattle.df.proofs.Lengths.{luma-places, chroma-places, unit-places}
 
 -- ---- parts of a list
@@ -52,8 +56,18 @@ part-all P l f a b c j h =
     let t = length-take b (drop c l) in
     subst P (sym (getD-drop a (take b (drop c l)) j 0 ∙ getD-take b (drop c l) (a + j) 0 (omega arith) ∙ getD-drop c l (a + j) 0)) (f (c + (a + j)))
 
+-- a part of a plane has its length, by the format, where it has it in colour
+part-colour : (f : Format) (l : List ℕ) (a b n : ℕ) → length l ≡ inFormat f n → (length l ≡ n → length (take b (drop a l)) ≡ b) → length (take b (drop a l)) ≡ inFormat f b
+part-colour Grey l a b n e g = omega (arith, length-take b (drop a l), length-drop a l)
+part-colour Colour l a b n e g = g e
+
+part-in : (x : Plane) (f : Format) (l : List ℕ) (a b n : ℕ) → length l ≡ inPlane x f n → (length l ≡ n → length (take b (drop a l)) ≡ b) → length (take b (drop a l)) ≡ inPlane x f b
+part-in luma-plane f l a b n e g = g e
+part-in u-plane f l a b n e g = part-colour f l a b n e g
+part-in v-plane f l a b n e g = part-colour f l a b n e g
+
 -- a band's own split bytes
-bytes-long : (i : Input) (sides : sizeOk (i .w) (i .h) ≡ true) → checks.lengthsOk (i .w) (i .h) (i .h) (checks.lengthsOf (checked i)) ≡ true → (n : ℕ) → n < bands i
+bytes-long : (i : Input) (sides : sizeOk (i .w) (i .h) ≡ true) → checks.lengthsOk (i .settings .format) (i .w) (i .h) (i .h) (checks.lengthsOf (checked i)) ≡ true → (n : ℕ) → n < bands i
     → length (bandBytes (i .splits) (i .w / 4) n) ≡ 1024 * rootCount (i .w) (4 * bandRows (i .h / 4) n)
 bytes-long i sides lengths n less =
     let z = sized (i .w) (i .h) sides in
@@ -64,7 +78,7 @@ bytes-long i sides lengths n less =
     let A = across (i .w / 4) in
     let wide : rootsAlong (i .w) ≡ A = omega (arith, z .by-four) in
     let one : rootsAlong (4 * bandRows (i .h / 4) n) ≡ 1 = omega arith in
-    let long = lengths-told (i .w) (i .h) (i .h) (checks.lengthsOf (checked i)) lengths .splits in
+    let long = lengths-told (i .settings .format) (i .w) (i .h) (i .h) (checks.lengthsOf (checked i)) lengths .splits in
     let high : rootsAlong (i .h) ≡ bands i = omega (arith, z .by-four-down) in
     let all : length (i .splits) ≡ 1024 * (bands i * A) = long ∙ (λ k. 1024 * (wide k * high k)) ∙ ap (λ (r : ℕ). 1024 * r) (mul-comm A (bands i)) in
     let room : suc n * A ≤ bands i * A = mul-le-mul-right A less in
@@ -84,9 +98,9 @@ module _ (i : Input) (ok : check i ≡ Done) where
   rest = rest-passed (i .h) (i .h) 0 (checked i) onward
 
   -- the lengths, as a test and one by one
-  pub lengths : checks.lengthsOk (i .w) (i .h) (i .h) (checks.lengthsOf (checked i)) ≡ true
+  pub lengths : checks.lengthsOk (i .settings .format) (i .w) (i .h) (i .h) (checks.lengthsOf (checked i)) ≡ true
   unfolding checks.fromLengths
-  lengths = passes (checks.lengthsOk (i .w) (i .h) (i .h) (checks.lengthsOf (checked i))) Length _ onward .holds
+  lengths = passes (checks.lengthsOk (i .settings .format) (i .w) (i .h) (i .h) (checks.lengthsOf (checked i))) Length _ onward .holds
 
   abbrev W : ℕ
   W = i .w / 4
@@ -111,8 +125,8 @@ module _ (i : Input) (ok : check i ≡ Done) where
 
   samples-fine : (x : Plane) → Samples (planeIn x i)
   samples-fine luma-plane k = sample-any (i .y) k (subst (λ (n : ℕ). samplesOk (drop n (i .y)) ≡ true) (mul-zero (i .w)) (rest .y))
-  samples-fine u-plane k = sample-any (i .u) k (subst (λ (n : ℕ). samplesOk (drop n (i .u)) ≡ true) (mul-zero (i .w / 2)) (rest .u))
-  samples-fine v-plane k = sample-any (i .v) k (subst (λ (n : ℕ). samplesOk (drop n (i .v)) ≡ true) (mul-zero (i .w / 2)) (rest .v))
+  samples-fine u-plane k = sample-any (i .u) k (subst (λ (n : ℕ). samplesOk (drop n (i .u)) ≡ true) (none-before (i .settings .format) (i .w)) (rest .u))
+  samples-fine v-plane k = sample-any (i .v) k (subst (λ (n : ℕ). samplesOk (drop n (i .v)) ≡ true) (none-before (i .settings .format) (i .w)) (rest .v))
 
   -- ---- band n, where those before it were accepted
 
@@ -139,18 +153,19 @@ module _ (i : Input) (ok : check i ≡ Done) where
         let g : (rowsBefore n + lent i n) * S ≤ rows * S = mul-le-mul-right S (omega (arith, above-before n)) in
         length-take-le b (drop a l) (omega (arith, length-drop a l, add-mul (rowsBefore n) (lent i n) S))
 
-    plane-long : (x : Plane) → length (planePart i n (componentOf x) (planeOf x (stateAfter i n))) ≡ placesOf (componentOf x) W (lent i n)
+    plane-long : (x : Plane) → length (planePart i n (componentOf x) (planeOf x (stateAfter i n))) ≡ inPlane x (i .settings .format) (placesOf (componentOf x) W (lent i n))
     plane-long x =
         let c = componentOf x in
         let long = ap length (after-plane i size words-long n few acc x n here)
-        ∙ calls-long (mapsOf i) (i .strengths) (mappedAs x i) c short (i .splits) W rows (pos i size) walked n few (planeIn x i) (long-plane i size lengths x) in
-        rows-lent (stepOf c W) (planeOf x (stateAfter i n)) _ _ (long ∙ places-step c W rows) (places-step c W (rowsBefore n)) (places-step c W (lent i n))
+        ∙ calls-long (mapsOf i) (i .strengths) (mappedAs x i) c short (i .splits) W rows (pos i size) walked n few (planeIn x i) (held-plane i size lengths x) ∙ long-plane i size lengths x in
+        part-in x (i .settings .format) (planeOf x (stateAfter i n)) (placesOf c W (rowsBefore n)) (placesOf c W (lent i n)) (placesOf c W rows) long
+        (λ e. rows-lent (stepOf c W) (planeOf x (stateAfter i n)) _ _ (e ∙ places-step c W rows) (places-step c W (rowsBefore n)) (places-step c W (lent i n)))
 
     plane-small : (x : Plane) (a : ℕ) → samplesOk (drop a (planePart i n (componentOf x) (planeOf x (stateAfter i n)))) ≡ true
     plane-small x a =
         let c = componentOf x in
         let small : Samples (planeOf x (stateAfter i n)) = subst Samples (sym (after-plane i size words-long n few acc x n here))
-        (calls-small (mapsOf i) (i .strengths) (mappedAs x i) c short (i .splits) W rows (pos i size) walked n few (planeIn x i) (long-plane i size lengths x) (samples-fine x)) in
+        (calls-small (mapsOf i) (i .strengths) (mappedAs x i) c short (i .splits) W rows (pos i size) walked n few (planeIn x i) (held-plane i size lengths x) (samples-fine x)) in
         samples-pass _ (λ k h. part-all (λ (v : ℕ). v ≤ 1023) (planeOf x (stateAfter i n)) small a (placesOf c W (lent i n)) (placesOf c W (rowsBefore n)) k h)
 
     words-small : (a : ℕ) → qpsOk (drop a (j .words)) ≡ true
@@ -169,7 +184,7 @@ module _ (i : Input) (ok : check i ≡ Done) where
     splits-long : length (j .splits) ≡ 1024 * rootCount (i .w) (4 * own)
     splits-long = bytes-long i size lengths n less
 
-    lengths-fine : lengthsOk (i .w) (4 * lent i n) (4 * own) (checks.lengthsOf (call.checked j .lent)) ≡ true
+    lengths-fine : lengthsOk (i .settings .format) (i .w) (4 * lent i n) (4 * own) (checks.lengthsOf (call.checked j .lent)) ≡ true
     unfolding lengthsOk
     lengths-fine =
         let t = rest .lengths in
@@ -178,8 +193,8 @@ module _ (i : Input) (ok : check i ≡ Done) where
         let words : length (j .words) ≡ unitCount (i .w) (4 * lent i n) = map-long 1 (stateAfter i n .words) (marked .long ∙ one) ∙ omega (arith, units) in
         rw (
           eq-eqb _ _ (plane-long luma-plane ∙ sym (luma-places (i .w) (lent i n) four)),
-          eq-eqb _ _ (plane-long u-plane ∙ sym (chroma-places (i .w) (lent i n) four)),
-          eq-eqb _ _ (plane-long v-plane ∙ sym (chroma-places (i .w) (lent i n) four)),
+          eq-eqb _ _ (plane-long u-plane ∙ ap (inFormat (i .settings .format)) (sym (chroma-places (i .w) (lent i n) four))),
+          eq-eqb _ _ (plane-long v-plane ∙ ap (inFormat (i .settings .format)) (sym (chroma-places (i .w) (lent i n) four))),
           eq-eqb _ _ words,
           eq-eqb _ _ splits-long,
           eq-eqb _ _ (map-long 4 (i .motion) (t .motion ∙ ap (λ (z : ℕ). 4 * z) (mul-comm W rows)) ∙ ap (λ (z : ℕ). 4 * z) (sym units)),
@@ -209,8 +224,8 @@ module _ (i : Input) (ok : check i ≡ Done) where
           walk-fine,
           words-small (unitCount (i .w) (4 * (rowsAbove n - 1))),
           plane-small luma-plane (lumaLength (i .w) (4 * (rowsAbove n - 1))),
-          plane-small u-plane (chromaLength (i .w) (4 * (rowsAbove n - 1))),
-          plane-small v-plane (chromaLength (i .w) (4 * (rowsAbove n - 1))),
+          plane-small u-plane (colourLength (i .settings .format) (i .w) (4 * (rowsAbove n - 1))),
+          plane-small v-plane (colourLength (i .settings .format) (i .w) (4 * (rowsAbove n - 1))),
         )
 
     pub next-accepted : call.outcome j .reading .number ≡ 0

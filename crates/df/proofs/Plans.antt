@@ -2,6 +2,7 @@
 --     read-back, read-units    a written list holds its edges, at their luma samples
 --     plan-filters    filtering a plane by a plan is filtering its edges there, where its places are those of the maps
 --     plan-stays    a plane stays a plane
+--     plan-empty    and one without samples stays so
 -- Assumes nothing.
 use Prim.Native.Nat.{ℕ, zero, suc, _+_, _*_, _/_, _%_, _≤_, _<_}
 use mathlib.Core.Bool.{Bool}
@@ -14,6 +15,7 @@ use lib.IntN.{ℤ}
 use lib.ListN.{length, getD, take, List·getD-append}
 use lib.Seq.{sets, sets-eq, length-sets, take-suc, take-all}
 use Rattle.def.specs.declared.Component.{Component}
+use Rattle.def.specs.declared.Format.{Format}
 use Rattle.laws.specs.Orders.{run, each}
 use Rattle.laws.proofs.Orders.{run-append}
 use Rattle.split.specs.Edges.{Pass, vertical, horizontal, Edge, edge, edgeAt, edgeNumbers}
@@ -24,7 +26,7 @@ use Rattle.df_rules.specs.Frame.{Frame, Unit, AtUnit}
 use Rattle.df_rules.specs.Places.{stepAcross, unitQ, unitP}
 use Rattle.df_rules.specs.Strength.{Maps, rowAt, qpAt, strengthOf, strength}
 use Rattle.df_rules.proofs.Edges.{Spot, spot, unit-q, unit-p, p-before}
-use Rattle.df_rules.proofs.Planes.{window-long, window-small}
+use Rattle.df_rules.proofs.Planes.{window-long, window-small, no-samples}
 use Rattle.df_rules.proofs.Strengths.{row-few}
 use Rattle.bands_rules.proofs.Lists.{Lies}
 use Rattle.df.specs.Plan.{edgeFrom, edgesFrom, placeAt, Placed, filterIn, Known, PlaneOf, At}
@@ -94,7 +96,7 @@ module _ (l : List Edge) (few : length l ≤ 256) {out list : List ℕ} {r : ℕ
 
 -- ---- an edge's units lie in the maps
 
-pub known : (d : Pass) {w h : ℕ} {y u v words : List ℕ} {motion refs : List ℤ} {t : List ℕ} (a b : ℕ) → Frame w h y u v words motion refs t → At d w h a b → Known d w words motion refs a b
+pub known : (d : Pass) {format : Format} {w h : ℕ} {y u v words : List ℕ} {motion refs : List ℤ} {t : List ℕ} (a b : ℕ) → Frame format w h y u v words motion refs t → At d w h a b → Known d w words motion refs a b
 known vertical {w} {h} a b f g =
     let k = spot vertical w h a b (f .wide) (f .high) g in
     record { wide = f .wide; few-x = k .few-x; few-y = k .few-z; before = p-before w h vertical (a / 4) (b / 4) (k .inner); q = unit-q w h f vertical (a / 4) (b / 4) (k .across) (k .along); p = unit-p w h f vertical (a / 4) (b / 4) (k .across) (k .along) }
@@ -150,6 +152,11 @@ module _ (t : List ℕ) (first : ℕ) (c : Component) (d : Pass) (w : ℕ) where
 
   pub plan-stays : {m h : ℕ} (l places : List ℕ) (n : ℕ) (xs ys : List ℕ) → ys ≡ filterIn t first c d w l places n xs → PlaneOf m w h xs → PlaneOf m w h ys
   plan-stays {m} {h} l places n xs ys e f = subst (PlaneOf m w h) (sym e) (stays m h l places n xs f)
+
+  pub plan-empty : (l places : List ℕ) (n : ℕ) (xs : List ℕ) → length xs ≡ 0 → xs ≡ filterIn t first c d w l places n xs
+  unfolding filterIn
+  plan-empty l places zero xs e = refl
+  plan-empty l places (suc n) xs e = no-samples xs e ∙ sym (no-samples _ (window-long _ _ _ _ _ _ _ ∙ ap length (sym (plan-empty l places n xs e)) ∙ e))
 
 -- ---- by numbers that were read
 

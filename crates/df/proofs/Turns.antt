@@ -9,6 +9,7 @@ use native.Mathlib.Omega.{arith}
 use lib.IntN.{ℤ}
 use lib.ListN.{length, length-append}
 use Rattle.def.specs.declared.Component.the-variants.{Luma, Chroma}
+use Rattle.def.specs.declared.Format.{Format}
 use Rattle.laws.specs.Orders.{run, each}
 use Rattle.laws.proofs.Orders.{run-append, each-append}
 use Rattle.split.specs.Edges.{Pass, vertical, horizontal, Edge, visitOf, nearEdge, edgesOf}
@@ -22,7 +23,7 @@ use Rattle.df_rules.proofs.Frames.{Framed, frame-filtered}
 use Rattle.split.specs.RootCall.{leafDown}
 use Rattle.bands_rules.specs.Bands.{listFrom, doneFrom, Both}
 use Rattle.bands_rules.proofs.Down.{map-append}
-use Rattle.df.specs.Plan.{edgeFrom, edgesFrom, Placed, filterIn, PlaneOf, PassDone}
+use Rattle.df.specs.Plan.{edgeFrom, edgesFrom, Placed, filterIn, PlaneOf, ColourOf, PassDone}
 use Rattle.df.proofs.Plans.{plan-filters}
 
 from-long : (l : List ℕ) (n : ℕ) → length (edgesFrom l n) ≡ n
@@ -77,13 +78,13 @@ module _ (m : Maps) (t : List ℕ) (d : Pass) (short : Bool) (top : ℕ) (s : Li
   }
 
 -- a picture's planes
-pub luma-plane : {w h : ℕ} {y u v words : List ℕ} {motion refs : List ℤ} {t : List ℕ} → Frame w h y u v words motion refs t → PlaneOf 4 w h y
+pub luma-plane : {format : Format} {w h : ℕ} {y u v words : List ℕ} {motion refs : List ℤ} {t : List ℕ} → Frame format w h y u v words motion refs t → PlaneOf 4 w h y
 luma-plane f = record { wide = f .wide; high = f .high; long = f .long-y; all = f .all-y }
 
-pub u-plane : {w h : ℕ} {y u v words : List ℕ} {motion refs : List ℤ} {t : List ℕ} → Frame w h y u v words motion refs t → PlaneOf 2 w h u
+pub u-plane : {format : Format} {w h : ℕ} {y u v words : List ℕ} {motion refs : List ℤ} {t : List ℕ} → Frame format w h y u v words motion refs t → ColourOf format w h u
 u-plane f = record { wide = f .wide; high = f .high; long = f .long-u; all = f .all-u }
 
-pub v-plane : {w h : ℕ} {y u v words : List ℕ} {motion refs : List ℤ} {t : List ℕ} → Frame w h y u v words motion refs t → PlaneOf 2 w h v
+pub v-plane : {format : Format} {w h : ℕ} {y u v words : List ℕ} {motion refs : List ℤ} {t : List ℕ} → Frame format w h y u v words motion refs t → ColourOf format w h v
 v-plane f = record { wide = f .wide; high = f .high; long = f .long-v; all = f .all-v }
 
 -- ---- the two passes
@@ -98,6 +99,6 @@ both-done {m} {t = t} {w = w} {levels = levels} g k e = record {
 }
 
 -- the picture after a pass
-pub frame-done : {m : Maps} {t : List ℕ} {d : Pass} {w₁ : ℕ} {l : List Edge} {p q : Planes} {r w h : ℕ} {motion refs : List ℤ} {entries words : List ℕ}
-    → PassDone m t d w₁ l p q r → Framed w h motion refs entries p words → Framed w h motion refs entries q words
+pub frame-done : {m : Maps} {t : List ℕ} {d : Pass} {w₁ : ℕ} {l : List Edge} {p q : Planes} {r w h : ℕ} {format : Format} {motion refs : List ℤ} {entries words : List ℕ}
+    → PassDone m t d w₁ l p q r → Framed format w h motion refs entries p words → Framed format w h motion refs entries q words
 frame-done {m} {t} {d} {w₁} {l} g f = frame-filtered m t d w₁ l (g .planes) f

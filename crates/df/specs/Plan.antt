@@ -6,7 +6,9 @@ use mathlib.Core.List.{List, [], _∷_, _++_, map}
 use mathlib.Core.Path.{_≡_}
 use lib.IntN.{ℤ}
 use lib.ListN.{length, getD}
+use Rattle.def.specs.Formats.{inFormat}
 use Rattle.def.specs.declared.Component.{Component}
+use Rattle.def.specs.declared.Format.{Format}
 use Rattle.split.specs.Edges.{Pass, Edge, edge, edgesOf}
 use Rattle.split.specs.Picture.{rootLeaves}
 use Rattle.split.specs.Rows.{crossOf, alongOf}
@@ -65,6 +67,13 @@ pub record PlaneOf (m w h : ℕ) (xs : List ℕ) : Type 0 where
   pub wide : w ≤ 1024
   pub high : h ≤ 1024
   pub long : length xs ≡ m * h * (m * w)
+  pub all : Samples xs
+
+-- a chroma plane of such a picture, by its format: a grey one has no samples there
+pub record ColourOf (f : Format) (w h : ℕ) (xs : List ℕ) : Type 0 where
+  pub wide : w ≤ 1024
+  pub high : h ≤ 1024
+  pub long : length xs ≡ inFormat f (2 * h * (2 * w))
   pub all : Samples xs
 
 -- (x, y) is the first luma sample of a unit that has one before it

@@ -2,6 +2,7 @@
 ghost use mathlib.Core.Path.{_≡_};
 ghost use Prim.Native.Nat.{_+_, _*_, _/_, _≤_};
 ghost use lib.ListN.{length, take, drop};
+ghost use Rattle.def.specs.Formats.{inFormat};
 ghost use Rattle.split.specs.Edges.{vertical, horizontal};
 ghost use Rattle.df_rules.specs.Frame.{Frame};
 ghost use Rattle.df_rules.specs.Leaves.{Accepted};
@@ -12,10 +13,12 @@ use crate::Counts;
 use crate::both_passes;
 use crate::entries_by;
 use def::Answer;
+use def::Format;
 use def::Refusal;
 use df_check::Settings;
 use df_check::band_rows;
 use df_check::checked_band;
+use df_check::in_format;
 use df_check::rows_above;
 
 // A position in a picture that is done by bands: the band that comes next.
@@ -35,6 +38,7 @@ pub enum Banded {
 
 // Both passes over h rows of samples, below `top` rows of units. What is lent has `skip` more rows of units before these, which are not looked at.
 pub(crate) fn band_passes(
+    format: Format,
     short: bool,
     w: usize,
     h: usize,
@@ -49,24 +53,26 @@ pub(crate) fn band_passes(
     refs: &[i8],
     entries: &[u8],
 ) -> Counts
-    requires { ⌜ Frame (w / 4) (top + h / 4) (drop (16 * (skip * (w / 4))) (now y)) (drop (4 * (skip * (w / 4))) (now u)) (drop (4 * (skip * (w / 4))) (now v)) (drop (skip * (w / 4)) (now words)) (drop (4 * (skip * (w / 4))) (now motion)) (drop (2 * (skip * (w / 4))) (now refs)) (now entries)
+    requires { ⌜ Frame format (w / 4) (top + h / 4) (drop (16 * (skip * (w / 4))) (now y)) (drop (inFormat format (4 * (skip * (w / 4)))) (now u)) (drop (inFormat format (4 * (skip * (w / 4)))) (now v)) (drop (skip * (w / 4)) (now words)) (drop (4 * (skip * (w / 4))) (now motion)) (drop (2 * (skip * (w / 4))) (now refs)) (now entries)
         × Accepted w h (now splits) ⌝ }
-    requires { ⌜ (16 * (skip * (w / 4)) ≤ length (now y)) × (4 * (skip * (w / 4)) ≤ length (now u)) × (4 * (skip * (w / 4)) ≤ length (now v)) × (skip * (w / 4) ≤ length (now words)) × (4 * (skip * (w / 4)) ≤ length (now motion)) × (2 * (skip * (w / 4)) ≤ length (now refs)) × (skip * (w / 4) ≤ 16384) ⌝ }
+    requires { ⌜ (16 * (skip * (w / 4)) ≤ length (now y)) × (inFormat format (4 * (skip * (w / 4))) ≤ length (now u)) × (inFormat format (4 * (skip * (w / 4))) ≤ length (now v)) × (skip * (w / 4) ≤ length (now words)) × (4 * (skip * (w / 4)) ≤ length (now motion)) × (2 * (skip * (w / 4)) ≤ length (now refs)) × (skip * (w / 4) ≤ 16384) ⌝ }
     ensures { λ r. ⌜ (take (16 * (skip * (w / 4))) (now (y .exit)) ≡ take (16 * (skip * (w / 4))) (now (y .entry)))
-        × (take (4 * (skip * (w / 4))) (now (u .exit)) ≡ take (4 * (skip * (w / 4))) (now (u .entry)))
-        × (take (4 * (skip * (w / 4))) (now (v .exit)) ≡ take (4 * (skip * (w / 4))) (now (v .entry)))
+        × (take (inFormat format (4 * (skip * (w / 4)))) (now (u .exit)) ≡ take (inFormat format (4 * (skip * (w / 4)))) (now (u .entry)))
+        × (take (inFormat format (4 * (skip * (w / 4)))) (now (v .exit)) ≡ take (inFormat format (4 * (skip * (w / 4)))) (now (v .entry)))
         × (take (skip * (w / 4)) (now (words .exit)) ≡ take (skip * (w / 4)) (now (words .entry)))
         × Both (record { words = drop (skip * (w / 4)) (now (words .entry)); motion = drop (4 * (skip * (w / 4))) (now (motion .entry)); refs = drop (2 * (skip * (w / 4))) (now (refs .entry)) }) (now (entries .entry))
         (w / 4) top (listFrom vertical short top (now (splits .entry)) (w / 4) (h / 4)) (listFrom horizontal short top (now (splits .entry)) (w / 4) (h / 4))
-        (record { y = drop (16 * (skip * (w / 4))) (now (y .entry)); u = drop (4 * (skip * (w / 4))) (now (u .entry)); v = drop (4 * (skip * (w / 4))) (now (v .entry)) })
-        (record { y = drop (16 * (skip * (w / 4))) (now (y .exit)); u = drop (4 * (skip * (w / 4))) (now (u .exit)); v = drop (4 * (skip * (w / 4))) (now (v .exit)) })
+        (record { y = drop (16 * (skip * (w / 4))) (now (y .entry)); u = drop (inFormat format (4 * (skip * (w / 4)))) (now (u .entry)); v = drop (inFormat format (4 * (skip * (w / 4)))) (now (v .entry)) })
+        (record { y = drop (16 * (skip * (w / 4))) (now (y .exit)); u = drop (inFormat format (4 * (skip * (w / 4)))) (now (u .exit)); v = drop (inFormat format (4 * (skip * (w / 4)))) (now (v .exit)) })
         (drop (skip * (w / 4)) (now (words .exit))) (r .vertical) (r .horizontal) ⌝ }
 {
     let from = skip * (w / 4);
     let luma = 16 * from;
-    let chroma = 4 * from;
+    let chroma = in_format(format, 4 * from);
+    let motion_from = 4 * from;
     let refs_from = 2 * from;
     both_passes(
+        format,
         short,
         w,
         h,
@@ -76,7 +82,7 @@ pub(crate) fn band_passes(
         &mut v[chroma..],
         &mut words[from..],
         splits,
-        &motion[chroma..],
+        &motion[motion_from..],
         &refs[refs_from..],
         entries,
     )
@@ -155,7 +161,9 @@ impl Bands {
         let top = above / 16;
         let skip = above - top;
         let own = 4 * rows;
+        let format = settings.format;
         let n = band_passes(
+            format,
             settings.limit == 5,
             w,
             own,

@@ -1,4 +1,4 @@
-// A list's edges, filtered by the places of their strengths: in luma, and in both chroma planes. No map is looked at.
+// A list's edges, filtered by the places of their strengths: in luma, and in both chroma planes of a picture in colour. No map is looked at.
 // The Rust beside it: df.rs, the loops of evc_deblock_cu_hor and evc_deblock_cu_ver.
 ghost use mathlib.Core.Path.{_≡_};
 ghost use Prim.Native.Nat.{_+_, _*_, _/_, _≤_, _<_};
@@ -8,7 +8,7 @@ ghost use Rattle.def.specs.declared.Component.the-variants.{Luma, Chroma};
 ghost use Rattle.df_rules.specs.Filter.{window};
 ghost use Rattle.df_rules.specs.Frame.{AtUnit};
 ghost use Rattle.df.specs.Edges.{passOf};
-ghost use Rattle.df.specs.Plan.{filterIn, PlaneOf, Plan};
+ghost use Rattle.df.specs.Plan.{filterIn, PlaneOf, ColourOf, Plan};
 use crate::place::Pass;
 use crate::place::along_of;
 use crate::place::cross_of;
@@ -16,6 +16,7 @@ use crate::place::place;
 use crate::plan::number_at;
 use crate::window::chroma;
 use crate::window::luma;
+use def::Format;
 
 fn strength_at(entries: &[u8], i: usize) -> u16
     requires { ⌜ i < length (now entries) ⌝ }
@@ -92,7 +93,7 @@ pub(crate) fn filter_luma(
 }
 
 // And in chroma.
-pub(crate) fn filter_chroma(
+fn filter_chroma(
     pass: Pass,
     size: Size,
     u: &mut [u16],
@@ -113,5 +114,27 @@ pub(crate) fn filter_chroma(
         let x = cross_of(pass, a, b);
         let z = along_of(pass, a, b);
         edge_chroma(pass, size, &mut *u, &mut *v, entries, k, x, z);
+    }
+}
+
+// The same by the picture's format: a grey one has no samples there, and nothing is done.
+pub(crate) fn filter_colour(
+    format: Format,
+    pass: Pass,
+    size: Size,
+    u: &mut [u16],
+    v: &mut [u16],
+    entries: &[u8],
+    list: &[u16],
+    places: &[u8],
+    n: usize,
+)
+    requires { ⌜ ColourOf format (size .columns) (size .rows) (now u) × ColourOf format (size .columns) (size .rows) (now v) × Plan (passOf pass) (size .columns) (size .rows) (now list) (now places) n × (length (now entries) ≡ 624) ⌝ }
+    ensures { λ _. ⌜ (now (u .exit) ≡ filterIn (now (entries .entry)) 208 Chroma (passOf pass) (size .columns) (now (list .entry)) (now (places .entry)) n (now (u .entry)))
+        × (now (v .exit) ≡ filterIn (now (entries .entry)) 416 Chroma (passOf pass) (size .columns) (now (list .entry)) (now (places .entry)) n (now (v .entry))) ⌝ }
+{
+    match format {
+        Format::Grey => {}
+        Format::Colour => filter_chroma(pass, size, u, v, entries, list, places, n),
     }
 }

@@ -14,6 +14,7 @@ ghost use Rattle.df.specs.Deblock as Deblock;
 use crate::pass::deblock_pass;
 use crate::place::Pass;
 use def::Answer;
+use def::Format;
 use def::Refusal;
 use def::set_cod;
 use df_check::Settings;
@@ -62,6 +63,7 @@ pub(crate) struct Counts {
 // Both passes over h rows of samples, below `top` rows of units: the vertical pass covers all of them first. Then every unit of
 // theirs is done.
 pub(crate) fn both_passes(
+    format: Format,
     short: bool,
     w: usize,
     h: usize,
@@ -75,13 +77,14 @@ pub(crate) fn both_passes(
     refs: &[i8],
     entries: &[u8],
 ) -> Counts
-    requires { ⌜ Frame (w / 4) (top + h / 4) (now y) (now u) (now v) (now words) (now motion) (now refs) (now entries) × Accepted w h (now splits) ⌝ }
+    requires { ⌜ Frame format (w / 4) (top + h / 4) (now y) (now u) (now v) (now words) (now motion) (now refs) (now entries) × Accepted w h (now splits) ⌝ }
     ensures { λ r. ⌜ Both (record { words = now (words .entry); motion = now (motion .entry); refs = now (refs .entry) }) (now (entries .entry))
         (w / 4) top (listFrom vertical short top (now (splits .entry)) (w / 4) (h / 4)) (listFrom horizontal short top (now (splits .entry)) (w / 4) (h / 4))
         (record { y = now (y .entry); u = now (u .entry); v = now (v .entry) }) (record { y = now (y .exit); u = now (u .exit); v = now (v .exit) })
         (now (words .exit)) (r .vertical) (r .horizontal) ⌝ }
 {
     let m = deblock_pass(
+        format,
         Pass::Vertical,
         short,
         w,
@@ -97,6 +100,7 @@ pub(crate) fn both_passes(
         entries,
     );
     let n = deblock_pass(
+        format,
         Pass::Horizontal,
         short,
         w,
@@ -172,7 +176,9 @@ pub fn deblock(
         return Deblocked::Refused(r);
     }
     let table = entries_by(settings, strengths, table0, table1);
+    let format = settings.format;
     let n = both_passes(
+        format,
         settings.limit == 5,
         w,
         h,

@@ -10,11 +10,12 @@ ghost use Rattle.df_rules.specs.Leaves.{Accepted};
 ghost use Rattle.df.specs.Edges.{passOf};
 ghost use Rattle.df.specs.Plan.{ListedRoot, PassDone};
 use crate::filter::Size;
-use crate::filter::filter_chroma;
+use crate::filter::filter_colour;
 use crate::filter::filter_luma;
 use crate::place::Pass;
 use crate::place::is_horizontal;
 use crate::plan::places;
+use def::Format;
 use def::Pel;
 use split::Walked;
 
@@ -44,6 +45,7 @@ fn root_edges(
 
 // One pass over h rows of samples, below `top` rows of units: the roots follow in raster order. The answer is how many edges were filtered.
 pub(crate) fn deblock_pass(
+    format: Format,
     pass: Pass,
     short: bool,
     w: usize,
@@ -58,7 +60,7 @@ pub(crate) fn deblock_pass(
     refs: &[i8],
     entries: &[u8],
 ) -> usize
-    requires { ⌜ Frame (w / 4) (top + h / 4) (now y) (now u) (now v) (now words) (now motion) (now refs) (now entries) × Accepted w h (now splits) ⌝ }
+    requires { ⌜ Frame format (w / 4) (top + h / 4) (now y) (now u) (now v) (now words) (now motion) (now refs) (now entries) × Accepted w h (now splits) ⌝ }
     ensures { λ r. ⌜ PassDone (record { words = now (words .entry); motion = now (motion .entry); refs = now (refs .entry) }) (now (entries .entry))
         (passOf pass) (w / 4) (listFrom (passOf pass) short top (now (splits .entry)) (w / 4) (h / 4))
         (record { y = now (y .entry); u = now (u .entry); v = now (v .entry) }) (record { y = now (y .exit); u = now (u .exit); v = now (v .exit) }) r ⌝ }
@@ -75,7 +77,7 @@ pub(crate) fn deblock_pass(
         let n = root_edges(pass, short, w, h, top, splits, i, &mut list);
         places(pass, size.columns, words, motion, refs, &list, n, &mut at);
         filter_luma(pass, size, &mut *y, entries, &list, &at, n);
-        filter_chroma(pass, size, &mut *u, &mut *v, entries, &list, &at, n);
+        filter_colour(format, pass, size, &mut *u, &mut *v, entries, &list, &at, n);
         count += n;
     }
     count

@@ -1,3 +1,4 @@
+pub mod Formats
 pub mod Passed
 pub mod Walked
 pub mod Fronts

@@ -13,15 +13,16 @@ use native.Mathlib.Decide.{decLt}
 use native.Mathlib.Omega.{arith}
 use borrow.Author.Tests.{eqb-true, leb-true}
 use lib.Dec.{leb}
-use lib.IntN.{ℤ, pos, negsuc}
+use lib.IntN.{ℤ}
 use lib.ListN.{length, getD, drop, List·getD-eq-default}
 use lib.Signed.{leZ}
 use Rattle.laws.specs.Bits.{fieldOf}
 use Rattle.laws.proofs.Calls.{all-at}
 use Rattle.laws.proofs.Scans.{scan-at}
 use Rattle.def.specs.Answers.{afterChecks}
-use Rattle.def.specs.Picture.{sizeOk, lumaLength, chromaLength, unitCount, rootCount}
+use Rattle.def.specs.Picture.{sizeOk, lumaLength, unitCount, rootCount}
 use Rattle.def.specs.Word.{qpOf}
+use Rattle.def.specs.declared.Format.{Format}
 use Rattle.def.specs.declared.Answer.{Answer}
 use Rattle.def.specs.declared.Answer.the-variants.{Done, Refused}
 use Rattle.def.proofs.Ladders.{passes}
@@ -29,50 +30,51 @@ use Rattle.samples.specs.Samples.{samplesOk}
 use Rattle.samples.proofs.Samples.{sample-any}
 use Rattle.split.specs.ListCall.{limitOk}
 use Rattle.split.specs.Picture.{pictureWalk}
-use Rattle.df_check.specs.Checks.{Input, lengthTests, lengthsOf, lengthsOk, offsetOk, settingsOk, qpsOk, planesOk, fromLengths, checkOf}
+use Rattle.df_check.specs.Checks.{Input, colourLength, tableLength, lengthTests, lengthsOf, lengthsOk, leastOffset, mostOffset, offsetOk, settingsOk, qpsOk, planesOk, fromLengths, checkOf}
 use Rattle.df_check.specs.declared.check.Lengths.{Lengths}
+use Rattle.df_check.proofs.Formats.{none-before}
 
 -- ---- 2
 
-pub record LengthsTold (w lent own : ℕ) (n : Lengths) : Type 0 where
+pub record LengthsTold (f : Format) (w lent own : ℕ) (n : Lengths) : Type 0 where
   pub y : n .y ≡ lumaLength w lent
-  pub u : n .u ≡ chromaLength w lent
-  pub v : n .v ≡ chromaLength w lent
+  pub u : n .u ≡ colourLength f w lent
+  pub v : n .v ≡ colourLength f w lent
   pub words : n .words ≡ unitCount w lent
   pub splits : n .splits ≡ 1024 * rootCount w own
   pub motion : n .motion ≡ 4 * unitCount w lent
   pub refs : n .refs ≡ 2 * unitCount w lent
-  pub table0 : n .table0 ≡ 70
-  pub table1 : n .table1 ≡ 70
+  pub table0 : n .table0 ≡ tableLength f
+  pub table1 : n .table1 ≡ tableLength f
   pub strengths : n .strengths ≡ 208
 
-pub lengths-told : (w lent own : ℕ) (n : Lengths) → lengthsOk w lent own n ≡ true → LengthsTold w lent own n
+pub lengths-told : (f : Format) (w lent own : ℕ) (n : Lengths) → lengthsOk f w lent own n ≡ true → LengthsTold f w lent own n
 unfolding lengthsOk
-lengths-told w lent own n e =
+lengths-told f w lent own n e =
     record {
-      y = eqb-true _ _ (all-at (lengthTests w lent own n) 0 e);
-      u = eqb-true _ _ (all-at (lengthTests w lent own n) 1 e);
-      v = eqb-true _ _ (all-at (lengthTests w lent own n) 2 e);
-      words = eqb-true _ _ (all-at (lengthTests w lent own n) 3 e);
-      splits = eqb-true _ _ (all-at (lengthTests w lent own n) 4 e);
-      motion = eqb-true _ _ (all-at (lengthTests w lent own n) 5 e);
-      refs = eqb-true _ _ (all-at (lengthTests w lent own n) 6 e);
-      table0 = eqb-true _ _ (all-at (lengthTests w lent own n) 7 e);
-      table1 = eqb-true _ _ (all-at (lengthTests w lent own n) 8 e);
-      strengths = eqb-true _ _ (all-at (lengthTests w lent own n) 9 e);
+      y = eqb-true _ _ (all-at (lengthTests f w lent own n) 0 e);
+      u = eqb-true _ _ (all-at (lengthTests f w lent own n) 1 e);
+      v = eqb-true _ _ (all-at (lengthTests f w lent own n) 2 e);
+      words = eqb-true _ _ (all-at (lengthTests f w lent own n) 3 e);
+      splits = eqb-true _ _ (all-at (lengthTests f w lent own n) 4 e);
+      motion = eqb-true _ _ (all-at (lengthTests f w lent own n) 5 e);
+      refs = eqb-true _ _ (all-at (lengthTests f w lent own n) 6 e);
+      table0 = eqb-true _ _ (all-at (lengthTests f w lent own n) 7 e);
+      table1 = eqb-true _ _ (all-at (lengthTests f w lent own n) 8 e);
+      strengths = eqb-true _ _ (all-at (lengthTests f w lent own n) 9 e);
     }
 
 -- ---- all of them
 
--- an offset in -12..12
-pub record Offset (z : ℤ) : Type 0 where
-  pub least : leZ (negsuc 11) z ≡ true
-  pub most : leZ z (pos 12) ≡ true
+-- an offset in the format's range
+pub record Offset (f : Format) (z : ℤ) : Type 0 where
+  pub least : leZ (leastOffset f) z ≡ true
+  pub most : leZ z (mostOffset f) ≡ true
 
-offset-told : (z : ℤ) → offsetOk z ≡ true → Offset z
+offset-told : (f : Format) (z : ℤ) → offsetOk f z ≡ true → Offset f z
 unfolding offsetOk
-offset-told z e =
-    let tests = leZ (negsuc 11) z ∷ leZ z (pos 12) ∷ [] in
+offset-told f z e =
+    let tests = leZ (leastOffset f) z ∷ leZ z (mostOffset f) ∷ [] in
     record { least = all-at tests 0 e; most = all-at tests 1 e }
 
 -- the walk was accepted, and what came after it found nothing
@@ -86,13 +88,13 @@ onward (Refused r) k e = record { accepted = e; rest = cc }
 
 -- from the lengths on
 pub record Rest (lent own before : ℕ) (i : Input) : Type 0 where
-  pub lengths : LengthsTold (i .w) lent own (lengthsOf i)
+  pub lengths : LengthsTold (i .settings .format) (i .w) lent own (lengthsOf i)
   pub settings : settingsOk (i .settings) ≡ true
   pub walk : pictureWalk (i .splits) (i .w / 4) (own / 4) .answer ≡ Done
   pub qps : qpsOk (drop (unitCount (i .w) before) (i .words)) ≡ true
   pub y : samplesOk (drop (lumaLength (i .w) before) (i .y)) ≡ true
-  pub u : samplesOk (drop (chromaLength (i .w) before) (i .u)) ≡ true
-  pub v : samplesOk (drop (chromaLength (i .w) before) (i .v)) ≡ true
+  pub u : samplesOk (drop (colourLength (i .settings .format) (i .w) before) (i .u)) ≡ true
+  pub v : samplesOk (drop (colourLength (i .settings .format) (i .w) before) (i .v)) ≡ true
 
 pub rest-passed : (lent own before : ℕ) (i : Input) → fromLengths lent own before i ≡ Done → Rest lent own before i
 unfolding fromLengths planesOk
@@ -102,10 +104,10 @@ rest-passed lent own before i e =
     let walk = onward _ _ (settings .rest) in
     let qps = passes _ _ _ (walk .rest) in
     let planes = passes _ _ _ (qps .rest) .holds in
-    let c = chromaLength (i .w) before in
+    let c = colourLength (i .settings .format) (i .w) before in
     let samples = samplesOk (drop (lumaLength (i .w) before) (i .y)) ∷ samplesOk (drop c (i .u)) ∷ samplesOk (drop c (i .v)) ∷ [] in
     record {
-      lengths = lengths-told (i .w) lent own (lengthsOf i) (lengths .holds);
+      lengths = lengths-told (i .settings .format) (i .w) lent own (lengthsOf i) (lengths .holds);
       settings = settings .holds;
       walk = walk .accepted;
       qps = qps .holds;
@@ -129,10 +131,10 @@ word-any l e k = go (decLt k (length l)) where
 
 pub record Passed (i : Input) : Type 0 where
   pub size : sizeOk (i .w) (i .h) ≡ true
-  pub lengths : LengthsTold (i .w) (i .h) (i .h) (lengthsOf i)
+  pub lengths : LengthsTold (i .settings .format) (i .w) (i .h) (i .h) (lengthsOf i)
   pub limit : limitOk (i .settings .limit) ≡ true
-  pub u-offset : Offset (i .settings .«u_offset»)
-  pub v-offset : Offset (i .settings .«v_offset»)
+  pub u-offset : Offset (i .settings .format) (i .settings .«u_offset»)
+  pub v-offset : Offset (i .settings .format) (i .settings .«v_offset»)
   pub walk : pictureWalk (i .splits) (i .w / 4) (i .h / 4) .answer ≡ Done
   pub qp : (k : ℕ) → qpOf (getD (i .words) k 0) ≤ 51
   pub y : (k : ℕ) → getD (i .y) k 0 ≤ 1023
@@ -146,16 +148,16 @@ passed i e =
     let size = passes _ _ _ e in
     let rest = rest-passed (i .h) (i .h) 0 i (size .rest) in
     let words : qpsOk (i .words) ≡ true = subst (λ (n : ℕ). qpsOk (drop n (i .words)) ≡ true) (mul-zero (i .w / 4)) (rest .qps) in
-    let tests = limitOk (s .limit) ∷ offsetOk (s .«u_offset») ∷ offsetOk (s .«v_offset») ∷ [] in
+    let tests = limitOk (s .limit) ∷ offsetOk (s .format) (s .«u_offset») ∷ offsetOk (s .format) (s .«v_offset») ∷ [] in
     record {
       size = size .holds;
       lengths = rest .lengths;
       limit = all-at tests 0 (rest .settings);
-      u-offset = offset-told (s .«u_offset») (all-at tests 1 (rest .settings));
-      v-offset = offset-told (s .«v_offset») (all-at tests 2 (rest .settings));
+      u-offset = offset-told (s .format) (s .«u_offset») (all-at tests 1 (rest .settings));
+      v-offset = offset-told (s .format) (s .«v_offset») (all-at tests 2 (rest .settings));
       walk = rest .walk;
       qp = word-any (i .words) words;
       y = λ k. sample-any (i .y) k (subst (λ (n : ℕ). samplesOk (drop n (i .y)) ≡ true) (mul-zero (i .w)) (rest .y));
-      u = λ k. sample-any (i .u) k (subst (λ (n : ℕ). samplesOk (drop n (i .u)) ≡ true) (mul-zero (i .w / 2)) (rest .u));
-      v = λ k. sample-any (i .v) k (subst (λ (n : ℕ). samplesOk (drop n (i .v)) ≡ true) (mul-zero (i .w / 2)) (rest .v));
+      u = λ k. sample-any (i .u) k (subst (λ (n : ℕ). samplesOk (drop n (i .u)) ≡ true) (none-before (s .format) (i .w)) (rest .u));
+      v = λ k. sample-any (i .v) k (subst (λ (n : ℕ). samplesOk (drop n (i .v)) ≡ true) (none-before (s .format) (i .w)) (rest .v));
     }

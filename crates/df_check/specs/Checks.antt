@@ -10,10 +10,13 @@ use lib.Signed.{leZ}
 use Rattle.laws.specs.Call.{unless, allOf}
 use Rattle.laws.specs.Scan.{allIn}
 use Rattle.def.specs.Answers.{afterChecks}
+use Rattle.def.specs.Formats.{inFormat}
 use Rattle.def.specs.Picture.{sizeOk, lumaLength, chromaLength, unitCount, rootCount}
 use Rattle.def.specs.Word.{qpOf}
 use Rattle.def.specs.declared.Answer.{Answer}
 use Rattle.def.specs.declared.Answer.the-variants.{Done, Refused}
+use Rattle.def.specs.declared.Format.{Format}
+use Rattle.def.specs.declared.Format.the-variants.{Grey, Colour}
 use Rattle.def.specs.declared.Refusal.the-variants.{Size, Length, Setting, Qp, Sample}
 use Rattle.samples.specs.Samples.{samplesOk}
 use Rattle.split.specs.ListCall.{limitOk}
@@ -21,30 +24,46 @@ use Rattle.split.specs.Picture.{pictureWalk}
 use Rattle.df_check.specs.declared.Settings.{Settings}
 use Rattle.df_check.specs.declared.check.Lengths.{Lengths}
 
--- 2, of what is lent, `lent` rows of luma samples, and of the split bytes of the `own` among them: four numbers of motion and two references a unit, 1,024 split bytes a root, tables of 70, four rows of 52 entries
-abbrev pub lengthTests : (w lent own : ℕ) → Lengths → List Bool
-lengthTests w lent own n =
+-- of colour, in a picture of the format: the samples of a plane of h rows of luma samples, and the entries of a table
+abbrev pub colourLength : Format → (w h : ℕ) → ℕ
+colourLength f w h = inFormat f (chromaLength w h)
+
+abbrev pub tableLength : Format → ℕ
+tableLength f = inFormat f 70
+
+-- 2, of what is lent, `lent` rows of luma samples, and of the split bytes of the `own` among them: four numbers of motion and two references a unit,
+-- 1,024 split bytes a root, four rows of 52 entries. A grey picture has no U, no V and no tables
+abbrev pub lengthTests : Format → (w lent own : ℕ) → Lengths → List Bool
+lengthTests f w lent own n =
     eqb (n .y) (lumaLength w lent)
-    ∷ eqb (n .u) (chromaLength w lent)
-    ∷ eqb (n .v) (chromaLength w lent)
+    ∷ eqb (n .u) (colourLength f w lent)
+    ∷ eqb (n .v) (colourLength f w lent)
     ∷ eqb (n .words) (unitCount w lent)
     ∷ eqb (n .splits) (1024 * rootCount w own)
     ∷ eqb (n .motion) (4 * unitCount w lent)
     ∷ eqb (n .refs) (2 * unitCount w lent)
-    ∷ eqb (n .table0) 70
-    ∷ eqb (n .table1) 70
+    ∷ eqb (n .table0) (tableLength f)
+    ∷ eqb (n .table1) (tableLength f)
     ∷ eqb (n .strengths) 208
     ∷ []
 
-unfoldable pub lengthsOk : (w lent own : ℕ) → Lengths → Bool
-lengthsOk w lent own n = allOf (lengthTests w lent own n)
+unfoldable pub lengthsOk : Format → (w lent own : ℕ) → Lengths → Bool
+lengthsOk f w lent own n = allOf (lengthTests f w lent own n)
 
--- 3: the transform limit, 5 or 6, and an offset, -12..12
-unfoldable pub offsetOk : ℤ → Bool
-offsetOk z = leZ (negsuc 11) z && leZ z (pos 12)
+-- 3: the transform limit, 5 or 6, and an offset, -12..12, of a grey picture 0
+abbrev pub leastOffset : Format → ℤ
+leastOffset Grey = pos 0
+leastOffset Colour = negsuc 11
+
+abbrev pub mostOffset : Format → ℤ
+mostOffset Grey = pos 0
+mostOffset Colour = pos 12
+
+unfoldable pub offsetOk : Format → ℤ → Bool
+offsetOk f z = leZ (leastOffset f) z && leZ z (mostOffset f)
 
 unfoldable pub settingsOk : Settings → Bool
-settingsOk s = allOf (limitOk (s .limit) ∷ offsetOk (s .«u_offset») ∷ offsetOk (s .«v_offset») ∷ [])
+settingsOk s = allOf (limitOk (s .limit) ∷ offsetOk (s .format) (s .«u_offset») ∷ offsetOk (s .format) (s .«v_offset») ∷ [])
 
 -- 6: a QP over 51, of every unit, on an edge or not
 unfoldable pub qpsOk : (words : List ℕ) → Bool
@@ -89,11 +108,12 @@ lengthsOf i =
 -- `before` are not judged. 4 and 5 are what the walk of its own rows answers
 unfoldable pub fromLengths : (lent own before : ℕ) → Input → Answer
 fromLengths lent own before i =
-    unless (lengthsOk (i .w) lent own (lengthsOf i)) (Refused Length)
+    let f = i .settings .format in
+    unless (lengthsOk f (i .w) lent own (lengthsOf i)) (Refused Length)
     (unless (settingsOk (i .settings)) (Refused Setting)
     (afterChecks Refused
     (unless (qpsOk (drop (unitCount (i .w) before) (i .words))) (Refused Qp)
-    (unless (planesOk (drop (lumaLength (i .w) before) (i .y)) (drop (chromaLength (i .w) before) (i .u)) (drop (chromaLength (i .w) before) (i .v))) (Refused Sample)
+    (unless (planesOk (drop (lumaLength (i .w) before) (i .y)) (drop (colourLength f (i .w) before) (i .u)) (drop (colourLength f (i .w) before) (i .v))) (Refused Sample)
     Done))
     (pictureWalk (i .splits) (i .w / 4) (own / 4) .answer)))
 

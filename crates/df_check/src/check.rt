@@ -1,16 +1,29 @@
-// What deblocking refuses, and in which order: 1, 2, 3, then 4 or 5 as the walk meets them, 6, 7. The Rust takes all of it to be right.
+// What deblocking refuses, and in which order: 1, 2, 3, then 4 or 5 as the walk meets them, 6, 7. The Rust takes all of it to be right, and has no grey
+// pictures.
 ghost use mathlib.Core.Bool.{true};
 ghost use mathlib.Core.Path.{_≡_};
 ghost use Prim.Native.Nat.{_≤_};
 ghost use Rattle.laws.specs.Call.{Gives};
+ghost use Rattle.def.specs.Formats.{inFormat};
 ghost use Rattle.def.specs.Picture.{sizeOk};
 ghost use Rattle.def.proofs.Sizes.{Sized};
-ghost use Rattle.df_check.specs.Checks.{lengthsOk, offsetOk, settingsOk, qpsOk, planesOk, fromLengths, checkOf};
+ghost use Rattle.df_check.specs.Checks.{lengthsOk, leastOffset, mostOffset, offsetOk, settingsOk, qpsOk, planesOk, fromLengths, checkOf};
 use crate::Settings;
 use def::Answer;
+use def::Format;
 use def::Refusal;
 
 // ---- 2: lengths
+
+// A length of colour, in a picture of the format.
+pub fn in_format(format: Format, n: usize) -> usize
+    ensures { λ r. ⌜ r ≡ inFormat format n ⌝ }
+{
+    match format {
+        Format::Grey => 0,
+        Format::Colour => n,
+    }
+}
 
 // How long each lent slice is.
 struct Lengths {
@@ -27,11 +40,12 @@ struct Lengths {
 }
 
 // Of planes and maps of `lent` rows of luma samples, and of the split bytes of `own` rows.
-fn lengths_ok(w: usize, lent: usize, own: usize, n: Lengths) -> bool
+fn lengths_ok(format: Format, w: usize, lent: usize, own: usize, n: Lengths) -> bool
     requires { ⌜ Sized w lent × Sized w own ⌝ }
-    ensures { λ r. ⌜ r ≡ lengthsOk w lent own n ⌝ }
+    ensures { λ r. ⌜ r ≡ lengthsOk format w lent own n ⌝ }
 {
-    let chroma = w / 2 * (lent / 2);
+    let chroma = in_format(format, w / 2 * (lent / 2));
+    let table = in_format(format, 70);
     let units = w / 4 * (lent / 4);
     let roots = (w + 63) / 64 * ((own + 63) / 64);
     (n.y == w * lent)
@@ -41,23 +55,45 @@ fn lengths_ok(w: usize, lent: usize, own: usize, n: Lengths) -> bool
         & (n.splits == 1024 * roots)
         & (n.motion == 4 * units)
         & (n.refs == 2 * units)
-        & (n.table0 == 70)
-        & (n.table1 == 70)
+        & (n.table0 == table)
+        & (n.table1 == table)
         & (n.strengths == 208)
 }
 
 // ---- 3: settings
 
-fn offset_ok(offset: i8) -> bool
-    ensures { λ r. ⌜ r ≡ offsetOk offset ⌝ }
+// The least and the most that an offset may be.
+fn least_offset(format: Format) -> i8
+    ensures { λ r. ⌜ r ≡ leastOffset format ⌝ }
 {
-    (-12 <= offset) & (offset <= 12)
+    match format {
+        Format::Grey => 0,
+        Format::Colour => -12,
+    }
+}
+
+fn most_offset(format: Format) -> i8
+    ensures { λ r. ⌜ r ≡ mostOffset format ⌝ }
+{
+    match format {
+        Format::Grey => 0,
+        Format::Colour => 12,
+    }
+}
+
+fn offset_ok(format: Format, offset: i8) -> bool
+    ensures { λ r. ⌜ r ≡ offsetOk format offset ⌝ }
+{
+    (least_offset(format) <= offset) & (offset <= most_offset(format))
 }
 
 fn settings_ok(s: Settings) -> bool
     ensures { λ r. ⌜ r ≡ settingsOk s ⌝ }
 {
-    ((s.limit == 5) | (s.limit == 6)) & offset_ok(s.u_offset) & offset_ok(s.v_offset)
+    let format = s.format;
+    ((s.limit == 5) | (s.limit == 6))
+        & offset_ok(format, s.u_offset)
+        & offset_ok(format, s.v_offset)
 }
 
 // ---- 6: QPs
@@ -76,7 +112,7 @@ fn qps_ok(words: &[u32]) -> bool
     ok
 }
 
-// ---- 7: samples
+// ---- 7: samples. A grey picture's U and V have none
 
 fn planes_ok(y: &[u16], u: &[u16], v: &[u16]) -> bool
     ensures { λ r. ⌜ r ≡ planesOk (now (y .entry)) (now (u .entry)) (now (v .entry)) ⌝ }
@@ -136,7 +172,8 @@ pub(crate) fn from_lengths(
         table1,
         strengths,
     };
-    if !lengths_ok(w, lent, own, lengths) {
+    let format = settings.format;
+    if !lengths_ok(format, w, lent, own, lengths) {
         return Answer::Refused(Refusal::Length);
     }
     if !settings_ok(settings) {
@@ -150,7 +187,7 @@ pub(crate) fn from_lengths(
         return Answer::Refused(Refusal::Qp);
     }
     let luma = w * before;
-    let chroma = w / 2 * (before / 2);
+    let chroma = in_format(format, w / 2 * (before / 2));
     if !planes_ok(&y[luma..], &u[chroma..], &v[chroma..]) {
         return Answer::Refused(Refusal::Sample);
     }

@@ -11,6 +11,7 @@ use lib.Dec.{ltb}
 use lib.IntN.{ℤ}
 use lib.ListN.{length, length-append}
 use Rattle.laws.specs.Index.{pick}
+use Rattle.def.specs.declared.Format.{Format}
 use Rattle.laws.specs.Orders.{run}
 use Rattle.laws.proofs.Orders.{run-append}
 use Rattle.laws.proofs.Flat.{flat-within}
@@ -33,7 +34,7 @@ module _ (w h : ℕ) where
   p-before vertical c a p = omega arith
   p-before horizontal c a p = omega (arith, mul-le-mul-right {m = 1} {n = c} w p)
 
-  module _ {y u v words : List ℕ} {motion refs : List ℤ} {entries : List ℕ} (f : Frame w h y u v words motion refs entries) where
+  module _ {format : Format} {y u v words : List ℕ} {motion refs : List ℤ} {entries : List ℕ} (f : Frame format w h y u v words motion refs entries) where
     unit-of : (k : ℕ) → k < h * w → Unit words motion refs k
     unit-of k p = record { word = omega (arith, f .long-words); mv = omega (arith, f .long-motion); refi = omega (arith, f .long-refs); qp = f .qps k }
 

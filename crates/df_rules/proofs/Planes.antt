@@ -2,12 +2,14 @@
 --     filter-planes    the three planes of `filterAll`, each a run of its own
 --     window-long, filtered-long, run-long, finished-long, filter-long    lengths stay
 --     window-small, filtered-small, run-small, finished-small, filter-small    samples stay at most 1023
+--     no-samples, run-none, finished-none    a plane without samples stays without
 --     run-same    edges of the same strengths filter alike; planes-finished    so do both passes, in all three planes
 -- Assumes nothing.
 use Prim.Native.Nat.{ℕ, zero, suc, _+_, _*_, _≤_}
 use mathlib.Core.Path.{_≡_, refl, sym, ap, _∙_, subst}
 use mathlib.Core.Bool.{Bool, true, false}
 use mathlib.Core.List.{List, [], _∷_, List·Memᴰ, List·Memᴰ·head, List·Memᴰ·tail}
+use native.Mathlib.Omega.{arith}
 use borrow.Author.Tests.{eqb-true, eqb-false, ltb-true, ltb-false}
 use lib.Dec.{eqb, ltb}
 use lib.ListN.{length, getD, set, length-set}
@@ -76,6 +78,10 @@ long-stored n xs i v h g = length-set xs i v ∙ g
 pub window-long : (m : Mask) (st step next at n : ℕ) (xs : List ℕ) → length (windowAt m st step next at n xs) ≡ length xs
 window-long m st step next at n xs = window-keeps (λ ys. length ys ≡ length xs) (long-stored (length xs)) m st step next at n xs refl
 
+pub no-samples : (l : List ℕ) → length l ≡ 0 → l ≡ []
+no-samples [] e = refl
+no-samples (x ∷ l) e = absurd (omega arith)
+
 -- ---- samples
 
 small-stored : (xs : List ℕ) (i v : ℕ) → v ≤ 1023 → Samples xs → Samples (set xs i v)
@@ -104,6 +110,10 @@ module _ (m : Maps) (t : List ℕ) (at : ℕ → ℕ) (d : Pass) (c : Component)
   pub run-small : (l : List Edge) (xs : List ℕ) → Samples xs → Samples (run (filtered m t at d c w) l xs)
   run-small l xs g = run-keeps Samples (filtered m t at d c w) filtered-small l xs g
 
+  -- in a plane without samples every window is empty
+  pub run-none : (l : List Edge) → run (filtered m t at d c w) l [] ≡ []
+  run-none l = no-samples _ (run-long l [])
+
   -- by other strengths that are the same
   pub run-same : (m₁ : Maps) (t₁ : List ℕ) (at₁ : ℕ → ℕ) (l : List Edge) → ((e : Edge) → List·Memᴰ e l → strength m t at d w e ≡ strength m₁ t₁ at₁ d w e)
       → (xs : List ℕ) → run (filtered m t at d c w) l xs ≡ run (filtered m₁ t₁ at₁ d c w) l xs
@@ -120,6 +130,9 @@ module _ (m : Maps) (t : List ℕ) (at : ℕ → ℕ) (c : Component) (w : ℕ) 
 
   pub finished-small : Samples xs → Samples (finished m t at c w ups levels xs)
   finished-small g = run-small m t at horizontal c w levels _ (run-small m t at vertical c w ups xs g)
+
+pub finished-none : (m : Maps) (t : List ℕ) (at : ℕ → ℕ) (c : Component) (w : ℕ) (ups levels : List Edge) → finished m t at c w ups levels [] ≡ []
+finished-none m t at c w ups levels = no-samples _ (finished-long m t at c w ups levels [])
 
 -- ---- and in all three
 

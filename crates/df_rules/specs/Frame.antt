@@ -5,7 +5,9 @@ use mathlib.Core.List.{List}
 use mathlib.Core.Path.{_≡_}
 use lib.IntN.{ℤ}
 use lib.ListN.{length, getD}
+use Rattle.def.specs.Formats.{inFormat}
 use Rattle.def.specs.Word.{qpOf}
+use Rattle.def.specs.declared.Format.{Format}
 use Rattle.split.specs.Edges.{Pass, vertical, horizontal, Edge}
 use Rattle.df_rules.specs.Filter.{Planes, filterAll}
 use Rattle.df_rules.specs.Strength.{Maps}
@@ -19,13 +21,13 @@ pub record Unit (words : List ℕ) (motion refs : List ℤ) (k : ℕ) : Type 0 w
   pub refi : 2 * k + 2 ≤ length refs
   pub qp : qpOf (getD words k 0) ≤ 51
 
--- a picture of w by h units with its maps, and the strength entries
-pub record Frame (w h : ℕ) (y u v words : List ℕ) (motion refs : List ℤ) (entries : List ℕ) : Type 0 where
+-- a picture of w by h units and of a format, with its maps, and the strength entries
+pub record Frame (f : Format) (w h : ℕ) (y u v words : List ℕ) (motion refs : List ℤ) (entries : List ℕ) : Type 0 where
   pub wide : w ≤ 1024
   pub high : h ≤ 1024
   pub long-y : length y ≡ 4 * h * (4 * w)
-  pub long-u : length u ≡ 2 * h * (2 * w)
-  pub long-v : length v ≡ 2 * h * (2 * w)
+  pub long-u : length u ≡ inFormat f (2 * h * (2 * w))
+  pub long-v : length v ≡ inFormat f (2 * h * (2 * w))
   pub long-words : length words ≡ h * w
   pub long-motion : length motion ≡ 4 * (h * w)
   pub long-refs : length refs ≡ 2 * (h * w)

@@ -14,13 +14,13 @@ use Rattle.df.proofs.pass.deblock_pass.Statement.{statement}
 use Rattle.df.proofs.pass.deblock_pass.Tie as tie
 
 abbrev Inv-loop : tie.InvT-loop
-Inv-loop pass short w h top y₀ u₀ v₀ words splits motion refs entries size roots list₀ at₀ count₀ i₀ y u v list at count i =
+Inv-loop format pass short w h top y₀ u₀ v₀ words splits motion refs entries size roots list₀ at₀ count₀ i₀ y u v list at count i =
     (i ≤ roots) × (length y ≡ length y₀) × (length u ≡ length u₀) × (length v ≡ length v₀) × (length list ≡ 512) × (length at ≡ 256)
     × Roots (record { words = words; motion = motion; refs = refs }) entries (passOf pass) short top splits (w / 4) (h / 4) i
     (record { y = y₀; u = u₀; v = v₀ }) (record { y = y; u = u; v = v }) count
 
 abbrev μ-loop : tie.MeasureT-loop
-μ-loop pass short w h top y₀ u₀ v₀ words splits motion refs entries size roots list₀ at₀ count₀ i₀ y u v list at count i = roots - i
+μ-loop format pass short w h top y₀ u₀ v₀ words splits motion refs entries size roots list₀ at₀ count₀ i₀ y u v list at count i = roots - i
 
 size : (s : tie.Start Inv-loop μ-loop) → Sized (s .args .w) (s .args .h)
 size s = sized _ _ (s .pre .1 .sides)
@@ -54,7 +54,7 @@ places-requires c κs =
 
 -- the picture, at a turn
 current : (c : tie.At-loop Inv-loop μ-loop) → let a = c .before .before .before .before .before .before .before .args in
-    Framed (a .w / 4) (a .top + a .h / 4) (a .motion .now) (a .refs .now) (a .entries .now) (record { y = c .loop .y; u = c .loop .u; v = c .loop .v }) (a .words .now)
+    Framed (a .format) (a .w / 4) (a .top + a .h / 4) (a .motion .now) (a .refs .now) (a .entries .now) (record { y = c .loop .y; u = c .loop .u; v = c .loop .v }) (a .words .now)
 current c = let s = c .before .before .before .before .before .before .before in frame-filtered _ _ (passOf (s .args .pass)) _ _ (c .loop .inv .6 .planes) (s .pre .0)
 
 filter-luma-requires : tie.Need-filter-luma-requires Inv-loop μ-loop
@@ -72,8 +72,8 @@ filter-luma-requires c κs =
       s .pre .0 .long-entries,
     )
 
-filter-chroma-requires : tie.Need-filter-chroma-requires Inv-loop μ-loop
-filter-chroma-requires c κs =
+filter-colour-requires : tie.Need-filter-colour-requires Inv-loop μ-loop
+filter-colour-requires c κs =
     let s = c .before .before .before .before .before .before .before .before .before .before .before .before .before .before .before .before .before .before .before .before .before .before .before .before .before in
     let r = c .before .before .before .before .before .before .before .before .before .before .before .before .before .before .before .root-edges .ensures in
     let p = c .before .before .before .before .before .before .before .before .before .before .before .places in (
@@ -102,14 +102,14 @@ loop-again c =
     let s = c .before .before .before .before .before .before .before .before .before .before .before .before .before .before .before .before .before .before .before .before .before .before .before .before .before .before .before .before .before .before in
     let l = c .before .before .before .before .before .before .before .before .before .before .before .before .before .before .before .before .before .before .before .before .before .before .before .loop in
     let ky = c .before .before .before .before .before .before .before .before .before .before .before .filter-luma .kept in
-    let k = c .before .before .before .before .filter-chroma .kept in
+    let k = c .before .before .before .before .filter-colour .kept in
     let r = c .before .before .before .before .before .before .before .before .before .before .before .before .before .before .before .before .before .before .before .before .root-edges .ensures in
     let p = c .before .before .before .before .before .before .before .before .before .before .before .before .before .before .before .before .places in
-    let f = c .before .before .before .before .filter-chroma .ensures in (
+    let f = c .before .before .before .before .filter-colour .ensures in (
       omega (arith, c .before .before .before .before .before .before .before .before .before .before .before .before .before .before .before .before .before .before .before .before .before .before .loop-test .taken),
       ky .1 .1 .0 ∙ l .inv .1,
-      k .1 .1 .0 ∙ l .inv .2,
-      k .1 .1 .1 .0 ∙ l .inv .3,
+      k .1 .1 .1 .0 ∙ l .inv .2,
+      k .1 .1 .1 .1 .0 ∙ l .inv .3,
       r .long,
       p .kept .1 .1 .1 .1 .1 .1 .1 .0 ∙ l .inv .5,
       roots-more _ _ (passOf (s .args .pass)) _ _ _ _ _ (l .i) _ _ _ _ _ _ _ _ _ (r .few) (r .same) (p .ensures) (l .inv .6) (c .before .before .before .before .before .before .before .before .before .before .before .filter-luma .ensures) (f .0) (f .1),
@@ -125,4 +125,4 @@ pub deblock-pass-spec : {M : Type 1} → statement M
 deblock-pass-spec =
     tie.close
     (tie.spec Inv-loop μ-loop add-roots add-roots-2 add-roots-3 mul-roots loop-holds (λ c. search needs) root-edges-requires (λ c. search needs) (λ c. search needs) places-requires (λ c. search needs) (λ c. search needs) filter-luma-requires
-    (λ c. search needs) (λ c. search needs) filter-chroma-requires add-count add-i loop-less loop-again (λ c. c .before .loop .inv .1) (λ c. c .before .loop .inv .2) (λ c. c .before .loop .inv .3) returns)
+    (λ c. search needs) (λ c. search needs) filter-colour-requires add-count add-i loop-less loop-again (λ c. c .before .loop .inv .1) (λ c. c .before .loop .inv .2) (λ c. c .before .loop .inv .3) returns)

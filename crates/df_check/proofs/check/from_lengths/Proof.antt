@@ -1,10 +1,12 @@
 -- `df_check::check::from_lengths` meets its contract: a row of checks. `past1` to `past4` are what a check, passed, leaves of the row. Assumes nothing.
-use Prim.Native.Nat.{ℕ, _*_, _/_, _≤_}
+use Prim.Native.Nat.{ℕ, _-_, _*_, _/_, _≤_}
 use mathlib.Core.Path.{_≡_, refl, sym, ap, _∙_}
+use mathlib.Core.List.{List}
 use native.Mathlib.Nat.{mul-le-mul}
 use native.Mathlib.Omega.{arith}
 use borrow.Author.Needs.{needs}
 use borrow.Author.Tests.{not-false}
+use borrow.Rule.Slice.PartMut.{midOf}
 use denote.Ref.{now}
 use lib.ListN.{length, drop}
 use Rattle.laws.specs.Call.{unless}
@@ -17,7 +19,8 @@ use Rattle.def.specs.declared.Refusal.the-variants.{Setting, Qp, Sample}
 use Rattle.def.proofs.Answers.{on-refusal, on-done}
 use Rattle.def.proofs.Sizes.{Sized, sized}
 use Rattle.split.specs.Picture.{pictureWalk}
-use Rattle.df_check.specs.Checks.{Input, lengthsOf, settingsOk, qpsOk, planesOk, fromLengths}
+use Rattle.df_check.specs.Checks.{Input, colourLength, lengthsOf, settingsOk, qpsOk, planesOk, fromLengths}
+use Rattle.df_check.proofs.Formats.{in-order, at-most}
 use Rattle.df_check.proofs.Fronts.{whole-end}
 use Rattle.df_check.proofs.Passed.{LengthsTold, lengths-told}
 use Rattle.df_check.proofs.Walked.{walked}
@@ -52,7 +55,7 @@ asked s = fromLengths (s .args .lent) (s .args .own) (s .args .before) (of s)
 abbrev rest4 : tie.Start → Answer
 rest4 s =
     let i = of s in
-    let c = chromaLength (i .w) (s .args .before) in
+    let c = colourLength (s .args .settings .format) (i .w) (s .args .before) in
     unless (planesOk (drop (lumaLength (i .w) (s .args .before)) (i .y)) (drop c (i .u)) (drop c (i .v))) (Refused Sample) Done
 
 abbrev rest3 : tie.Start → Answer
@@ -72,8 +75,8 @@ past2 : (c : tie.Else2) (r : Answer) → r ≡ rest2 (c .before .before .before 
 past2 c r p = past1 (c .before .before) r (goes-on _ _ _ _ r (c .before .settings-ok .ensures) (c .if2 .left) p)
 
 -- the lengths
-told : (c : tie.Else1) → let s = c .before .before .before .before .before .before .before in LengthsTold (s .args .w) (s .args .lent) (s .args .own) (lengthsOf (of s))
-told c = lengths-told _ _ _ _ (sym (c .before .lengths-ok .ensures) ∙ not-false _ (c .if1 .left))
+told : (c : tie.Else1) → let s = c .before .before .before .before .before .before .before in LengthsTold (s .args .settings .format) (s .args .w) (s .args .lent) (s .args .own) (lengthsOf (of s))
+told c = lengths-told _ _ _ _ _ (sym (c .before .lengths-ok .ensures) ∙ not-false _ (c .if1 .left))
 
 -- what the walk found
 walk : (c : tie.After-check) → let s = c .before .before .before .before .before .before .before .before .before .before in c .check .result ≡ pictureWalk (of s .splits) (s .args .w / 4) (s .args .own / 4) .answer
@@ -86,10 +89,11 @@ past3 c r p = past2 (c .before .before .before) r (on-done Refused _ _ _ r (walk
 record Before (s : tie.Start) : Type 0 where
   units : unitCount (s .args .w) (s .args .before) ≤ unitCount (s .args .w) (s .args .lent)
   luma : lumaLength (s .args .w) (s .args .before) ≤ lumaLength (s .args .w) (s .args .lent)
-  chroma : chromaLength (s .args .w) (s .args .before) ≤ chromaLength (s .args .w) (s .args .lent)
+  chroma : colourLength (s .args .settings .format) (s .args .w) (s .args .before) ≤ colourLength (s .args .settings .format) (s .args .w) (s .args .lent)
   few-units : unitCount (s .args .w) (s .args .before) ≤ 1048576
   few-luma : lumaLength (s .args .w) (s .args .before) ≤ 16777216
   few-chroma : chromaLength (s .args .w) (s .args .before) ≤ 4194304
+  few-colour : colourLength (s .args .settings .format) (s .args .w) (s .args .before) ≤ 4194304
 
 before : (s : tie.Start) → Before s
 before s =
@@ -100,23 +104,27 @@ before s =
     let l : b ≤ n = s .pre .2 in
     let wide = z .wide in
     let high = z .high in
+    let small : chromaLength w b ≤ 4194304 = mul-le-mul {n₁ = w / 2} {m₁ = b / 2} {n₂ = 2048} {m₂ = 2048} (omega arith) (omega arith) in
     record {
       units = mul-le-mul {n₁ = w / 4} {m₁ = b / 4} {n₂ = w / 4} {m₂ = n / 4} (omega arith) (omega arith);
       luma = mul-le-mul {n₁ = w} {m₁ = b} {n₂ = w} {m₂ = n} (omega arith) l;
-      chroma = mul-le-mul {n₁ = w / 2} {m₁ = b / 2} {n₂ = w / 2} {m₂ = n / 2} (omega arith) (omega arith);
+      chroma = in-order (s .args .settings .format) _ _ (mul-le-mul {n₁ = w / 2} {m₁ = b / 2} {n₂ = w / 2} {m₂ = n / 2} (omega arith) (omega arith));
       few-units = mul-le-mul {n₁ = w / 4} {m₁ = b / 4} {n₂ = 1024} {m₂ = 1024} (omega arith) (omega arith);
       few-luma = mul-le-mul {n₁ = w} {m₁ = b} {n₂ = 4096} {m₂ = 4096} wide (omega arith);
-      few-chroma = mul-le-mul {n₁ = w / 2} {m₁ = b / 2} {n₂ = 2048} {m₂ = 2048} (omega arith) (omega arith);
+      few-chroma = small;
+      few-colour = at-most (s .args .settings .format) _ _ small;
     }
 
 qps : (c : tie.After-qps-ok) → let s = c .before .before .before .before .before .before .before .before .before .before .before .before .before .before in c .qps-ok .result ≡ qpsOk (drop (unitCount (s .args .w) (s .args .before)) (of s .words))
 qps c = let s = c .before .before .before .before .before .before .before .before .before .before .before .before .before .before in c .qps-ok .ensures ∙ ap qpsOk (whole-end (unitCount (s .args .w) (s .args .before)) (of s .words))
 
-planes : (c : tie.After-planes-ok) → let s = c .before .before .before .before .before .before .before .before .before .before .before .before .before .before .before .before .before .before .before in let n = chromaLength (s .args .w) (s .args .before) in c .planes-ok .result ≡ planesOk (drop (lumaLength (s .args .w) (s .args .before)) (of s .y)) (drop n (of s .u)) (drop n (of s .v))
+planes : (c : tie.After-planes-ok) → let s = c .before .before .before .before .before .before .before .before .before .before .before .before .before .before .before .before .before .before .before .before in let n = colourLength (s .args .settings .format) (s .args .w) (s .args .before) in c .planes-ok .result ≡ planesOk (drop (lumaLength (s .args .w) (s .args .before)) (of s .y)) (drop n (of s .u)) (drop n (of s .v))
 planes c =
-    let s = c .before .before .before .before .before .before .before .before .before .before .before .before .before .before .before .before .before .before .before in
-    let n = chromaLength (s .args .w) (s .args .before) in
-    c .planes-ok .ensures ∙ (λ i. planesOk (whole-end (lumaLength (s .args .w) (s .args .before)) (of s .y) i) (whole-end n (of s .u) i) (whole-end n (of s .v) i))
+    let s = c .before .before .before .before .before .before .before .before .before .before .before .before .before .before .before .before .before .before .before .before in
+    let n = colourLength (s .args .settings .format) (s .args .w) (s .args .before) in
+    let e = c .before .before .before .before .in-format in
+    let end : (l : List ℕ) → midOf (e .result) (length l - e .result) l ≡ drop n l = λ l. whole-end (e .result) l ∙ ap (λ (k : ℕ). drop k l) (e .ensures) in
+    c .planes-ok .ensures ∙ (λ i. planesOk (whole-end (lumaLength (s .args .w) (s .args .before)) (of s .y) i) (end (of s .u) i) (end (of s .v) i))
 
 past4 : (c : tie.Else3) (r : Answer) → r ≡ rest4 (c .before .before .before .before .before .before .before .before .before .before .before .before .before .before .before) → r ≡ asked (c .before .before .before .before .before .before .before .before .before .before .before .before .before .before .before)
 past4 c r p = past3 (c .before .before .before) r (goes-on _ _ _ _ r (qps (c .before)) (c .if3 .left) p)
@@ -152,41 +160,41 @@ returns-4 c = past3 (c .before .before .before) _ (stops _ _ _ _ (qps (c .before
 mul-luma : tie.Need-mul-luma
 mul-luma c = omega (arith, before (c .before .before .before .before .before .before .before .before .before .before .before .before .before .before .before) .few-luma)
 
-mul-chroma : tie.Need-mul-chroma
-mul-chroma c = omega (arith, before (c .before .before .before .before .before .before .before .before .before .before .before .before .before .before .before) .few-chroma)
+mul-in-format : tie.Need-mul-in-format
+mul-in-format c = omega (arith, before (c .before .before .before .before .before .before .before .before .before .before .before .before .before .before .before) .few-chroma)
 
 mul-planes-ok : tie.Need-mul-planes-ok
-mul-planes-ok c = omega (arith, before (c .before .before .before .before .before .before .before .before .before .before .before .before .before .before .before) .few-luma)
+mul-planes-ok c = omega (arith, before (c .before .before .before .before .before .before .before .before .before .before .before .before .before .before .before .before) .few-luma)
 
 sub-planes-ok : tie.Need-sub-planes-ok
-sub-planes-ok c = omega (arith, before (c .before .before .before .before .before .before .before .before .before .before .before .before .before .before .before) .luma, told (c .before .before .before .before .before .before .before .before) .y)
+sub-planes-ok c = omega (arith, before (c .before .before .before .before .before .before .before .before .before .before .before .before .before .before .before .before) .luma, told (c .before .before .before .before .before .before .before .before .before) .y)
 
 part-planes-ok-start : tie.Need-part-planes-ok-start
-part-planes-ok-start c = omega (arith, before (c .before .before .before .before .before .before .before .before .before .before .before .before .before .before .before) .luma, told (c .before .before .before .before .before .before .before .before) .y)
+part-planes-ok-start c = omega (arith, before (c .before .before .before .before .before .before .before .before .before .before .before .before .before .before .before .before) .luma, told (c .before .before .before .before .before .before .before .before .before) .y)
 
 mul-planes-ok-2 : tie.Need-mul-planes-ok-2
-mul-planes-ok-2 c = omega (arith, before (c .before .before .before .before .before .before .before .before .before .before .before .before .before .before .before .before) .few-chroma)
+mul-planes-ok-2 c = omega (arith, c .before .in-format .ensures, before (c .before .before .before .before .before .before .before .before .before .before .before .before .before .before .before .before .before) .few-colour)
 
 sub-planes-ok-2 : tie.Need-sub-planes-ok-2
-sub-planes-ok-2 c = omega (arith, before (c .before .before .before .before .before .before .before .before .before .before .before .before .before .before .before .before) .chroma, told (c .before .before .before .before .before .before .before .before .before) .u)
+sub-planes-ok-2 c = omega (arith, c .before .in-format .ensures, before (c .before .before .before .before .before .before .before .before .before .before .before .before .before .before .before .before .before) .chroma, told (c .before .before .before .before .before .before .before .before .before .before) .u)
 
 part-planes-ok-start-2 : tie.Need-part-planes-ok-start-2
-part-planes-ok-start-2 c = omega (arith, before (c .before .before .before .before .before .before .before .before .before .before .before .before .before .before .before .before) .chroma, told (c .before .before .before .before .before .before .before .before .before) .u)
+part-planes-ok-start-2 c = omega (arith, c .before .in-format .ensures, before (c .before .before .before .before .before .before .before .before .before .before .before .before .before .before .before .before .before) .chroma, told (c .before .before .before .before .before .before .before .before .before .before) .u)
 
 mul-planes-ok-3 : tie.Need-mul-planes-ok-3
-mul-planes-ok-3 c = omega (arith, before (c .before .before .before .before .before .before .before .before .before .before .before .before .before .before .before .before .before) .few-chroma)
+mul-planes-ok-3 c = omega (arith, c .before .before .in-format .ensures, before (c .before .before .before .before .before .before .before .before .before .before .before .before .before .before .before .before .before .before) .few-colour)
 
 sub-planes-ok-3 : tie.Need-sub-planes-ok-3
-sub-planes-ok-3 c = omega (arith, before (c .before .before .before .before .before .before .before .before .before .before .before .before .before .before .before .before .before) .chroma, told (c .before .before .before .before .before .before .before .before .before .before) .v)
+sub-planes-ok-3 c = omega (arith, c .before .before .in-format .ensures, before (c .before .before .before .before .before .before .before .before .before .before .before .before .before .before .before .before .before .before) .chroma, told (c .before .before .before .before .before .before .before .before .before .before .before) .v)
 
 part-planes-ok-start-3 : tie.Need-part-planes-ok-start-3
-part-planes-ok-start-3 c = omega (arith, before (c .before .before .before .before .before .before .before .before .before .before .before .before .before .before .before .before .before) .chroma, told (c .before .before .before .before .before .before .before .before .before .before) .v)
+part-planes-ok-start-3 c = omega (arith, c .before .before .in-format .ensures, before (c .before .before .before .before .before .before .before .before .before .before .before .before .before .before .before .before .before .before) .chroma, told (c .before .before .before .before .before .before .before .before .before .before .before) .v)
 
 returns-5 : tie.Need-returns-5
-returns-5 c = past4 (c .before .before .before .before .before) _ (stops _ _ _ _ (planes (c .before)) (c .if4 .taken))
+returns-5 c = past4 (c .before .before .before .before .before .before) _ (stops _ _ _ _ (planes (c .before)) (c .if4 .taken))
 
 returns-6 : tie.Need-returns-6
-returns-6 c = past4 (c .before .before .before .before .before) _ (goes-on _ _ _ _ _ (planes (c .before)) (c .if4 .left) refl)
+returns-6 c = past4 (c .before .before .before .before .before .before) _ (goes-on _ _ _ _ _ (planes (c .before)) (c .if4 .left) refl)
 
 pub from-lengths-spec : {M : Type 1} → statement M
 from-lengths-spec =
@@ -208,7 +216,8 @@ from-lengths-spec =
     (λ c κs. search needs)
     returns-4
     mul-luma
-    mul-chroma
+    mul-in-format
+    (λ c κs. search needs)
     mul-planes-ok
     sub-planes-ok
     part-planes-ok-start

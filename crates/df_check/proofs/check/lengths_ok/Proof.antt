@@ -1,4 +1,4 @@
--- `df_check::check::lengths_ok` meets its contract: the products fit, and the code is the list of tests. Assumes nothing.
+-- `df_check::check::lengths_ok` meets its contract: the products fit, and the code is the list of tests, at the format's lengths. Assumes nothing.
 use Prim.Native.Nat.{_/_}
 use mathlib.Core.Path.{refl}
 use native.Mathlib.Nat.{mul-le-mul}
@@ -9,34 +9,34 @@ use Rattle.df_check.specs.Checks.{lengthsOk}
 use Rattle.df_check.proofs.check.lengths_ok.Statement.{statement}
 use Rattle.df_check.proofs.check.lengths_ok.Tie as tie
 
-mul-chroma : tie.Need-mul-chroma
-mul-chroma c = omega (arith, c .pre .0 .wide, c .pre .0 .high, mul-le-mul {n₁ = c .args .w / 2} {m₁ = c .args .lent / 2} {n₂ = 2048} {m₂ = 2048} (omega arith) (omega arith))
+mul-in-format : tie.Need-mul-in-format
+mul-in-format c = omega (arith, c .pre .0 .wide, c .pre .0 .high, mul-le-mul {n₁ = c .args .w / 2} {m₁ = c .args .lent / 2} {n₂ = 2048} {m₂ = 2048} (omega arith) (omega arith))
 
 mul-units : tie.Need-mul-units
-mul-units c = omega (arith, few-units (c .pre .0))
+mul-units c = omega (arith, few-units (c .before .before .pre .0))
 
 mul-roots : tie.Need-mul-roots
-mul-roots c = omega (arith, few-roots (c .args .w) (c .args .own) (c .pre .1 .wide) (c .pre .1 .high))
+mul-roots c = let s = c .before .before in omega (arith, few-roots (s .args .w) (s .args .own) (s .pre .1 .wide) (s .pre .1 .high))
 
 mul-result : tie.Need-mul-result
-mul-result c = omega (arith, mul-le-mul (c .pre .0 .wide) (c .pre .0 .high))
+mul-result c = let s = c .before .before in omega (arith, mul-le-mul (s .pre .0 .wide) (s .pre .0 .high))
 
 mul-result-2 : tie.Need-mul-result-2
 mul-result-2 c =
-    let s = c .before .before .before .before in
+    let s = c .before .before .before .before .before .before in
     omega (arith, few-roots (s .args .w) (s .args .own) (s .pre .1 .wide) (s .pre .1 .high))
 
 mul-result-3 : tie.Need-mul-result-3
-mul-result-3 c = omega (arith, few-units (c .before .before .before .before .before .pre .0))
+mul-result-3 c = omega (arith, few-units (c .before .before .before .before .before .before .before .pre .0))
 
 mul-result-4 : tie.Need-mul-result-4
-mul-result-4 c = omega (arith, few-units (c .before .before .before .before .before .before .pre .0))
+mul-result-4 c = omega (arith, few-units (c .before .before .before .before .before .before .before .before .pre .0))
 
 returns : tie.Need-returns
 unfolding lengthsOk
-returns c = refl
+returns c = rw (c .before .before .before .before .before .before .before .before .before .before .before .in-format .ensures, c .before .before .before .before .before .before .before .before .before .before .in-format2 .ensures) refl
 
 pub lengths-ok-spec : {M : Type 1} → statement M
 lengths-ok-spec =
     tie.close
-    (tie.spec mul-chroma mul-units (λ c. search needs) (λ c. search needs) mul-roots mul-result mul-result-2 mul-result-3 mul-result-4 returns)
+    (tie.spec mul-in-format (λ c κs. search needs) (λ c κs. search needs) mul-units (λ c. search needs) (λ c. search needs) mul-roots mul-result mul-result-2 mul-result-3 mul-result-4 returns)

@@ -13,10 +13,10 @@ unfolding settingsOk limitOk
 returns c =
     let t = c .before .before .before in
     let s = t .before .before .before .args .s in
-    let u : c .before .before .offset-ok .result ≡ offsetOk (s .«u_offset») =
-    c .before .before .offset-ok .ensures ∙ ap offsetOk (back w8 (s .«u_offset») (record { sfits = t .struct-told .given .1 .0 .1 })) in
-    let v : c .offset-ok2 .result ≡ offsetOk (s .«v_offset») =
-    c .offset-ok2 .ensures ∙ ap offsetOk (back w8 (s .«v_offset») (record { sfits = t .struct-told .given .1 .1 .0 .1 })) in
+    let u : c .before .before .offset-ok .result ≡ offsetOk (s .format) (s .«u_offset») =
+    c .before .before .offset-ok .ensures ∙ ap (offsetOk (s .format)) (back w8 (s .«u_offset») (record { sfits = t .struct-told .given .1 .0 .1 })) in
+    let v : c .offset-ok2 .result ≡ offsetOk (s .format) (s .«v_offset») =
+    c .offset-ok2 .ensures ∙ ap (offsetOk (s .format)) (back w8 (s .«v_offset») (record { sfits = t .struct-told .given .1 .1 .0 .1 })) in
     rw (u, v)
 
 pub settings-ok-spec : {M : Type 1} → statement M

@@ -6,6 +6,7 @@ use native.Mathlib.Omega.{arith}
 use borrow.Author.Needs.{needs}
 use denote.Ref.{now}
 use lib.ListN.{length}
+use Rattle.def.specs.Formats.{inFormat}
 use Rattle.def.specs.declared.Answer.the-variants.{Done}
 use Rattle.def.proofs.Sizes.{sized}
 use Rattle.strength.proofs.Strengths.{entries-long}
@@ -101,7 +102,7 @@ returns-2 c =
     let p = some (c .before .before .before .before .before .before .before .before .before .before .before .before .before .before .before .before .before .before) in
     let s = rowsAbove (c .before .before .before .before .before .before .before .before .before .before .before .before .before .before .before .before .before .before .before .before .before .before .before .before .before .before .before .before .before .before .before .args .band) - 1 in
     let b = rw (skip-is d, top-is d, own-units d, c .before .before .before .before .before .before .before .before .before .before .before .before .before .before .before .before .before .entries-by .ensures) at (c .before .before .before .before .before .before .before .before .band-passes .ensures) in
-    band-done i e p _ _ (luma-rows s (wide i)) (chroma-rows s (wide i)) _ _ _ _ _ _ (b .0) (b .1) (b .2) (b .3) (b .4)
+    band-done i e p _ _ (luma-rows s (wide i)) (ap (inFormat (i .settings .format)) (chroma-rows s (wide i))) _ _ _ _ _ _ (b .0) (b .1) (b .2) (b .3) (b .4)
 
 pub deblock-band-spec : {M : Type 1} → statement M
 deblock-band-spec =
