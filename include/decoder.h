@@ -32,7 +32,7 @@ enum {
     LOMSAKEUN_DONE = 0,
     LOMSAKEUN_SIZE = 1,     /* w or h is not a multiple of 4 from 4 to 4096 */
     LOMSAKEUN_LENGTH = 2,   /* a lent slice has the wrong length */
-    LOMSAKEUN_SETTING = 3,  /* the transform limit is not 5 or 6, an offset lies outside -12..12, a stream's number outside 1..65535, or a grey picture */
+    LOMSAKEUN_SETTING = 3,  /* the transform limit is not 5 or 6, an offset lies outside -12..12, or is not 0 in a grey picture, a stream's number outside 1..65535, or a grey picture */
     LOMSAKEUN_SPLIT = 4,    /* a split byte reached by the walk is not 0 or 1 */
     LOMSAKEUN_LEAF = 5,     /* a leaf reaches past the picture */
     LOMSAKEUN_QP = 6,       /* a luma QP above 51 */
@@ -164,14 +164,21 @@ uint8_t lomsakeun_reconstruct(
     uint32_t *map_scu, size_t map_scu_len, uint8_t *modes, size_t modes_len);
 
 /* Deblocks a picture (df): its planes are filtered and done is set in every word; how many edges each pass visited.
- * U's QP is mapped by table0, V's by table1. */
+ * U's QP is mapped by table0, V's by table1. colour: the picture has chroma. What is lent of it, in elements, here and for a band:
+ *
+ *                        colour            grey
+ *     u, v               (w/2)*(h/2) each  0
+ *     table0, table1     70 each           0
+ *     u_offset, v_offset -12..12           0
+ *
+ * All else is lent alike, and the luma plane, the words and the counts of a grey picture are those of the same in colour. */
 uint8_t lomsakeun_deblock(
     size_t w, size_t h, uint16_t *y, size_t y_len, uint16_t *u, size_t u_len, uint16_t *v, size_t v_len,
     uint32_t *words, size_t words_len, const uint8_t *splits, size_t splits_len,
     const int16_t *motion, size_t motion_len, const int8_t *refs, size_t refs_len,
     const int8_t *table0, size_t table0_len, const int8_t *table1, size_t table1_len,
     const uint8_t *strengths, size_t strengths_len,
-    uint8_t limit, int8_t u_offset, int8_t v_offset, size_t *vertical_count, size_t *horizontal_count);
+    uint8_t limit, int8_t u_offset, int8_t v_offset, bool colour, size_t *vertical_count, size_t *horizontal_count);
 
 /* Deblocks one band of a picture (df). A band is 64 luma rows, the last one maybe fewer; they are numbered from 0, from the top. w and h are
  * the whole picture's sides, and band is the number of the band.
@@ -196,7 +203,7 @@ uint8_t lomsakeun_deblock_band(
     const int16_t *motion, size_t motion_len, const int8_t *refs, size_t refs_len,
     const int8_t *table0, size_t table0_len, const int8_t *table1, size_t table1_len,
     const uint8_t *strengths, size_t strengths_len,
-    uint8_t limit, int8_t u_offset, int8_t v_offset, size_t *vertical_count, size_t *horizontal_count);
+    uint8_t limit, int8_t u_offset, int8_t v_offset, bool colour, size_t *vertical_count, size_t *horizontal_count);
 
 /* The text that `edgelist` prints for a sheet (sheet), and its length. */
 uint8_t lomsakeun_listing(const uint8_t *input, size_t input_len, uint8_t *out, size_t out_len, size_t *length);

@@ -17,7 +17,7 @@ use crate::sys;
 /// let mut counts = Vec::new();
 ///
 /// let (tables, strengths) = ([40; 70], [3; 208]);
-/// let settings = Settings { limit: 6, u_offset: 0, v_offset: 0 };
+/// let settings = Settings { limit: 6, u_offset: 0, v_offset: 0, colour: true };
 /// let mut bands = Bands::first();
 /// let (mut y, mut u, mut v, mut words) = (vec![], vec![], vec![], vec![]);
 /// for band in 0..3 {
@@ -123,6 +123,7 @@ impl Bands {
                 settings.limit,
                 settings.u_offset,
                 settings.v_offset,
+                settings.colour,
                 &mut vertical,
                 &mut horizontal,
             )

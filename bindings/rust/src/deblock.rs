@@ -12,7 +12,7 @@ pub struct Maps<'a> {
     pub motion: &'a [i16],
     /// Two a unit.
     pub refs: &'a [i8],
-    /// The chroma QP tables, U's and V's, 70 entries each.
+    /// The chroma QP tables, U's and V's, 70 entries each; none in a grey picture.
     pub tables: [&'a [i8]; 2],
     /// The strengths: four rows of 52.
     pub strengths: &'a [u8],
@@ -23,10 +23,12 @@ pub struct Maps<'a> {
 pub struct Settings {
     /// The transform limit, 5 or 6.
     pub limit: u8,
-    /// U's offset, -12 to 12.
+    /// U's offset, -12 to 12; in a grey picture 0.
     pub u_offset: i8,
-    /// V's offset, -12 to 12.
+    /// V's offset, -12 to 12; in a grey picture 0.
     pub v_offset: i8,
+    /// Whether the picture has colour. A grey one has no U and V: their planes and their tables have length 0, and nothing is done for them.
+    pub colour: bool,
 }
 
 /// Deblocks a picture, sets done in every word, and answers how many edges each pass visited. Refusals: [`Size`](Refusal::Size), [`Length`](Refusal::Length),
@@ -64,6 +66,7 @@ pub fn deblock(picture: Picture, maps: Maps, settings: Settings) -> Result<(usiz
             settings.limit,
             settings.u_offset,
             settings.v_offset,
+            settings.colour,
             &mut vertical,
             &mut horizontal,
         )

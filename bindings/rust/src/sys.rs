@@ -199,6 +199,7 @@ extern "C" {
         limit: u8,
         u_offset: i8,
         v_offset: i8,
+        colour: bool,
         vertical_count: *mut usize,
         horizontal_count: *mut usize,
     ) -> u8;
@@ -230,6 +231,7 @@ extern "C" {
         limit: u8,
         u_offset: i8,
         v_offset: i8,
+        colour: bool,
         vertical_count: *mut usize,
         horizontal_count: *mut usize,
     ) -> u8;

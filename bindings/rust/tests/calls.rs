@@ -239,7 +239,7 @@ fn deblocking() {
         let (tables, strengths) = ([30; 70], [entry; 208]);
         let maps =
             Maps { splits: &splits, motion: &[0; 16], refs: &[0; 8], tables: [&tables; 2], strengths: &strengths };
-        let settings = Settings { limit: 6, u_offset: 0, v_offset: 0 };
+        let settings = Settings { limit: 6, u_offset: 0, v_offset: 0, colour: true };
         assert_eq!(deblock(picture, maps, settings), Ok((2, 2)));
         assert_eq!((u, v), ([100; 16], [100; 16]));
         assert_eq!(words, [30 << 16 | INTRA | DONE; 4]);
@@ -247,6 +247,27 @@ fn deblocking() {
     };
     assert_eq!(run(0), [100, 100, 100, 100, 120, 120, 120, 120].repeat(8));
     assert_eq!(run(3), [100, 100, 103, 107, 113, 117, 120, 120].repeat(8));
+}
+
+/// The same picture without its colour: no U, no V and no tables; luma, words and counts as in colour, whole and as band 0.
+#[test]
+fn deblocking_in_grey() {
+    let (splits, strengths) = (splits(), [3; 208]);
+    let settings = Settings { limit: 6, u_offset: 0, v_offset: 0, colour: false };
+    for by_bands in [false, true] {
+        let mut y: Vec<u16> = [100, 100, 100, 100, 120, 120, 120, 120].repeat(8);
+        let mut words = [30 << 16 | INTRA; 4];
+        let picture = Picture { w: 8, h: 8, y: &mut y, u: &mut [], v: &mut [], words: &mut words };
+        let maps = Maps { splits: &splits, motion: &[0; 16], refs: &[0; 8], tables: [&[]; 2], strengths: &strengths };
+        let counts = if by_bands {
+            Bands::first().deblock(0, picture, maps, settings)
+        } else {
+            deblock(picture, maps, settings)
+        };
+        assert_eq!(counts, Ok((2, 2)));
+        assert_eq!(y, [100, 100, 103, 107, 113, 117, 120, 120].repeat(8));
+        assert_eq!(words, [30 << 16 | INTRA | DONE; 4]);
+    }
 }
 
 /// The split bytes of a picture of 68 by 136, six roots: blocks of 32 in the first column, of 4 and of 8 where the picture ends.
@@ -286,7 +307,7 @@ fn deblocking_by_bands() {
     let motion: Vec<i16> = (0..4 * units.len()).map(|i| (i % 7) as i16).collect();
     let refs: Vec<i8> = (0..2 * units.len()).map(|i| (i % 3) as i8 - 1).collect();
     let (splits, tables, strengths) = (tall_splits(), [[35; 70], [45; 70]], [5; 208]);
-    let settings = Settings { limit: 5, u_offset: 1, v_offset: -1 };
+    let settings = Settings { limit: 5, u_offset: 1, v_offset: -1, colour: true };
     let maps = |splits, motion, refs| Maps {
         splits,
         motion,

@@ -2,9 +2,9 @@
 use lomsakeun::Points as Given;
 use lomsakeun::Refusal::{self, *};
 use lomsakeun::{
-    check, deblock, derived_chroma_qp_mapping_tables, get_avail_inter, get_avail_intra, get_map, get_mpm, get_nbr, ipred_b,
-    leaves, list_edges, listing, put_map, recon, recon_plane, reconstruct, visiting_rank, Bands, Blocks, Component, Maps,
-    Picture, Settings, LISTING_LENGTH,
+    check, deblock, derived_chroma_qp_mapping_tables, get_avail_inter, get_avail_intra, get_map, get_mpm, get_nbr,
+    ipred_b, leaves, list_edges, listing, put_map, recon, recon_plane, reconstruct, visiting_rank, Bands, Blocks,
+    Component, Maps, Picture, Settings, LISTING_LENGTH,
 };
 use std::fmt::Debug;
 
@@ -338,8 +338,14 @@ impl Deblock {
             refs: vec![0; 8],
             tables: [vec![51; 70], vec![51; 70]],
             strengths: vec![3; 208],
-            settings: Settings { limit: 6, u_offset: 12, v_offset: -12 },
+            settings: Settings { limit: 6, u_offset: 12, v_offset: -12, colour: true },
         }
+    }
+
+    /// Takes the colour away, but not the offsets.
+    fn fade(&mut self) {
+        let [y, ..] = self.planes.clone();
+        (self.planes, self.tables, self.settings.colour) = ([y, vec![], vec![]], [vec![], vec![]], false);
     }
 
     /// Requires that it is refused with this change, and that nothing was written.
@@ -391,6 +397,22 @@ fn deblocking() {
     Deblock::refused(Split, |case| case.splits[136] = 2);
     Deblock::refused(Leaf, |case| case.splits[136] = 0);
     Deblock::refused(Qp, |case| case.words[3] = 52 << 16);
+    // Without its colour: offsets are left; U, V or a table is lent; and it is said to have colour.
+    Deblock::refused(Setting, Deblock::fade);
+    for i in 0..2 {
+        Deblock::refused(Length, |case| {
+            case.fade();
+            case.planes[1 + i] = vec![9; 16];
+        });
+        Deblock::refused(Length, |case| {
+            case.fade();
+            case.tables[i] = vec![51; 70];
+        });
+    }
+    Deblock::refused(Length, |case| {
+        case.fade();
+        case.settings.colour = true;
+    });
 }
 
 /// A band of a picture of 8 by 72, and what is lent for it: band 0 has 64 rows, band 1 has 8 and the 64 above.

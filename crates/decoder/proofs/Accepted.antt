@@ -14,6 +14,7 @@ use Rattle.def.specs.Blocks.{blockSideOk, componentSideOk, blockOk, unitOk}
 use Rattle.def.specs.Picture.{sizeOk}
 use Rattle.def.specs.Word.{flagAt}
 use Rattle.def.specs.declared.Component.the-variants.{Luma}
+use Rattle.def.specs.declared.Format.the-variants.{Colour}
 use Rattle.samples.specs.Samples.{samplesOk}
 use Rattle.chroma_qp_check.specs.Check as points-check
 use Rattle.chroma_qp_check.specs.Pivots.{Points, inOf, outOf}
@@ -31,6 +32,7 @@ use Rattle.df_check.specs.Checks as checks
 use Rattle.df_check.specs.Rows.{bandRows}
 use Rattle.df.specs.Band as band
 use Rattle.df.specs.Deblock as deblock
+use Rattle.df.specs.Luma.{withoutColour}
 use Rattle.split.specs.CheckCall as check
 use Rattle.split.specs.LeavesCall as leaves
 use Rattle.split.specs.ListCall as list
@@ -66,7 +68,7 @@ picture =
       table0 = table;
       table1 = table;
       strengths = replicate 208 0;
-      settings = record { limit = 6; «u_offset» = pos 0; «v_offset» = pos 0 };
+      settings = record { limit = 6; «u_offset» = pos 0; «v_offset» = pos 0; format = Colour };
     }
 
 abbrev part : band.Input
@@ -111,8 +113,9 @@ given =
     ∷ deblock.outcome picture .reading .number
     ∷ answerNumber (band.check part)
     ∷ band.outcome part .reading .number
+    ∷ deblock.outcome (withoutColour picture) .reading .number
     ∷ []
 
-pub accepted : given ≡ replicate 17 0
+pub accepted : given ≡ replicate 18 0
 unfolding derived.outcome points-check.check points-check.lengthsOk points-check.pointsOk points-check.pivotsOk points-check.pivotOk inOf outOf avail.intraOutcome avail.interOutcome avail.checkOf ranks.numberOutcome ranks.check ranks.lengthsOk ranks.modesOk gather.outcome gather.checkOf gather.lengthsOk gather.samplesOk gather.runAt gather.nearAt predict.outcome predict.lengthsOk recon.outcome recon.blockCheck recon.lengthsOk plane.outcome plane.planeCheck plane.blockLengthsOk leaves.outcome leaves.checkOf leaves.lengthsOk leaves.rootOk check.outcome check.check rank.outcome rank.check list.outcome list.checkOf list.lengthsOk list.limitOk root-list.outcome root-list.checkOf checks.checkOf checks.fromLengths checks.lengthsOk checks.settingsOk checks.offsetOk checks.qpsOk checks.planesOk deblock.outcome band-checks.checkOf band-checks.bandOk bandRows band.outcome sizeOk blockOk blockSideOk componentSideOk unitOk samplesOk flagAt fieldOf allBelow walk byByte inTurn onward leafWalk
 accepted = refl

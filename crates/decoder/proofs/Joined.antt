@@ -1,4 +1,4 @@
--- What the driver leaves of a picture in colour is accepted by deblocking: none of 1, 4 and 5, no 2 for the planes, the words and the split bytes, no 6 for a luma QP, and no 7.
+-- What the driver leaves of a picture is accepted by deblocking: none of 1, 4 and 5, no 2 for the planes, the words and the split bytes, no 6 for a luma QP, and no 7.
 -- Assumes nothing.
 use Prim.Native.Nat.{ℕ, _*_, _/_}
 use native.Mathlib.Nat.{mul-zero}
@@ -16,6 +16,7 @@ use Rattle.driver_rules.specs.Call as driver
 use Rattle.driver_rules.proofs.Checks.{all-passed}
 use Rattle.driver_rules.proofs.Finished.{last, finished}
 use Rattle.df_check.specs.Checks as deblocking
+use Rattle.df_check.proofs.Formats.{none-before}
 use Rattle.decoder.specs.Joined.{Follows, Lent}
 
 module _ (i : driver.Input) (fine : driver.check i ≡ Done) where
@@ -48,14 +49,11 @@ module _ (i : driver.Input) (fine : driver.check i ≡ Done) where
         let b : i .given .h / 1 ≡ j .h = omega (arith, f .h) in
         ap length is-y ∙ last i fine .y-long ∙ (λ k. a k * b k)
 
-    in-colour : {n : ℕ} → n ≡ inFormat (i .given .format) (chromaLength (i .given .w) (i .given .h)) → n ≡ chromaLength (i .given .w) (i .given .h)
-    in-colour e = e ∙ (λ k. inFormat (f .colour k) (chromaLength (i .given .w) (i .given .h)))
+    long-u : length (j .u) ≡ deblocking.colourLength (j .settings .format) (j .w) (j .h)
+    long-u = ap length is-u ∙ last i fine .u-long ∙ (λ k. inFormat (sym (f .format) k) (chromaLength (sym (f .w) k) (sym (f .h) k)))
 
-    long-u : length (j .u) ≡ chromaLength (j .w) (j .h)
-    long-u = ap length is-u ∙ in-colour (last i fine .u-long) ∙ (λ k. chromaLength (sym (f .w) k) (sym (f .h) k))
-
-    long-v : length (j .v) ≡ chromaLength (j .w) (j .h)
-    long-v = ap length is-v ∙ in-colour (last i fine .v-long) ∙ (λ k. chromaLength (sym (f .w) k) (sym (f .h) k))
+    long-v : length (j .v) ≡ deblocking.colourLength (j .settings .format) (j .w) (j .h)
+    long-v = ap length is-v ∙ last i fine .v-long ∙ (λ k. inFormat (sym (f .format) k) (chromaLength (sym (f .w) k) (sym (f .h) k)))
 
     long-words : length (j .words) ≡ unitCount (j .w) (j .h)
     long-words = ap length is-words ∙ last i fine .words-long ∙ (λ k. unitCount (sym (f .w) k) (sym (f .h) k))
@@ -63,7 +61,7 @@ module _ (i : driver.Input) (fine : driver.check i ≡ Done) where
     long-splits : length (j .splits) ≡ 1024 * rootCount (j .w) (j .h)
     long-splits = ap length (f .splits) ∙ all-passed i fine .accepted .long ∙ (λ k. 1024 * rootCount (sym (f .w) k) (sym (f .h) k))
 
-    lengths : deblocking.lengthsOk (j .w) (j .h) (j .h) (deblocking.lengthsOf j) ≡ true
+    lengths : deblocking.lengthsOk (j .settings .format) (j .w) (j .h) (j .h) (deblocking.lengthsOf j) ≡ true
     unfolding deblocking.lengthsOk
     lengths =
         rw (
@@ -91,4 +89,4 @@ module _ (i : driver.Input) (fine : driver.check i ≡ Done) where
 
     pub joined : deblocking.checkOf j ≡ Done
     unfolding deblocking.checkOf deblocking.fromLengths
-    joined = rw (mul-zero (j .w), mul-zero (j .w / 2), mul-zero (j .w / 4), sides, lengths, l .settings, walked, qps, samples)
+    joined = rw (mul-zero (j .w), none-before (j .settings .format) (j .w), mul-zero (j .w / 4), sides, lengths, l .settings, walked, qps, samples)

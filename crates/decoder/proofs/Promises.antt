@@ -25,6 +25,8 @@ use Rattle.def.specs.Components.{scaleOf, planeLength}
 use Rattle.def.specs.Picture.{sizeOk, unitCount, rootCount}
 use Rattle.def.specs.Refusals.{numberOf}
 use Rattle.def.specs.Word.{flagAt}
+use Rattle.def.specs.declared.Format.{Format}
+use Rattle.def.specs.declared.Format.the-variants.{Grey, Colour}
 use Rattle.def.specs.declared.Answer.{Answer}
 use Rattle.def.specs.declared.Refusal.{Refusal}
 use Rattle.def.specs.declared.Refusal.the-variants.{Size, Length, Setting, Split, Leaf, Qp, Sample, Block, Mode, Points as BadPoints, Pivot, Sheet, Record, Band, Bits, Old}
@@ -679,7 +681,7 @@ filtering w splits limit word sample =
       table0 = chroma-table;
       table1 = chroma-table;
       strengths = replicate 208 0;
-      settings = record { limit = limit; «u_offset» = pos 0; «v_offset» = pos 0 };
+      settings = record { limit = limit; «u_offset» = pos 0; «v_offset» = pos 0; format = Colour };
     }
 
 -- an input for each rung. 3407872 is a word of QP 52
@@ -701,7 +703,7 @@ by-deblocking = Size ∷ Length ∷ Setting ∷ Split ∷ Leaf ∷ Qp ∷ Sample
 rest-stops : (lent own before : ℕ) (i : checks.Input) → Stops (Length ∷ Setting ∷ Split ∷ Leaf ∷ Qp ∷ Sample ∷ []) (checks.fromLengths lent own before i)
 unfolding checks.fromLengths
 rest-stops lent own before i =
-    rung (checks.lengthsOk (i .w) lent own (checks.lengthsOf i)) Length _
+    rung (checks.lengthsOk (i .settings .format) (i .w) lent own (checks.lengthsOf i)) Length _
     (rung (checks.settingsOk (i .settings)) Setting _
     (walk-rung (Qp ∷ Sample ∷ []) _ _ (picture-stops (i .splits) (i .w / 4) (own / 4))
     (rung (checks.qpsOk _) Qp _
@@ -723,6 +725,33 @@ deblock-refusals =
 pub checked-refusals : Refuses checks.checkOf answerNumber by-deblocking
 unfolding checks.checkOf checks.fromLengths checks.lengthsOk checks.settingsOk checks.offsetOk checks.qpsOk checks.planesOk list.limitOk sizeOk walk byByte inTurn onward leafWalk samplesOk allBelow fieldOf
 checked-refusals = record { only = λ i. checks-stop i .by; shown = map deblock.checked filterings; given = refl }
+
+-- by the format: such a picture of a format, with n samples in U and in V, and U's offset
+abbrev formatted : Format → ℕ → List ℤ → ℤ → deblock.Input
+formatted f n table offset =
+    let i = filtering 4 (root 1) 5 0 0 in
+    record {
+      w = i .w;
+      h = i .h;
+      y = i .y;
+      u = replicate n 0;
+      v = replicate n 0;
+      words = i .words;
+      splits = i .splits;
+      motion = i .motion;
+      refs = i .refs;
+      table0 = table;
+      table1 = table;
+      strengths = i .strengths;
+      settings = record { limit = 5; «u_offset» = offset; «v_offset» = pos 0; format = f };
+    }
+
+-- chroma planes lent to a grey picture, a table lent to one, one in colour without them, an offset of 1 in grey and in colour, and a grey one that is accepted
+pub deblock-format-numbers : map (λ i. deblock.outcome i .reading .number)
+    (formatted Grey 4 [] (pos 0) ∷ formatted Grey 0 chroma-table (pos 0) ∷ formatted Colour 0 chroma-table (pos 0) ∷ formatted Grey 0 [] (pos 1) ∷ formatted Colour 4 chroma-table (pos 1) ∷ formatted Grey 0 [] (pos 0) ∷ [])
+    ≡ 2 ∷ 2 ∷ 2 ∷ 3 ∷ 0 ∷ 0 ∷ []
+unfolding deblock.outcome checks.checkOf checks.fromLengths checks.lengthsOk checks.settingsOk checks.offsetOk checks.qpsOk checks.planesOk list.limitOk sizeOk walk byByte inTurn onward leafWalk samplesOk allBelow fieldOf
+deblock-format-numbers = refl
 
 -- ---- deblocking by bands
 
@@ -765,6 +794,12 @@ bandings =
     ∷ banding (filtering 4 (root 1) 5 3407872 1024) 0
     ∷ banding (filtering 4 (root 1) 5 0 1024) 0
     ∷ []
+
+pub band-format-numbers : map (λ i. band.outcome (banding i 0) .reading .number)
+    (formatted Grey 4 [] (pos 0) ∷ formatted Grey 0 chroma-table (pos 0) ∷ formatted Colour 0 chroma-table (pos 0) ∷ formatted Grey 0 [] (pos 1) ∷ formatted Colour 4 chroma-table (pos 1) ∷ formatted Grey 0 [] (pos 0) ∷ [])
+    ≡ 2 ∷ 2 ∷ 2 ∷ 3 ∷ 0 ∷ 0 ∷ []
+unfolding band.outcome band-checks.checkOf band-checks.bandOk bandRows checks.fromLengths checks.lengthsOk checks.settingsOk checks.offsetOk checks.qpsOk checks.planesOk list.limitOk sizeOk walk byByte inTurn onward leafWalk samplesOk allBelow fieldOf
+band-format-numbers = refl
 
 abbrev by-band : List Refusal
 by-band = Size ∷ Band ∷ Length ∷ Setting ∷ Split ∷ Leaf ∷ Qp ∷ Sample ∷ []

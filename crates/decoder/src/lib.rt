@@ -54,6 +54,7 @@ pub use df_check::Settings;
 pub use df_check::band_rows;
 pub use df_check::checked;
 pub use df_check::checked_band;
+pub use df_check::in_format;
 pub use df_check::rows_above;
 pub use driver::reconstruct;
 pub use driver_check::checked_leaves;

@@ -17,5 +17,5 @@ abbrev pub formatOf : Bool → Format
 formatOf true = Colour
 formatOf false = Grey
 
-abbrev pub settingsOf : ℕ → ℤ → ℤ → Settings
-settingsOf limit u v = record { limit = limit; «u_offset» = u; «v_offset» = v }
+abbrev pub settingsOf : ℕ → ℤ → ℤ → Bool → Settings
+settingsOf limit u v colour = record { limit = limit; «u_offset» = u; «v_offset» = v; format = formatOf colour }

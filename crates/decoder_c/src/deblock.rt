@@ -1,21 +1,24 @@
-// Deblocking.
+// Deblocking. A picture's format is a flag: whether it has colour.
 ghost use mathlib.Core.Path.{_≡_};
 ghost use Rattle.laws.specs.Call.{Gives};
 ghost use Rattle.df.specs.Band as banding;
 ghost use Rattle.df.specs.Deblock as deblocking;
 ghost use Rattle.decoder_c.specs.Flags.{settingsOf};
+use crate::format_of;
 use df::Banded;
 use df::Bands;
 use df::Deblocked;
 use df_check::Settings;
 
-fn settings_of(limit: u8, u_offset: i8, v_offset: i8) -> Settings
-    ensures { λ r. ⌜ r ≡ settingsOf limit «u_offset» «v_offset» ⌝ }
+fn settings_of(limit: u8, u_offset: i8, v_offset: i8, colour: bool) -> Settings
+    ensures { λ r. ⌜ r ≡ settingsOf limit «u_offset» «v_offset» colour ⌝ }
 {
+    let format = format_of(colour);
     Settings {
         limit,
         u_offset,
         v_offset,
+        format,
     }
 }
 
@@ -63,6 +66,7 @@ pub extern "C" fn lomsakeun_deblock(
     limit: u8,
     u_offset: i8,
     v_offset: i8,
+    colour: bool,
     vertical_count: &mut usize,
     horizontal_count: &mut usize,
 ) -> u8
@@ -80,7 +84,7 @@ pub extern "C" fn lomsakeun_deblock(
           table0 = now (table0 .entry);
           table1 = now (table1 .entry);
           strengths = now (strengths .entry);
-          settings = settingsOf limit «u_offset» «v_offset»;
+          settings = settingsOf limit «u_offset» «v_offset» colour;
         })
         (record {
           reading = record { number = n; vertical = now («vertical_count» .exit); horizontal = now («horizontal_count» .exit) };
@@ -90,7 +94,7 @@ pub extern "C" fn lomsakeun_deblock(
           words = now (words .exit);
         }) ⌝ }
 {
-    let settings = settings_of(limit, u_offset, v_offset);
+    let settings = settings_of(limit, u_offset, v_offset, colour);
     let seen = counts_of(df::deblock(
         w,
         h,
@@ -162,6 +166,7 @@ pub extern "C" fn lomsakeun_deblock_band(
     limit: u8,
     u_offset: i8,
     v_offset: i8,
+    colour: bool,
     vertical_count: &mut usize,
     horizontal_count: &mut usize,
 ) -> u8
@@ -181,7 +186,7 @@ pub extern "C" fn lomsakeun_deblock_band(
           table0 = now (table0 .entry);
           table1 = now (table1 .entry);
           strengths = now (strengths .entry);
-          settings = settingsOf limit «u_offset» «v_offset»;
+          settings = settingsOf limit «u_offset» «v_offset» colour;
         })
         (record {
           reading = record { number = n; vertical = now («vertical_count» .exit); horizontal = now («horizontal_count» .exit); next = now (next .exit) };
@@ -191,7 +196,7 @@ pub extern "C" fn lomsakeun_deblock_band(
           words = now (words .exit);
         }) ⌝ }
 {
-    let settings = settings_of(limit, u_offset, v_offset);
+    let settings = settings_of(limit, u_offset, v_offset, colour);
     let at = Bands { next: *next };
     let seen = band_counts_of(at.deblock_band(
         band,

@@ -4,6 +4,7 @@ use decoder::Answer;
 use decoder::Avail;
 use decoder::Component;
 use decoder::Deblocked;
+use decoder::Format;
 use decoder::Motion;
 use decoder::Pel;
 use decoder::Quad;
@@ -205,6 +206,7 @@ fn unit_number(qp: u8) -> u8 {
         limit: 6,
         u_offset: 0,
         v_offset: 0,
+        format: Format::Colour,
     };
     deblocked_number(decoder::deblock(
         4,

@@ -171,7 +171,8 @@ fn finish_by_bands(given: &Picture, planes: &mut [Vec<u16>; 3], words: &mut [u32
     let mut edges = 0;
     for band in 0..given.h.div_ceil(64) {
         let lent = wide * 16 * band.saturating_sub(1)..wide * (given.h / 4).min(16 * band + 16);
-        let (luma, chroma) = (16 * lent.start..16 * lent.end, 4 * lent.start..4 * lent.end);
+        let each = if given.colour { 4 } else { 0 };
+        let (luma, chroma) = (16 * lent.start..16 * lent.end, each * lent.start..each * lent.end);
         let [y, u, v] = &mut *planes;
         let part = lomsakeun::Picture {
             w: given.w,
@@ -201,7 +202,7 @@ fn maps(given: &Picture, units: Range<usize>, splits: Range<usize>) -> lomsakeun
 
 fn settings(given: &Picture) -> lomsakeun::Settings {
     let [u_offset, v_offset] = given.offsets.map(|offset| offset as i8);
-    lomsakeun::Settings { limit: 6, u_offset, v_offset }
+    lomsakeun::Settings { limit: 6, u_offset, v_offset, colour: given.colour }
 }
 
 /// What is deblocked: pictures of these leaves, all units intra or all inter.
@@ -214,13 +215,15 @@ fn kinds() -> impl Iterator<Item = (String, trees::Taste, bool)> {
     })
 }
 
-/// Deblocks one square picture of a kind, by its place among them, for an instruction count: whole, and then by bands. False where there is
-/// no such kind, or where the two differ.
+/// Deblocks one square picture of a kind, by its place among them, for an instruction count: whole, and then by bands. After the kinds come the
+/// same pictures without their colour. False where there is no such kind, or where the two differ.
 pub fn count(kind: usize, side: usize) -> bool {
-    let Some((what, taste, intra)) = kinds().nth(kind) else { return false };
+    let in_colour = kinds().count();
+    let Some((what, taste, intra)) = kinds().nth(kind % in_colour) else { return false };
     let rng = &mut Rng::new(1);
     let drawn = picture(rng, side, side, taste);
     let given = alike(rng, drawn, intra);
+    let (what, given) = if kind < in_colour { (what, given) } else { (what + ", grey", given.grey()) };
     let mut whole = (given.planes.clone(), given.words.clone());
     let mut by_bands = whole.clone();
     let edges = finish(&given, &mut whole.0, &mut whole.1);
@@ -240,6 +243,7 @@ fn alike(rng: &mut Rng, given: Picture, intra: bool) -> Picture {
         tables: [table.clone(), table],
         limit: 6,
         offsets: [0, 0],
+        colour: true,
         ..given
     }
 }

@@ -91,6 +91,7 @@ impl Case for Band {
                 lent.limit as u8,
                 lent.offsets[0] as i8,
                 lent.offsets[1] as i8,
+                lent.colour,
                 &mut vertical,
                 &mut horizontal,
             )
@@ -112,12 +113,22 @@ fn units(picture: &Picture, band: usize) -> std::ops::Range<usize> {
     wide * 16 * band.saturating_sub(1)..wide * (picture.h / 4).min(16 * band + 16)
 }
 
+/// The samples of a unit in each plane.
+fn samples(colour: bool) -> [usize; 3] {
+    if colour {
+        [16, 4, 4]
+    } else {
+        [16, 0, 0]
+    }
+}
+
 /// What is lent for a band of a picture: the rows of the band above, if any, and its own, and its own split bytes.
 pub fn part(picture: &Picture, band: usize) -> Picture {
     let units = units(picture, band);
     let cut = |each: usize| each * units.start..each * units.end;
     let bytes = 1024 * picture.w.div_ceil(64);
-    let planes = [(0, 16), (1, 4), (2, 4)].map(|(i, each)| picture.planes[i][cut(each)].to_vec());
+    let [y, u, v] = samples(picture.colour);
+    let planes = [(0, y), (1, u), (2, v)].map(|(i, each)| picture.planes[i][cut(each)].to_vec());
     Picture {
         w: picture.w,
         h: picture.h,
@@ -130,6 +141,7 @@ pub fn part(picture: &Picture, band: usize) -> Picture {
         strengths: picture.strengths.clone(),
         limit: picture.limit,
         offsets: picture.offsets,
+        colour: picture.colour,
     }
 }
 
@@ -227,7 +239,8 @@ fn put_back(picture: &mut Picture, band: usize, answer: &[i64]) {
         rest = after;
         first
     };
-    for (plane, each) in picture.planes.iter_mut().zip([16, 4, 4]) {
+    let each = samples(picture.colour);
+    for (plane, each) in picture.planes.iter_mut().zip(each) {
         let from = next(each * units.len());
         plane[each * units.start..each * units.end].iter_mut().zip(from).for_each(|(to, from)| *to = *from as u16);
     }

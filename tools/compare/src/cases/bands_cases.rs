@@ -18,6 +18,7 @@ pub fn record(tape: &mut Tape) {
     }
     longest(tape, rng);
     super::bands_refusals::record(tape, rng);
+    super::grey::record_bands(tape);
     compare(tape, rng);
 }
 
@@ -42,7 +43,7 @@ fn borders(tape: &mut Tape, rng: &mut Rng) {
 }
 
 /// Records each band of a picture as a call, and compares them all with the Rust's answer for the picture.
-fn all_bands(tape: &mut Tape, picture: Picture) {
+pub fn all_bands(tape: &mut Tape, picture: Picture) {
     Bands::new(picture.clone()).each(|band| tape.record(band));
     tape.compare(&Bands::new(picture));
 }

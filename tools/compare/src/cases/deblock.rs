@@ -21,6 +21,7 @@ pub struct Picture {
     pub strengths: Vec<u8>,
     pub limit: usize,
     pub offsets: [i64; 2],
+    pub colour: bool,
 }
 
 impl Picture {
@@ -35,7 +36,14 @@ impl Picture {
             strengths: &self.strengths,
             limit: self.limit,
             offsets: self.offsets,
+            colour: self.colour,
         }
+    }
+
+    /// The same without its colour.
+    pub fn grey(self) -> Picture {
+        let [y, ..] = self.planes;
+        Picture { planes: [y, vec![], vec![]], tables: [vec![], vec![]], offsets: [0, 0], colour: false, ..self }
     }
 
     fn answer(number: u32, counts: (usize, usize), planes: &[Vec<u16>; 3], words: &[u32]) -> Line {
@@ -50,7 +58,7 @@ impl Case for Picture {
         let line = self.planes.iter().fold(line, |line, plane| line.slice(plane));
         let line = line.slice(&self.words).slice(&self.splits).slice(&self.motion).slice(&self.refs);
         let line = line.slice(&self.tables[0]).slice(&self.tables[1]).slice(&self.strengths);
-        line.num(self.limit).num(self.offsets[0]).num(self.offsets[1])
+        line.num(self.limit).num(self.offsets[0]).num(self.offsets[1]).flag(self.colour)
     }
 
     fn model(&self) -> Line {
@@ -60,8 +68,16 @@ impl Case for Picture {
     }
 
     /// The planes and words are evc_deblock's; the counts are the lengths of the lists of windows that it is
-    /// seen to filter.
+    /// seen to filter. The Rust has no grey pictures: it is lent chroma planes and tables of zeros, and what it makes of them is left out.
     fn rust(&self) -> Option<Line> {
+        if !self.colour {
+            let chroma = vec![0; (self.w / 2) * (self.h / 2)];
+            let planes = [self.planes[0].clone(), chroma.clone(), chroma];
+            let mut line =
+                Picture { planes, tables: [vec![0; 70], vec![0; 70]], colour: true, ..self.clone() }.rust()?;
+            line.0.drain(3 + self.w * self.h..3 + self.w * self.h * 3 / 2);
+            return Some(line);
+        }
         let (mut planes, mut words) = (self.planes.clone(), self.words.clone());
         let size = (self.w, self.h);
         let maps = (&self.splits[..], &self.motion[..], &self.refs[..]);
@@ -116,6 +132,7 @@ impl Case for Picture {
                 self.limit as u8,
                 self.offsets[0] as i8,
                 self.offsets[1] as i8,
+                self.colour,
                 &mut vertical,
                 &mut horizontal,
             )
@@ -165,6 +182,7 @@ pub fn picture(rng: &mut Rng, w: usize, h: usize, taste: Taste) -> Picture {
         strengths: rust::strengths(),
         limit: rng.pick(&[5, 6]),
         offsets: [rng.range(-12, 12), rng.range(-12, 12)],
+        colour: true,
     }
 }
 

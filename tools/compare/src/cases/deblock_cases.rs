@@ -29,6 +29,7 @@ pub fn record(tape: &mut Tape) {
     roots(tape, rng);
     longest(tape, rng);
     super::deblock_refusals::record(tape, rng);
+    super::grey::record(tape);
     compare(tape, rng);
 }
 

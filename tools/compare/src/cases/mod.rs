@@ -12,6 +12,7 @@ mod driver;
 pub mod driver_cases;
 mod driver_refusals;
 pub mod gather;
+pub mod grey;
 #[cfg(feature = "archive")]
 pub mod listing;
 #[cfg(feature = "archive")]

@@ -14,6 +14,18 @@ pub struct Given<'a> {
     pub strengths: &'a [u8],
     pub limit: usize,
     pub offsets: [i64; 2],
+    pub colour: bool,
+}
+
+impl Given<'_> {
+    /// The samples of a plane of h luma rows: a grey picture has none of colour.
+    fn plane_len(&self, chroma: bool, h: usize) -> usize {
+        if chroma && !self.colour {
+            0
+        } else {
+            plane_len(chroma, self.w, h)
+        }
+    }
 }
 
 /// The luma rows that planes and maps are lent for: so many, of which the last are the call's own, and of which the first are not judged.
@@ -46,6 +58,9 @@ pub fn deblock_rows(given: &Given, rows: &Rows, planes: [&mut [u16]; 3], words: 
         for &(qx, qy) in edges {
             let edge = Edge::new(given, words, qx / 4, qy / 4, along);
             edge.filter(y, given.w, edge.entry(None), (qx, qy), 4);
+            if !given.colour {
+                continue;
+            }
             let place = (qx / 2, qy / 2);
             edge.filter(u, given.w / 2, edge.entry(Some((0, 0))), place, 2);
             edge.filter(v, given.w / 2, edge.entry(Some((1, 1))), place, 2);
@@ -60,7 +75,8 @@ fn check(given: &Given, rows: &Rows, planes: [&[u16]; 3], words: &[u32]) -> Resu
     if !lengths_ok(given, rows, planes, words) {
         return Err(LENGTH);
     }
-    let offsets_ok = given.offsets.iter().all(|offset| (-12..=12).contains(offset));
+    let most = if given.colour { 12 } else { 0 };
+    let offsets_ok = given.offsets.iter().all(|offset| (-most..=most).contains(offset));
     if ![5, 6].contains(&given.limit) || !offsets_ok {
         return Err(SETTING);
     }
@@ -69,7 +85,7 @@ fn check(given: &Given, rows: &Rows, planes: [&[u16]; 3], words: &[u32]) -> Resu
     if !words[units..].iter().all(|&word| qp_of(word) <= 51) {
         return Err(QP);
     }
-    let judged = |(plane, chroma): (&&[u16], bool)| samples_ok(&plane[plane_len(chroma, given.w, rows.unjudged)..]);
+    let judged = |(plane, chroma): (&&[u16], bool)| samples_ok(&plane[given.plane_len(chroma, rows.unjudged)..]);
     if !planes.iter().zip([false, true, true]).all(judged) {
         return Err(SAMPLE);
     }
@@ -80,12 +96,12 @@ fn lengths_ok(given: &Given, rows: &Rows, planes: [&[u16]; 3], words: &[u32]) ->
     let (w, h) = (given.w, rows.lent);
     let units = (w / 4) * (h / 4);
     let roots = w.div_ceil(64) * rows.own.div_ceil(64);
-    planes.iter().zip([false, true, true]).all(|(plane, chroma)| plane.len() == plane_len(chroma, w, h))
+    planes.iter().zip([false, true, true]).all(|(plane, chroma)| plane.len() == given.plane_len(chroma, h))
         && words.len() == units
         && given.splits.len() == 1024 * roots
         && given.motion.len() == 4 * units
         && given.refs.len() == 2 * units
-        && given.tables.iter().all(|table| table.len() == 70)
+        && given.tables.iter().all(|table| table.len() == if given.colour { 70 } else { 0 })
         && given.strengths.len() == 208
 }
 
@@ -99,9 +115,9 @@ fn mapped(given: &Given, table: usize, offset: usize, qp: i64) -> i64 {
     given.tables[table][(12 + at) as usize] as i64
 }
 
-/// Whether U's lookup and V's lie inside 0..51, where the Rust has entries.
+/// Whether U's lookup and V's, in a picture that has them, lie inside 0..51, where the Rust has entries.
 fn lookups_fit(given: &Given, word: u32) -> bool {
-    (0..2).all(|plane| (0..=51).contains(&mapped(given, plane, plane, qp_of(word))))
+    !given.colour || (0..2).all(|plane| (0..=51).contains(&mapped(given, plane, plane, qp_of(word))))
 }
 
 /// One unit edge: Q is the current unit, P the one left or above.

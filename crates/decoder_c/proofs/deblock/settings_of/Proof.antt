@@ -8,8 +8,8 @@ use Rattle.decoder_c.proofs.deblock.settings_of.Tie as tie
 
 returns : tie.Need-returns
 returns c =
-    let fits = c .fits in
-    rw (back w8 _ (fits .u-offset), back w8 _ (fits .v-offset)) refl
+    let fits = c .before .fits in
+    rw (back w8 _ (fits .u-offset), back w8 _ (fits .v-offset), c .format-of .ensures) refl
 
 pub settings-of-spec : {M : Type 1} → statement M
-settings-of-spec = tie.close (tie.spec returns)
+settings-of-spec = tie.close (tie.spec (λ c κs. search needs) returns)
