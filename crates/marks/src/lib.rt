@@ -80,10 +80,12 @@ fn mended(old: u8, w: usize, h: usize, x: Pel, y: Pel, side: usize, level: usize
     requires { ⌜ Block w h (x .0) (y .0) side level ⌝ }
     ensures { λ r. ⌜ (r ≡ mendBy old (w / 4) (h / 4) (2 ^ (4 - level)) (x .0 / 4) (y .0 / 4)) × (r < 2) ⌝ }
 {
-    if w < x.0 + side {
+    let right = x.0 + side;
+    if w < right {
         return 1;
     }
-    if h < y.0 + side {
+    let bottom = y.0 + side;
+    if h < bottom {
         return 1;
     }
     if 1 < old {

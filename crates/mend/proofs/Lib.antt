@@ -1,0 +1,5 @@
+pub mod Apart
+pub mod Calls
+pub mod Kept
+pub mod Lists
+pub mod Torn
