@@ -138,6 +138,13 @@ uint8_t lomsakeun_put_map(
 uint8_t lomsakeun_get_map(
     size_t w, size_t h, const uint8_t *src, size_t src_len, size_t *at, uint8_t *map, size_t map_len);
 
+/* A torn split map, mended into out (mend), of the same length: a block that reaches past the picture is cut, a byte above 1 inside the picture
+ * becomes 0, and all other bytes are copied. list has 425 numbers a root: for each change its root, level, place in the level, old and new
+ * value, in the order of the walk; its rest is not written. The walk accepts what is written (lomsakeun_check). */
+uint8_t lomsakeun_mend(
+    size_t w, size_t h, const uint8_t *splits, size_t splits_len, uint8_t *out, size_t out_len,
+    uint16_t *list, size_t list_len, size_t *count);
+
 /* The visiting rank of the unit of column x and row y of a root (rank). */
 uint8_t lomsakeun_visiting_rank(size_t x, size_t y, uint8_t *rank);
 

@@ -43,6 +43,7 @@ mod blocks;
 mod chroma;
 mod deblock;
 mod driver;
+mod mend;
 mod neighbours;
 mod pack;
 mod picture;
@@ -56,11 +57,13 @@ pub use blocks::{get_nbr, ipred_b, recon, recon_plane, Component};
 pub use chroma::{derived_chroma_qp_mapping_tables, Points};
 pub use deblock::{deblock, Maps, Settings};
 pub use driver::{reconstruct, Blocks};
+pub use mend::{changes, mend, Change, CHANGES_LENGTH};
 pub use neighbours::{get_avail_inter, get_avail_intra, get_mpm, Neighbours};
 pub use pack::{get_map, put_map, Reader, Writer};
 pub use picture::Picture;
 pub use refusal::Refusal;
 pub use streams::{
-    frame_length, import_frame, read_frame, read_header, write_frame, write_header, Header, Misread, Planes, HEADER_LENGTH,
+    frame_length, import_frame, read_frame, read_header, write_frame, write_header, Header, Misread, Planes,
+    HEADER_LENGTH,
 };
 pub use tree::{check, leaves, list_edges, listing, visiting_rank, LEAVES_LENGTH, LISTING_LENGTH};

@@ -131,6 +131,17 @@ extern "C" {
         map: *mut u8,
         map_len: usize,
     ) -> u8;
+    pub fn lomsakeun_mend(
+        w: usize,
+        h: usize,
+        splits: *const u8,
+        splits_len: usize,
+        out: *mut u8,
+        out_len: usize,
+        list: *mut u16,
+        list_len: usize,
+        count: *mut usize,
+    ) -> u8;
     pub fn lomsakeun_visiting_rank(x: usize, y: usize, rank: *mut u8) -> u8;
     pub fn lomsakeun_list_edges(
         w: usize,

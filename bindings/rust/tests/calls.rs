@@ -228,6 +228,42 @@ fn compact() {
     assert_eq!(reader.at(), 16);
 }
 
+/// Four cuts of a picture of 4x4, a byte above 1 inside a picture, and a map that needs nothing.
+#[test]
+fn mending() {
+    let torn = [0; 1024];
+    let (mut out, mut list) = ([9; 1024], [7; CHANGES_LENGTH]);
+    assert_eq!(mend(4, 4, &torn, &mut out, &mut list), Ok(4));
+    let cut = |level, place| Change { root: 0, level, place, old: 0, new: 1 };
+    assert_eq!(changes(&list, 4).collect::<Vec<_>>(), [cut(0, 136), cut(1, 68), cut(2, 34), cut(3, 17)]);
+    assert_eq!(list[20..], [7; CHANGES_LENGTH - 20]);
+    assert_eq!(check(4, 4, &out), Ok(()));
+    assert_eq!(out.iter().map(|&byte| usize::from(byte)).sum::<usize>(), 4);
+
+    let mut again = [9; 1024];
+    assert_eq!(mend(4, 4, &out, &mut again, &mut [7; CHANGES_LENGTH]), Ok(0));
+    assert_eq!(again, out);
+
+    let mut list = [7; 2 * CHANGES_LENGTH];
+    let mut torn = [255; 2048];
+    torn[136] = 1;
+    let mut out = [9; 2048];
+    assert_eq!(mend(128, 64, &torn, &mut out, &mut list), Ok(5));
+    let leaf = |root, level, place| Change { root, level, place, old: 255, new: 0 };
+    let met: Vec<_> = changes(&list, 5).collect();
+    assert_eq!(met, [leaf(0, 1, 68), leaf(0, 1, 76), leaf(0, 1, 196), leaf(0, 1, 204), leaf(1, 0, 136)]);
+    assert_eq!(out.iter().zip(&torn).filter(|(a, b)| a != b).count(), 5);
+    assert_eq!(check(128, 64, &out), Ok(()));
+
+    // the largest picture, all roots torn: one leaf each
+    let (torn, roots) = (vec![2; 4 << 20], 4096);
+    let (mut out, mut list) = (torn.clone(), vec![7; CHANGES_LENGTH * roots]);
+    assert_eq!(mend(4096, 4096, &torn, &mut out, &mut list), Ok(roots));
+    let last = Change { root: 4095, level: 0, place: 136, old: 2, new: 0 };
+    assert_eq!(changes(&list, roots).last(), Some(last));
+    assert_eq!(check(4096, 4096, &out), Ok(()));
+}
+
 /// Two units of 4 beside each other, all intra, at QP 30, with a step between them: the paper's line at entry 3 and at 0.
 #[test]
 fn deblocking() {

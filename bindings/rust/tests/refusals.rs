@@ -3,8 +3,8 @@ use lomsakeun::Points as Given;
 use lomsakeun::Refusal::{self, *};
 use lomsakeun::{
     check, deblock, derived_chroma_qp_mapping_tables, get_avail_inter, get_avail_intra, get_map, get_mpm, get_nbr,
-    ipred_b, leaves, list_edges, listing, put_map, recon, recon_plane, reconstruct, visiting_rank, Bands, Blocks,
-    Component, Maps, Picture, Settings, LISTING_LENGTH,
+    ipred_b, leaves, list_edges, listing, mend, put_map, recon, recon_plane, reconstruct, visiting_rank, Bands, Blocks,
+    Component, Maps, Picture, Settings, CHANGES_LENGTH, LISTING_LENGTH,
 };
 use std::fmt::Debug;
 
@@ -46,12 +46,12 @@ const BAD_SIZES: [(usize, usize); 8] =
 #[test]
 fn numbers() {
     let numbers: Vec<u8> = Refusal::ALL.iter().map(|refusal| refusal.number()).collect();
-    assert_eq!(numbers, (1..=13).chain([14, 16, 17, 18, 20]).collect::<Vec<u8>>());
+    assert_eq!(numbers, (1..=22).collect::<Vec<u8>>());
     for &refusal in Refusal::ALL {
         assert_eq!(Refusal::from_number(refusal.number()), Some(refusal));
         assert!(refusal.to_string().starts_with(&format!("refused={}: ", refusal.number())));
     }
-    assert_eq!([0, 15, 19].map(Refusal::from_number), [None; 3]);
+    assert_eq!([0, 23, 255].map(Refusal::from_number), [None; 3]);
 }
 
 /// Derives tables of these lengths from these points.
@@ -158,6 +158,23 @@ fn compact() {
     for mut far in [9, usize::MAX] {
         refused(Bits, 1, |buf| put_map(64, 64, &splits, buf, &mut far));
         refused(Bits, 1024, |map| get_map(64, 64, &[0], &mut far, map));
+    }
+}
+
+#[test]
+fn mending() {
+    let splits = [2; 1025];
+    for (w, h) in BAD_SIZES {
+        refused(Size, 1024, |out| mend(w, h, &splits[..1024], out, &mut [0; CHANGES_LENGTH]));
+    }
+    for wrong in [0, 1023, 1025] {
+        refused(Length, 1024, |out| mend(4, 4, &splits[..wrong], out, &mut [0; CHANGES_LENGTH]));
+        refused(Length, wrong, |out| mend(4, 4, &splits[..1024], out, &mut [0; CHANGES_LENGTH]));
+    }
+    for wrong in [0, 424, 426] {
+        let mut out = [9; 1024];
+        refused(Length, wrong, |list| mend(4, 4, &splits[..1024], &mut out, list));
+        assert_eq!(out, [9; 1024]);
     }
 }
 

@@ -33,6 +33,7 @@ use Rattle.df_check.specs.Rows.{bandRows}
 use Rattle.df.specs.Band as band
 use Rattle.df.specs.Deblock as deblock
 use Rattle.df.specs.Luma.{withoutColour}
+use Rattle.mend.specs.MendCall as mend
 use Rattle.split.specs.CheckCall as check
 use Rattle.split.specs.LeavesCall as leaves
 use Rattle.split.specs.ListCall as list
@@ -109,6 +110,7 @@ given =
     ∷ rank.outcome (record { x = 15; y = 15 }) .reading .number
     ∷ list.outcome (record { w = 4; h = 4; splits = cut; limit = 5; vertical = 0 ∷ 0 ∷ []; horizontal = 0 ∷ 0 ∷ [] }) .reading .number
     ∷ root-list.outcome (record { w = 4; h = 4; splits = cut; x = 0; y = 0; horizontal = false; short = false; top = 0; out = replicate 512 0 }) .reading .number
+    ∷ mend.outcome (record { w = 4; h = 4; splits = cut; out = cut; list = replicate 425 0 }) .reading .number
     ∷ answerNumber (deblock.check picture)
     ∷ deblock.outcome picture .reading .number
     ∷ answerNumber (band.check part)
@@ -116,6 +118,6 @@ given =
     ∷ deblock.outcome (withoutColour picture) .reading .number
     ∷ []
 
-pub accepted : given ≡ replicate 18 0
-unfolding derived.outcome points-check.check points-check.lengthsOk points-check.pointsOk points-check.pivotsOk points-check.pivotOk inOf outOf avail.intraOutcome avail.interOutcome avail.checkOf ranks.numberOutcome ranks.check ranks.lengthsOk ranks.modesOk gather.outcome gather.checkOf gather.lengthsOk gather.samplesOk gather.runAt gather.nearAt predict.outcome predict.lengthsOk recon.outcome recon.blockCheck recon.lengthsOk plane.outcome plane.planeCheck plane.blockLengthsOk leaves.outcome leaves.checkOf leaves.lengthsOk leaves.rootOk check.outcome check.check rank.outcome rank.check list.outcome list.checkOf list.lengthsOk list.limitOk root-list.outcome root-list.checkOf checks.checkOf checks.fromLengths checks.lengthsOk checks.settingsOk checks.offsetOk checks.qpsOk checks.planesOk deblock.outcome band-checks.checkOf band-checks.bandOk bandRows band.outcome sizeOk blockOk blockSideOk componentSideOk unitOk samplesOk flagAt fieldOf allBelow walk byByte inTurn onward leafWalk
+pub accepted : given ≡ replicate 19 0
+unfolding derived.outcome points-check.check points-check.lengthsOk points-check.pointsOk points-check.pivotsOk points-check.pivotOk inOf outOf avail.intraOutcome avail.interOutcome avail.checkOf ranks.numberOutcome ranks.check ranks.lengthsOk ranks.modesOk gather.outcome gather.checkOf gather.lengthsOk gather.samplesOk gather.runAt gather.nearAt predict.outcome predict.lengthsOk recon.outcome recon.blockCheck recon.lengthsOk plane.outcome plane.planeCheck plane.blockLengthsOk leaves.outcome leaves.checkOf leaves.lengthsOk leaves.rootOk check.outcome check.check rank.outcome rank.check list.outcome list.checkOf list.lengthsOk list.limitOk root-list.outcome root-list.checkOf mend.outcome mend.check mend.lengthsOk checks.checkOf checks.fromLengths checks.lengthsOk checks.settingsOk checks.offsetOk checks.qpsOk checks.planesOk deblock.outcome band-checks.checkOf band-checks.bandOk bandRows band.outcome sizeOk blockOk blockSideOk componentSideOk unitOk samplesOk flagAt fieldOf allBelow walk byByte inTurn onward leafWalk
 accepted = refl

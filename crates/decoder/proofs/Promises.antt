@@ -2,7 +2,8 @@
 --     NAME-once        over the contract as the checker reads it from the source: the arguments determine the answer and every slice that the call may write
 --     NAME-refusals    the refusals that the call gives, in the order of its ladder, each with an input that meets it; of a call that gives none, nothing
 -- The answer is determined, and not its reading alone, because each reading tells all answers apart: `answer-apart` (def), `reading-apart` (avail, df,
--- sheet_lines, sheet), `rank-apart` (rank), `leaves-apart`, `list-apart` (split), `marks-apart` (marks), `placed-apart` (pack), and `number-apart` (def).
+-- sheet_lines, sheet), `rank-apart` (rank), `leaves-apart`, `list-apart` (split), `marks-apart` (marks), `placed-apart` (pack), `mended-apart` (mend),
+-- and `number-apart` (def).
 -- Assumes nothing.
 use Prim.Native.Nat.{ℕ, _+_, _-_, _*_, _/_}
 use mathlib.Core.Logic.{inl, inr}
@@ -70,6 +71,8 @@ use Rattle.marks.proofs.Apart.{marks-apart}
 use Rattle.marks_rules.specs.Descent.{descendOn, descents as descentsBy, descend as descendBy}
 use Rattle.marks_rules.specs.Marks.{marks, digits}
 use Rattle.marks_rules.specs.Pictures.{joined}
+use Rattle.mend.proofs.Apart.{mended-apart}
+use Rattle.mend.specs.MendCall as mend
 use Rattle.pack.proofs.Apart.{readingOf as placedReading, placed-apart, Wrote, write-sole, Read, read-sole}
 use Rattle.pack.specs.declared.Reader.{Reader}
 use Rattle.pack.specs.declared.Writer.{Writer}
@@ -138,6 +141,8 @@ use Rattle.decoder.proofs.put_map.Kinds as put-map-kinds
 use Rattle.decoder.proofs.put_map.Reads as put-map-reads
 use Rattle.decoder.proofs.get_map.Kinds as get-map-kinds
 use Rattle.decoder.proofs.get_map.Reads as get-map-reads
+use Rattle.decoder.proofs.mend.Kinds as mend-kinds
+use Rattle.decoder.proofs.mend.Reads as mend-reads
 use Rattle.decoder.proofs.deblock.Kinds as deblock-kinds
 use Rattle.decoder.proofs.deblock.Reads as deblock-reads
 use Rattle.decoder.proofs.checked_leaves.Kinds as checked-leaves-kinds
@@ -656,6 +661,25 @@ write-to-once b x x′ p q i = record { buf = (p .0 ∙ sym (q .0)) i; at = (p .
 
 pub read-from-once : (s : RefT (List ℕ)) (x x′ : Reader) → (x .src ≡ s) × (x .at ≡ 0) → (x′ .src ≡ s) × (x′ .at ≡ 0) → x ≡ x′
 read-from-once s x x′ p q i = record { src = (p .0 ∙ sym (q .0)) i; at = (p .1 ∙ sym (q .1)) i }
+
+-- ---- a torn split map
+
+pub mend-once : Sole 3 mend-kinds.ps mend-kinds.r mend-reads.Post (λ κs r x. ended r (now (x .1 .1 .1 .0) ∷ now (x .1 .1 .1 .1 .0) ∷ []))
+mend-once κs a r r′ x x′ p q = settled mend.outcome (λ o. o .reading) (λ o. o .out ∷ o .list ∷ []) p q (mended-apart r r′)
+
+abbrev mending : ℕ → mend.Input
+mending w = record { w = w; h = 4; splits = []; out = []; list = [] }
+
+pub mend-refusals : Refuses mend.outcome (λ o. o .reading .number) (Size ∷ Length ∷ [])
+unfolding mend.outcome mend.check mend.lengthsOk sizeOk
+mend-refusals =
+    record {
+      only = λ i.
+          by-checks (λ o. o .reading .number) (mend.refused i) (mend.done i) (Size ∷ Length ∷ []) (mend.check i) (λ r. refl) refl
+          (rung (sizeOk (i .w) (i .h)) Size _ (rung (mend.lengthsOk (i .w) (i .h) (length (i .splits)) (length (i .out)) (length (i .list))) Length _ last));
+      shown = mending 0 ∷ mending 4 ∷ [];
+      given = refl;
+    }
 
 -- ---- deblocking
 

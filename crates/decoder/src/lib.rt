@@ -12,6 +12,7 @@
 //       deblocking      deblock; Bands::first, deblock_band; checked, checked_band, band_rows, rows_above, entries, mask_of, line, lanes, motion_row
 //     the sheet         read, listing
 //     the compact map   put_map, get_map; write_to, write_map, read_from, read_map; get_bit, put_bit
+//     a torn map        mend
 //     streams           read_header, write_header, read_frame, write_frame, import_frame
 pub use avail::Avail;
 pub use avail::Neighbours;
@@ -79,6 +80,8 @@ pub use marks::mark_byte;
 pub use marks::mark_place;
 pub use marks::root_count;
 pub use marks::take_marks;
+pub use mend::Mended;
+pub use mend::mend;
 pub use mpm::get_mpm;
 pub use mpm::get_mpm_number;
 pub use nbr::get_nbr;

@@ -1,6 +1,7 @@
-// The split tree and its edges, and the listing of a sheet.
+// The split tree and its edges, a torn map mended, and the listing of a sheet.
 ghost use mathlib.Core.Path.{_≡_};
 ghost use Rattle.laws.specs.Call.{Gives};
+ghost use Rattle.mend.specs.MendCall as mending;
 ghost use Rattle.rank.specs.RankCall as ranking;
 ghost use Rattle.split.specs.CheckCall as checking;
 ghost use Rattle.split.specs.LeavesCall as meeting;
@@ -8,6 +9,7 @@ ghost use Rattle.split.specs.ListCall as listing;
 ghost use Rattle.sheet.specs.Listing as printing;
 use def::Pel;
 use def::Scu;
+use mend::Mended;
 use rank::Rank;
 use sheet::Printed;
 use split::Listed;
@@ -37,6 +39,18 @@ fn walk_numbers(a: Walked) -> Counted
     match a {
         Walked::Done(count) => Counted { number: 0, count },
         Walked::Refused(r) => Counted {
+            number: def::refusal_number(r),
+            count: 0,
+        },
+    }
+}
+
+fn mend_numbers(a: Mended) -> Counted
+    ensures { λ r. ⌜ (r .number ≡ mending.readingOf a .number) × (r .count ≡ mending.readingOf a .count) ⌝ }
+{
+    match a {
+        Mended::Done(count) => Counted { number: 0, count },
+        Mended::Refused(r) => Counted {
             number: def::refusal_number(r),
             count: 0,
         },
@@ -111,6 +125,24 @@ pub extern "C" fn lomsakeun_leaves(
         (record { reading = record { number = n; count = now (count .exit) }; out = now (out .exit) }) ⌝ }
 {
     let seen = walk_numbers(split::leaves(w, h, splits, Pel(x), Pel(y), out));
+    *count = seen.count;
+    seen.number
+}
+
+#[no_mangle]
+pub extern "C" fn lomsakeun_mend(
+    w: usize,
+    h: usize,
+    splits: &[u8],
+    out: &mut [u8],
+    list: &mut [u16],
+    count: &mut usize,
+) -> u8
+    ensures { λ n. ⌜ Gives mending.outcome
+        (record { w = w; h = h; splits = now (splits .entry); out = now (out .entry); list = now (list .entry) })
+        (record { reading = record { number = n; count = now (count .exit) }; out = now (out .exit); list = now (list .exit) }) ⌝ }
+{
+    let seen = mend_numbers(mend::mend(w, h, splits, out, list));
     *count = seen.count;
     seen.number
 }
