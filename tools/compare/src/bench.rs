@@ -1,6 +1,6 @@
 //! Speed of both sides in one run, on the same inputs: the best of many rounds. The product's refusal scans are counted; the Rust has none.
 use crate::bench_driver;
-use crate::cases::deblock::{picture, Picture};
+use crate::cases::deblock::{picture, split_bytes, Picture};
 use crate::cases::trees;
 use crate::chart::{self, Series};
 use crate::rng::Rng;
@@ -213,6 +213,24 @@ fn kinds() -> impl Iterator<Item = (String, trees::Taste, bool)> {
             (format!("deblocking, {units}, leaves {leaves}"), taste, intra)
         })
     })
+}
+
+/// Each call over a split map once, for a picture whose leaves are of this kind: the walk's verdict, the map packed, read back and mended. To be run
+/// under callgrind, which counts the one that it is told.
+pub fn maps_of(kind: usize, side: usize) -> bool {
+    let (leaves, taste) = LEAVES[kind];
+    let rng = &mut Rng::new(1);
+    let tree = trees::tree(rng, side, side, taste);
+    let splits = split_bytes(rng, side, side, &tree);
+    let mut digits = vec![0; tree.len().div_ceil(8)];
+    let (mut back, mut mended) = (vec![0; splits.len()], vec![0; splits.len()]);
+    let mut list = vec![0; lomsakeun::CHANGES_LENGTH * splits.len() / 1024];
+    lomsakeun::check(side, side, &splits).unwrap();
+    lomsakeun::Writer::new(&mut digits).write(side, side, &splits).unwrap();
+    lomsakeun::Reader::new(&digits).read(side, side, &mut back).unwrap();
+    let changes = lomsakeun::mend(side, side, &splits, &mut mended, &mut list).unwrap();
+    println!("split map of {side} by {side}, leaves {leaves}, {} blocks of 8 or more", tree.len());
+    changes == 0 && mended == splits
 }
 
 /// Deblocks one square picture of a kind, by its place among them, for an instruction count: whole, and then by bands. After the kinds come the

@@ -5,7 +5,7 @@ use std::path::Path;
 
 type Recorder = fn(&mut Tape);
 
-const ALL: [(&str, Recorder); 12] = [
+const ALL: [(&str, Recorder); 14] = [
     ("chroma_qp", chroma_qp::record),
     ("avail", avail::record),
     ("ranks", ranks::record),
@@ -16,6 +16,8 @@ const ALL: [(&str, Recorder); 12] = [
     ("deblock", deblock_cases::record),
     ("bands", bands_cases::record),
     ("driver", driver_cases::record),
+    ("mend", mend::record),
+    ("pack", pack::record),
     ("sheet", sheet::record),
     ("streams", streams::record),
 ];

@@ -15,7 +15,7 @@ pub mod gather;
 pub mod grey;
 #[cfg(feature = "archive")]
 pub mod listing;
-#[cfg(feature = "archive")]
+pub mod mend;
 pub mod pack;
 pub mod predict;
 pub mod ranks;

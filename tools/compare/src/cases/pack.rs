@@ -1,9 +1,10 @@
 //! Cases of the compact map's calls. The Rust has none of them.
 use super::data::*;
 use super::deblock::split_bytes;
-use super::tape::{Case, Line};
+use super::tape::{Case, Line, Tape};
 use super::trees;
 use crate::model::pack as model;
+#[cfg(feature = "archive")]
 use crate::product::{sys, Answer, Lending, Lent};
 use crate::rng::Rng;
 
@@ -14,6 +15,7 @@ fn bytes(rng: &mut Rng, count: usize) -> Vec<u8> {
 
 // ---- a map into a buffer
 
+#[derive(Clone)]
 struct Put {
     w: usize,
     h: usize,
@@ -24,7 +26,7 @@ struct Put {
 
 impl Case for Put {
     fn input(&self) -> Line {
-        Line::new().num(self.w).num(self.h).slice(&self.splits).slice(&self.buf).num(self.at)
+        Line::new().num(0u8).num(self.w).num(self.h).slice(&self.splits).slice(&self.buf).num(self.at)
     }
 
     fn model(&self) -> Line {
@@ -41,6 +43,7 @@ impl Case for Put {
         false
     }
 
+    #[cfg(feature = "archive")]
     fn product(&self, lending: Lending) -> Answer {
         let splits = Lent::new(lending, &self.splits);
         let mut buf = Lent::new(lending, &self.buf);
@@ -93,6 +96,7 @@ pub fn damaged_put(rng: &mut Rng) -> Box<dyn Case> {
 
 // ---- a map from a buffer
 
+#[derive(Clone)]
 struct Get {
     w: usize,
     h: usize,
@@ -103,7 +107,7 @@ struct Get {
 
 impl Case for Get {
     fn input(&self) -> Line {
-        Line::new().num(self.w).num(self.h).slice(&self.src).num(self.at).slice(&self.map)
+        Line::new().num(1u8).num(self.w).num(self.h).slice(&self.src).num(self.at).slice(&self.map)
     }
 
     fn model(&self) -> Line {
@@ -120,6 +124,7 @@ impl Case for Get {
         false
     }
 
+    #[cfg(feature = "archive")]
     fn product(&self, lending: Lending) -> Answer {
         let src = Lent::new(lending, &self.src);
         let mut map = Lent::new(lending, &self.map);
@@ -163,4 +168,76 @@ pub fn damaged_get(rng: &mut Rng) -> Box<dyn Case> {
         _ => case.src.iter_mut().for_each(|byte| *byte = rng.below(256) as u8),
     }
     Box::new(case)
+}
+
+// ---- what is recorded
+
+/// A position behind every buffer.
+const FAR: usize = 1 << 59;
+
+pub fn record(tape: &mut Tape) {
+    let rng = &mut Rng::new(0x9acc);
+    for _ in 0..40 {
+        tape.record(&put(rng, 64));
+        tape.record(&get(rng, 64));
+    }
+    for _ in 0..5 {
+        tape.record(&put(rng, 128));
+        tape.record(&get(rng, 128));
+    }
+    for (w, h) in [(4, 4), (64, 64), (16, 8)] {
+        borders(tape, rng, w, h);
+    }
+    refusals(tape, rng);
+}
+
+/// Two maps one after the other in one buffer, with a byte behind them, read back one after the other; and a byte less, a fill bit, a position too far.
+fn borders(tape: &mut Tape, rng: &mut Rng, w: usize, h: usize) {
+    let tree = trees::tree(rng, w, h, trees::FINEST);
+    let splits = split_bytes(rng, w, h, &tree);
+    let own = tree.len().div_ceil(8);
+    let first = Put { w, h, splits: splits.clone(), buf: vec![255; 2 * own + 1], at: 0 };
+    tape.record(&first);
+    let mut buf = first.buf.clone();
+    let (_, at) = model::put_map((w, h), &splits, &mut buf, 0);
+    let second = Put { buf: buf.clone(), at, ..first.clone() };
+    tape.record(&second);
+    let (_, end) = model::put_map((w, h), &splits, &mut buf, at);
+    for at in [0, at, at - 1, 1, end, end + 8, end + 9, FAR] {
+        tape.record(&Get { w, h, src: buf.clone(), at, map: vec![9; 1024] });
+        tape.record(&Put { at, ..second.clone() });
+    }
+    let mut short = Get { w, h, src: buf[..own].to_vec(), at: 0, map: vec![9; 1024] };
+    short.src.pop();
+    tape.record(&short);
+    tape.record(&Put { buf: vec![255; own - 1], ..first });
+    for bit in 0..8 {
+        let mut turned = Get { src: buf[..own].to_vec(), ..short.clone() };
+        turned.src[own - 1] ^= 1 << bit;
+        tape.record(&turned);
+    }
+}
+
+fn refusals(tape: &mut Tape, rng: &mut Rng) {
+    let mut torn = put(rng, 8);
+    let packed = get(rng, 8);
+    for bad in BAD_SIZES {
+        tape.record(&Put { w: bad, ..torn.clone() });
+        tape.record(&Get { h: bad, ..packed.clone() });
+    }
+    for splits in wrong_lengths(&torn.splits) {
+        tape.record(&Put { splits, ..torn.clone() });
+    }
+    for map in wrong_lengths(&packed.map) {
+        tape.record(&Get { map, ..packed.clone() });
+    }
+    // 4 and 5 where the walk meets them, in bytes and in bits
+    for (place, byte) in [(136, 2), (256 + 68, 255), (136, 0), (512 + 34, 0)] {
+        let old = std::mem::replace(&mut torn.splits[place], byte);
+        tape.record(&torn);
+        torn.splits[place] = old;
+    }
+    for byte in [0, 0b1000_0000, 0b1100_0000] {
+        tape.record(&Get { src: vec![byte], at: 0, ..packed.clone() });
+    }
 }

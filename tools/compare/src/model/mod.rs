@@ -7,7 +7,7 @@ pub mod chroma;
 pub mod deblock;
 pub mod driver;
 pub mod gather;
-#[cfg(feature = "archive")]
+pub mod mend;
 pub mod pack;
 pub mod predict;
 pub mod ranks;
@@ -32,7 +32,6 @@ pub const PIVOT: u32 = 11;
 pub const SHEET: u32 = 12;
 pub const RECORD: u32 = 13;
 pub const BAND: u32 = 14;
-#[cfg(feature = "archive")]
 pub const BITS: u32 = 16;
 pub const STREAM: u32 = 17;
 pub const SHORT: u32 = 18;

@@ -6,7 +6,7 @@ fn splits_len(w: usize, h: usize) -> usize {
 }
 
 /// Where the byte of a block stands in the map.
-fn place(w: usize, x: usize, y: usize, side: usize) -> usize {
+pub fn place(w: usize, x: usize, y: usize, side: usize) -> usize {
     let root = (y / 64) * w.div_ceil(64) + x / 64;
     let level = 6 - side.ilog2() as usize;
     1024 * root + 256 * level + 16 * ((y % 64 + side / 2) / 4) + (x % 64 + side / 2) / 4
