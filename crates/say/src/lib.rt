@@ -1,5 +1,7 @@
-// What a program tells: words and numbers on standard error, what a refusal's number means, and the exit status. It is for the programs alone.
+// What a program tells: words and numbers on standard error, fields of its output, what a refusal's number means, and the exit status. It is for the
+// programs alone.
 use libc::STDERR_FILENO;
+use libc::STDOUT_FILENO;
 
 // ---- words
 
@@ -19,14 +21,27 @@ pub fn number(n: usize) {
     io::print_decimal(STDERR_FILENO, n as u64);
 }
 
+// ---- on standard output
+
+// A number after its name.
+pub fn field(name: &[u8], n: usize) {
+    io::write_all(STDOUT_FILENO, name);
+    io::print_decimal(STDOUT_FILENO, n as u64);
+}
+
+pub fn end_line() {
+    io::write_all(STDOUT_FILENO, b"\n");
+}
+
 // ---- the exit status
 
-// 0 is done, 1 refused, 2 bad usage or a failure of input or output. A program has no status of its own: it writes a digit to descriptor 3, which bin/program
+// 0 is done, 1 refused, 2 bad usage or a failure of input or output, 3 done with something to look at. A program has no status of its own: it writes a digit to descriptor 3, which bin/program
 // turns into one. It is told last, when every file that the program opened is closed: where nobody has opened descriptor 3, a file could have that number.
 pub fn status(n: u8) {
     match n {
         0 => io::write_all(3, b"0"),
         1 => io::write_all(3, b"1"),
+        3 => io::write_all(3, b"3"),
         _ => io::write_all(3, b"2"),
     }
     ;

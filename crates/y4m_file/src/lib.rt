@@ -6,6 +6,8 @@ use def::Answer;
 use def::Format;
 use libc::STDERR_FILENO;
 use libc::STDOUT_FILENO;
+use say::end_line;
+use say::field;
 use y4m_frame::FrameRead;
 
 mod rooms;
@@ -175,16 +177,6 @@ fn stopped(frames: usize, number: u8, place: usize, failed: bool) -> Ended {
 }
 
 // ---- what is told
-
-// A number after its name.
-pub fn field(name: &[u8], n: usize) {
-    io::write_all(STDOUT_FILENO, name);
-    io::print_decimal(STDOUT_FILENO, n as u64);
-}
-
-pub fn end_line() {
-    io::write_all(STDOUT_FILENO, b"\n");
-}
 
 // A refusal with its place, on standard error: `byte 9301: refused=18: a stream that ends before its frame does`.
 pub fn refused(number: u8, place: usize) {
