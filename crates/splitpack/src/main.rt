@@ -1,0 +1,113 @@
+// Packs the split map of a picture of W by H into a file of its digits as bits, or unpacks it from there, and tells how many bytes the digits take. The exit
+// status is 0, or 3 where a packed file goes on behind the map, 1 for a refusal and 2 for a failure.
+use def::Answer;
+use say::end_line;
+use say::field;
+
+// ---- room for the largest picture's map, which has 4,096 roots of 1,024 bytes, and for its digits, 85 bits a root; and a byte more of each, so that a file
+// that is too long is seen. A call for each keeps the checker from looking into the array.
+
+fn map_room() -> [u8; 4194305] {
+    [0u8; 4194305]
+}
+
+fn digits_room() -> [u8; 43521] {
+    [0u8; 43521]
+}
+
+// ---- both ways
+
+fn refused(r: def::Refusal) -> u8 {
+    say::refused(def::refusal_number(r));
+    1
+}
+
+// How many bytes the digits take, at position `at` behind them, in bits.
+fn tell(at: usize) {
+    field(b"bytes=", at / 8);
+    end_line();
+}
+
+// The map is packed, and its digits are saved.
+fn packed(w: usize, h: usize, map: &[u8], digits: &mut [u8]) -> u8 {
+    let placed = pack::put_map(w, h, map, &mut *digits, 0);
+    let answer = placed.answer;
+    match answer {
+        Answer::Refused(r) => refused(r),
+        Answer::Done => {
+            let n = placed.at / 8;
+            if digits.len() < n {
+                return 2;
+            }
+            if !map_file::save(5, &digits[..n]) {
+                return 2;
+            }
+            tell(placed.at);
+            0
+        }
+    }
+}
+
+// The digits are unpacked, and the map is saved.
+fn unpacked(w: usize, h: usize, digits: &[u8], map: &mut [u8]) -> u8 {
+    let placed = pack::get_map(w, h, digits, 0, &mut *map);
+    let answer = placed.answer;
+    match answer {
+        Answer::Refused(r) => refused(r),
+        Answer::Done => {
+            if !map_file::save(5, map) {
+                return 2;
+            }
+            tell(placed.at);
+            if placed.at / 8 < digits.len() {
+                say::line(b"the file goes on behind the map");
+                return 3;
+            }
+            0
+        }
+    }
+}
+
+// Reads the file and goes the way that was asked for. Answers the exit status.
+fn one_map(file: i32, w: usize, h: usize, unpack: bool) -> u8 {
+    let mut map = map_room();
+    let mut digits = digits_room();
+    if unpack {
+        let n = io::read_full(file, &mut digits);
+        let roots = marks::root_count(w, h);
+        if 4096 < roots {
+            return 2;
+        }
+        let bytes = 1024 * roots;
+        return unpacked(w, h, &digits[..n], &mut map[..bytes]);
+    }
+    let n = io::read_full(file, &mut map);
+    packed(w, h, &map[..n], &mut digits)
+}
+
+// ---- the arguments
+
+// Whether argument 1 is this word.
+fn asked(word: &[u8]) -> bool {
+    let mut text = io::buffer();
+    let n = os::arg(1, &mut text);
+    map_file::same(&text[..n], word)
+}
+
+fn main() {
+    let unpack = asked(b"unpack");
+    if (os::arg_count() != 6) | !(unpack | asked(b"pack")) {
+        say::line(b"usage: splitpack pack W H MAP DIGITS");
+        say::line(b"       splitpack unpack W H DIGITS MAP");
+        say::status(2);
+        return;
+    }
+    let file = map_file::open(4);
+    if file < 0 {
+        say::status(2);
+        return;
+    }
+    let status = one_map(file, map_file::side_arg(2), map_file::side_arg(3), unpack);
+    libc::close(file);
+    say::status(status);
+}
