@@ -3,6 +3,7 @@ pub mod BandCalls
 pub mod Calls
 pub mod Demand3
 pub mod Edges
+pub mod Finished
 pub mod Joined
 pub mod Lanes
 pub mod Lengths

@@ -241,7 +241,7 @@ module _ (i : Input) (ok : check i ≡ Done) where
   accepted-to zero l = λ k h. absurd (omega arith)
   accepted-to (suc n) l = one-more n l (accepted-to n (omega arith))
 
-whole-fine : (i : Input) → outcome i .reading .number ≡ 0 → check i ≡ Done
+pub whole-fine : (i : Input) → outcome i .reading .number ≡ 0 → check i ≡ Done
 unfolding outcome
 whole-fine i e = go (check i) refl e where
   go : (a : Answer) → check i ≡ a → afterChecks (refused i) (done i) a .reading .number ≡ 0 → check i ≡ Done

@@ -3,6 +3,7 @@ pub mod Bands
 pub mod Deblock
 pub mod Demand3
 pub mod Edges
+pub mod Finished
 pub mod Luma
 pub mod Moved
 pub mod Plan
