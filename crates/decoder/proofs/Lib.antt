@@ -1,4 +1,5 @@
 pub mod Accepted
+pub mod Face
 pub mod Joined
 pub mod Numbers
 pub mod Promises

@@ -1,3 +1,4 @@
+pub mod Face
 pub mod Joined
 pub mod Numbers
 pub mod Promise
