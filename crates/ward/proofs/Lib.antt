@@ -1,0 +1,10 @@
+pub mod Answers
+pub mod Finished
+pub mod Ladder
+pub mod Planes
+pub mod Promises
+pub mod Runs
+pub mod Stores
+pub mod Takes
+pub mod Turns
+pub mod Whole
