@@ -239,6 +239,14 @@ uint8_t lomsakeun_import_frame(
     const uint8_t *s, size_t s_len, uint16_t *y, size_t y_len, uint16_t *u, size_t u_len, uint16_t *v, size_t v_len,
     size_t *w, size_t *h, size_t *f, size_t *g, size_t *a, size_t *b, size_t *next, size_t *at);
 
+/* A row of a crop window for the ward's screen (ward): 8-bit samples of plane 0, 1 or 2 (Y, U, V), first in out, which has w bytes for every row; the rest
+ * of out is left as it was. preview: the run at half the size. turn_plane and turn_row are the turn: a run starts at 0 and 0, and each call hands the next
+ * one back, or the same where it is refused. plane and row name the row that is asked for. */
+uint8_t lomsakeun_ward_row(
+    bool preview, size_t *turn_plane, size_t *turn_row, size_t plane, size_t row, bool colour, size_t w, size_t h,
+    const uint16_t *y, size_t y_len, const uint16_t *u, size_t u_len, const uint16_t *v, size_t v_len,
+    size_t left, size_t top, size_t right, size_t bottom, uint8_t *out, size_t out_len, size_t *written);
+
 #ifdef __cplusplus
 }
 #endif

@@ -323,4 +323,27 @@ extern "C" {
         next: *mut usize,
         at: *mut usize,
     ) -> u8;
+    pub fn lomsakeun_ward_row(
+        preview: bool,
+        turn_plane: *mut usize,
+        turn_row: *mut usize,
+        plane: usize,
+        row: usize,
+        colour: bool,
+        w: usize,
+        h: usize,
+        y: *const u16,
+        y_len: usize,
+        u: *const u16,
+        u_len: usize,
+        v: *const u16,
+        v_len: usize,
+        left: usize,
+        top: usize,
+        right: usize,
+        bottom: usize,
+        out: *mut u8,
+        out_len: usize,
+        written: *mut usize,
+    ) -> u8;
 }

@@ -1,4 +1,5 @@
 pub mod Masks
 pub mod Ranks
+pub mod Screens
 pub mod Once
 pub mod Deblocks

@@ -1,5 +1,5 @@
 -- No second outcome satisfies the contract of a call. The rules of the other crates have their own; these are the rules that are stated here.
---     intra-once, inter-once, ranks-once    over the rules' own records
+--     intra-once, inter-once, ranks-once, ward-row-once    over the rules' own records
 --     mask-once-read, ranks-once-read    over the contract as the checker reads it from the source
 -- Assumes nothing.
 use mathlib.Core.Path.{_≡_, sym, _∙_}
@@ -12,6 +12,8 @@ use Rattle.laws.proofs.Calls.{one-outcome}
 use Rattle.avail.specs.Around.{Input}
 use Rattle.decoder_c.specs.Masks as masks
 use Rattle.decoder_c.specs.Ranks as ranks
+use Rattle.decoder_c.specs.Screen as screen
+use Rattle.ward.specs.RowCall as ward-row
 use Rattle.decoder_c.proofs.neighbours.lomsakeun_get_avail_intra.Reads as mask-reads
 use Rattle.decoder_c.proofs.neighbours.lomsakeun_get_avail_intra.Kinds as mask-kinds
 use Rattle.decoder_c.proofs.neighbours.lomsakeun_get_mpm.Reads as ranks-reads
@@ -25,6 +27,9 @@ inter-once = one-outcome masks.interOutcome
 
 pub ranks-once : (i : ranks.Input) (a b : ranks.Outcome) → Gives ranks.outcome i a → Gives ranks.outcome i b → a ≡ b
 ranks-once = one-outcome ranks.outcome
+
+pub ward-row-once : (i : ward-row.Input) (a b : screen.Outcome) → Gives screen.rowOutcome i a → Gives screen.rowOutcome i b → a ≡ b
+ward-row-once = one-outcome screen.rowOutcome
 
 -- the number and the mask of a call
 abbrev seen-mask : (κs : Lfts 2) → resT mask-kinds.r κs .Denot → AtExit (endedOf 2 mask-kinds.ps mask-kinds.r) κs → masks.Outcome

@@ -1,4 +1,5 @@
 pub mod Flags
 pub mod Masks
 pub mod Ranks
+pub mod Screen
 pub mod Streams

@@ -11,6 +11,7 @@ mod compact;
 mod deblock;
 mod neighbours;
 mod reconstruct;
+mod screen;
 mod streams;
 mod tree;
 
