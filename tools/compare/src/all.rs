@@ -39,6 +39,7 @@ pub const CALLS: [Call; 16] = [
     call("mend", mend::draw, mend::damaged, 10),
     call("listing", listing::draw, listing::damaged, 2),
     call("streams", streams::draw, streams::damaged, 50),
+    call("ward_row", screen::draw, screen::damaged, 50),
 ];
 
 /// The calls over whole pictures: each has all of a run's pictures.

@@ -5,7 +5,7 @@ use std::path::Path;
 
 type Recorder = fn(&mut Tape);
 
-const ALL: [(&str, Recorder); 14] = [
+const ALL: [(&str, Recorder); 15] = [
     ("chroma_qp", chroma_qp::record),
     ("avail", avail::record),
     ("ranks", ranks::record),
@@ -20,6 +20,7 @@ const ALL: [(&str, Recorder); 14] = [
     ("pack", pack::record),
     ("sheet", sheet::record),
     ("streams", streams::record),
+    ("screen", screen::record),
 ];
 
 /// Records one name, or all of them, each to its replay's folder where the repository has one. True if the Rust and the model never differed.

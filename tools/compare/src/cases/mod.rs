@@ -20,6 +20,7 @@ pub mod pack;
 pub mod predict;
 pub mod ranks;
 pub mod recon;
+pub mod screen;
 pub mod sheet;
 pub mod streams;
 pub mod tape;

@@ -12,6 +12,7 @@ pub mod pack;
 pub mod predict;
 pub mod ranks;
 pub mod residual;
+pub mod screen;
 pub mod sheet;
 pub mod streams;
 pub mod tree;
@@ -36,8 +37,10 @@ pub const BITS: u32 = 16;
 pub const STREAM: u32 = 17;
 pub const SHORT: u32 = 18;
 pub const OLD: u32 = 20;
+pub const WINDOW: u32 = 21;
+pub const TURN: u32 = 22;
 /// One more than the largest number.
-pub const NUMBERS: usize = 21;
+pub const NUMBERS: usize = 23;
 
 /// Width and height: multiples of 4, from 4 to 4096.
 pub fn size_ok(w: usize, h: usize) -> bool {
