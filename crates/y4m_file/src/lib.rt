@@ -13,6 +13,12 @@ use y4m_frame::FrameRead;
 mod rooms;
 
 pub use rooms::frames;
+pub use rooms::large_bytes;
+pub use rooms::large_chroma;
+pub use rooms::large_luma;
+pub use rooms::small_bytes;
+pub use rooms::small_chroma;
+pub use rooms::small_luma;
 
 // How reading a file's frames ended: after how many, and where. The number is 0 at the end of the file; else it is that of the refusal of the next
 // frame, and the place that of the byte which offends, or where the file ends too early, or where the frame starts. Or reading or writing failed.
@@ -24,11 +30,11 @@ struct Ended {
 }
 
 // What one frame came to: whether there may be more; else the number of its refusal and where it offends, from its own start on, or a failure.
-struct Turn {
-    more: bool,
-    number: u8,
-    at: usize,
-    failed: bool,
+pub struct Turn {
+    pub more: bool,
+    pub number: u8,
+    pub at: usize,
+    pub failed: bool,
 }
 
 // ---- reading
@@ -92,8 +98,8 @@ fn after(more: bool, number: u8, at: usize, failed: bool) -> Turn {
     }
 }
 
-// Writes a frame again.
-fn put_frame(w: usize, h: usize, y: &[u16], u: &[u16], v: &[u16], bytes: &mut [u8]) -> Turn {
+// Writes a frame.
+pub fn put_frame(w: usize, h: usize, y: &[u16], u: &[u16], v: &[u16], bytes: &mut [u8]) -> Turn {
     match y4m_frame::write_frame(Format::Colour, w, h, y, u, v, bytes) {
         Answer::Refused(r) => after(false, def::refusal_number(r), 0, false),
         Answer::Done => {
@@ -105,12 +111,11 @@ fn put_frame(w: usize, h: usize, y: &[u16], u: &[u16], v: &[u16], bytes: &mut [u
     }
 }
 
-// Reads a frame, checks it, and where it is to be copied writes it again.
-fn one_frame(
+// Reads the next frame and checks it: no more, no number and no failure at the end of the file.
+pub fn next_frame(
     file: i32,
     w: usize,
     h: usize,
-    copy: bool,
     bytes: &mut [u8],
     y: &mut [u16],
     u: &mut [u16],
@@ -130,13 +135,26 @@ fn one_frame(
             let number = def::refusal_number(r);
             after(false, number, place_in(number, at, n), false)
         }
-        FrameRead::Read(_) => {
-            if copy {
-                return put_frame(w, h, y, u, v, bytes);
-            }
-            after(true, 0, 0, false)
-        }
+        FrameRead::Read(_) => after(true, 0, 0, false),
     }
+}
+
+// The next frame, where it is to be copied written again.
+fn one_frame(
+    file: i32,
+    w: usize,
+    h: usize,
+    copy: bool,
+    bytes: &mut [u8],
+    y: &mut [u16],
+    u: &mut [u16],
+    v: &mut [u16],
+) -> Turn {
+    let t = next_frame(file, w, h, bytes, y, u, v);
+    if copy & t.more {
+        return put_frame(w, h, y, u, v, bytes);
+    }
+    t
 }
 
 // ---- all frames
@@ -177,6 +195,11 @@ fn stopped(frames: usize, number: u8, place: usize, failed: bool) -> Ended {
 }
 
 // ---- what is told
+
+// A number of a header, or another where it has none.
+pub fn or_else(n: usize, other: usize) -> usize {
+    if n == 0 { other } else { n }
+}
 
 // A refusal with its place, on standard error: `byte 9301: refused=18: a stream that ends before its frame does`.
 pub fn refused(number: u8, place: usize) {

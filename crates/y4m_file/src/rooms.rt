@@ -7,27 +7,27 @@ use crate::told;
 
 // ---- arrays: a call for each keeps the checker from looking into it
 
-fn small_bytes() -> [u8; 786438] {
+pub fn small_bytes() -> [u8; 786438] {
     [0u8; 786438]
 }
 
-fn small_luma() -> [u16; 262144] {
+pub fn small_luma() -> [u16; 262144] {
     [0u16; 262144]
 }
 
-fn small_chroma() -> [u16; 65536] {
+pub fn small_chroma() -> [u16; 65536] {
     [0u16; 65536]
 }
 
-fn large_bytes() -> [u8; 50331654] {
+pub fn large_bytes() -> [u8; 50331654] {
     [0u8; 50331654]
 }
 
-fn large_luma() -> [u16; 16777216] {
+pub fn large_luma() -> [u16; 16777216] {
     [0u16; 16777216]
 }
 
-fn large_chroma() -> [u16; 4194304] {
+pub fn large_chroma() -> [u16; 4194304] {
     [0u16; 4194304]
 }
 

@@ -5,11 +5,6 @@ use libc::STDOUT_FILENO;
 use y4m_header::HeaderRead;
 use y4m_header::HeaderWritten;
 
-// A number of a header, or another where it has none.
-fn or_else(n: usize, other: usize) -> usize {
-    if n == 0 { other } else { n }
-}
-
 // Writes the header; answers the refusal's number, 0 where it is done, and 255 where writing failed.
 fn put_header(w: usize, h: usize, f: usize, g: usize, a: usize, b: usize) -> u8 {
     let mut head = [0u8; 256];
@@ -17,10 +12,10 @@ fn put_header(w: usize, h: usize, f: usize, g: usize, a: usize, b: usize) -> u8 
         Format::Colour,
         w,
         h,
-        or_else(f, 25),
-        or_else(g, 1),
-        or_else(a, 1),
-        or_else(b, 1),
+        y4m_file::or_else(f, 25),
+        y4m_file::or_else(g, 1),
+        y4m_file::or_else(a, 1),
+        y4m_file::or_else(b, 1),
         &mut head,
     ) {
         HeaderWritten::Refused(r) => def::refusal_number(r),
