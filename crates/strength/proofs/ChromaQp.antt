@@ -1,19 +1,26 @@
 -- A chroma QP as the code finds it: the comparisons are the clips, and the sums fit.
 --     offset-fits, sum-fits, machine-terms, machine-sum    the sum of a QP and an offset, in 16 bits
 --     index-low, index-high, index-within    its clip: a sum below -12, over 57, and between
+--     mapped-most, qps-most    a mapped QP is at most 51
 -- Assumes nothing.
 use Prim.Native.Nat.{ℕ, suc, _+_, _-_, _≤_, _<_}
 use mathlib.Core.Path.{_≡_, refl, ap, _∙_}
-use mathlib.Core.Bool.{true, false, cond}
+use mathlib.Core.Bool.{Bool, true, false, cond}
+use mathlib.Core.List.{List}
+use native.Mathlib.Decide.{decLt}
 use native.Mathlib.Omega.{arith}
 use borrow.Author.Tests.{ltb-true, ltb-false, le-ltb}
 use lib.IntN.{ℤ, pos, negsuc, natAbs, _+ℤ_}
+use lib.ListN.{length, getD, List·getD-eq-default}
 use lib.Signed.{ltZ, mag}
 use mir.Syntax.{w8, w16}
 use mir.Val.{SFits, toZ, ofZ}
-use Rattle.laws.specs.Clip.{maxZ, minZ, clipZ}
+use Rattle.laws.specs.Clip.{maxZ, minZ, clipZ, heldTo}
+use Rattle.laws.proofs.Held.{held-low, held-high, held-within}
 use Rattle.laws.proofs.Signs.{by-lt}
+use Rattle.laws.proofs.Tabulate.{length-tabulate, getD-tabulate}
 use Rattle.laws.proofs.Widths.{mag-add, sfits, back}
+use Rattle.strength.specs.ChromaQp.{mappedZ, mapped, mappedQps}
 
 -- ---- the sum of a QP and an offset
 
@@ -70,3 +77,21 @@ index-within (negsuc n) a b =
       same = by-lt (λ t. 12 - suc n ≡ natAbs (pos 12 +ℤ cond t (negsuc n) (negsuc 11))) n 11
           (λ h. rw (le-ltb 12 (suc n) (omega arith))) (λ h. (omega arith));
     }
+
+-- ---- a mapped QP
+
+held-most : (z : ℤ) (a b : Bool) → ltZ z (pos 0) ≡ a → ltZ (pos 51) z ≡ b → heldTo 51 z ≤ 51
+held-most z true b p q = omega (arith, held-low 51 z p)
+held-most z false true p q = omega (arith, held-high 51 z q)
+held-most z false false p q = let h = held-within 51 z p q in omega arith
+
+pub mapped-most : (table : List ℤ) (offset : ℤ) (qp : ℕ) → mapped table offset qp ≤ 51
+mapped-most table offset qp = held-most (mappedZ table offset qp) _ _ refl refl
+
+pub qps-most : (table : List ℤ) (offset : ℤ) (qp : ℕ) → getD (mappedQps table offset) qp 0 ≤ 51
+qps-most table offset qp = at (decLt qp 52) where
+  at : Dec (qp < 52) → getD (mappedQps table offset) qp 0 ≤ 51
+  at (yes h) = rw (getD-tabulate (mapped table offset) 52 qp 0 h) (mapped-most table offset qp)
+  at (no h) =
+      let past : length (mappedQps table offset) ≤ qp = omega (arith, length-tabulate (mapped table offset) 52) in
+      rw (List·getD-eq-default (mappedQps table offset) 0 past) (omega arith)

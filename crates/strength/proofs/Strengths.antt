@@ -1,17 +1,27 @@
 -- Laws of a pass's strength entries.
 --     at-luma, at-u, at-v    the entry at a place, by the plane that has it
+--     lumas, whole    the table as it is written: the lent entries, then four rows for each chroma plane, copied from them at the mapped QPs
 --     entries-long, luma-entry, u-entry, v-entry    what callers cite: the table's length, and the entry of each plane in a row at a QP
 -- Assumes nothing.
 use Prim.Native.Nat.{ℕ, _+_, _*_, _/_, _%_, _≤_, _<_}
-use mathlib.Core.Path.{_≡_, _∙_}
+use mathlib.Core.Logic.{_⊎_, inl, inr}
+use mathlib.Core.Path.{_≡_, refl, sym, _∙_}
 use mathlib.Core.List.{List}
+use native.Mathlib.Nat.{zero-add}
+use native.Mathlib.Decide.{decLt}
 use native.Mathlib.Omega.{arith}
 use borrow.Author.Tests.{lt-ltb, le-ltb}
 use lib.IntN.{ℤ}
-use lib.ListN.{length, getD}
+use lib.ListN.{length, getD, List·getD-eq-default}
+use Rattle.laws.specs.Plane.{withRow}
+use Rattle.laws.proofs.Fill.{Upto}
+use Rattle.laws.proofs.Parts.{rowed-part}
+use Rattle.laws.proofs.Planes.{Rowed, rowed-all}
 use Rattle.laws.proofs.Tabulate.{length-tabulate, getD-tabulate}
-use Rattle.strength.specs.ChromaQp.{mapped}
-use Rattle.strength.specs.Entries.{chromaEntry, entryAt, entriesOf}
+use Rattle.laws.proofs.Whole.{whole-row}
+use Rattle.strength.specs.ChromaQp.{mapped, mappedQps}
+use Rattle.strength.specs.Entries.{chromaEntry, entryAt, entriesOf, rowsBy}
+use Rattle.strength.proofs.ChromaQp.{mapped-most}
 
 module _ (strengths : List ℕ) (tableU : List ℤ) (uOffset : ℤ) (tableV : List ℤ) (vOffset : ℤ) where
   -- ---- the entry at a place
@@ -28,7 +38,60 @@ module _ (strengths : List ℕ) (tableU : List ℤ) (uOffset : ℤ) (tableV : Li
   unfolding entryAt
   at-v i p = rw (le-ltb i 208 (omega arith), le-ltb i 416 p)
 
-  -- ---- the table
+  -- ---- the table as it is written: from zeros, l₀
+
+  -- a plane's rows, copied from a list that starts with the lent entries
+  rows-chroma : (table : List ℤ) (offset : ℤ) (l : List ℕ) → ((k : ℕ) → k < 208 → getD l k 0 ≡ getD strengths k 0) →
+      (j : ℕ) → j < 208 → rowsBy l (mappedQps table offset) j ≡ chromaEntry strengths table offset (j / 52) (j % 52)
+  unfolding chromaEntry
+  rows-chroma table offset l same j h =
+      rw (getD-tabulate (mapped table offset) 52 (j % 52) 0 (omega arith))
+      (same (52 * (j / 52) + mapped table offset (j % 52)) (omega (arith, mapped-most table offset (j % 52))))
+
+  module _ (l₀ : List ℕ) where
+    -- i of the lent entries are written, all or 208
+    pub lumas : (l : List ℕ) (i : ℕ) → ((k : ℕ) → k < 208 → getD l₀ k 0 ≡ 0) → i ≤ 208 → (208 ≤ i) ⊎ (length strengths ≤ i) →
+        Upto 0 (λ (k : ℕ). getD strengths k 0) l₀ l i → Rowed 0 0 (entryAt strengths tableU uOffset tableV vOffset) l₀ l 208
+    lumas l i zeros few all u = record { long = u .long; done = λ j p. rw (zero-add j) (at j p (decLt j i)); low = λ k p. absurd (none k p); high = λ k p. u .above k (omega arith) } where
+      none : (k : ℕ) → k < 0 → ⊥
+      none k p = omega arith
+
+      rest : (j : ℕ) → j < 208 → i ≤ j → (208 ≤ i) ⊎ (length strengths ≤ i) → getD l j 0 ≡ getD strengths j 0
+      rest j p q (inl e) = absurd (omega arith)
+      rest j p q (inr e) = u .above j q ∙ zeros j p ∙ sym (List·getD-eq-default strengths 0 (omega arith))
+
+      at : (j : ℕ) → j < 208 → Dec (j < i) → getD l j 0 ≡ entryAt strengths tableU uOffset tableV vOffset j
+      at j p (yes q) = u .below j q ∙ sym (at-luma j p)
+      at j p (no q) = rest j p (omega arith) all ∙ sym (at-luma j p)
+
+    module _ (l : List ℕ) (long : length l₀ ≡ 624) (first : Rowed 0 0 (entryAt strengths tableU uOffset tableV vOffset) l₀ l 208) where
+      abbrev with-u : List ℕ
+      with-u = withRow 0 208 208 (rowsBy l (mappedQps tableU uOffset)) l
+
+      second : Rowed 0 0 (entryAt strengths tableU uOffset tableV vOffset) l₀ with-u 416
+      second = rowed-part 0 0 _ l₀ l 208 208 _ (omega arith) same first where
+        same : (j : ℕ) → j < 208 → rowsBy l (mappedQps tableU uOffset) j ≡ entryAt strengths tableU uOffset tableV vOffset (208 + j)
+        same j h =
+            let r : (208 + j) % 208 / 52 ≡ j / 52 = omega arith in
+            let q : (208 + j) % 52 ≡ j % 52 = omega arith in
+            rows-chroma tableU uOffset l (λ k p. rw (zero-add k) at (first .done k p) ∙ at-luma k p) j h ∙ sym (at-u (208 + j) (omega arith) (omega arith) ∙ rw (r, q))
+
+      third : withRow 0 416 208 (rowsBy with-u (mappedQps tableV vOffset)) with-u ≡ entriesOf strengths tableU uOffset tableV vOffset
+      unfolding entriesOf
+      third =
+          rowed-all 0 0 624 _ l₀ _ 624 refl (rowed-part 0 0 _ l₀ with-u 416 208 _ (omega arith) same second)
+          ∙ whole-row 0 624 _ l₀ long where
+            same : (j : ℕ) → j < 208 → rowsBy with-u (mappedQps tableV vOffset) j ≡ entryAt strengths tableU uOffset tableV vOffset (416 + j)
+            same j h =
+                let r : (416 + j) % 208 / 52 ≡ j / 52 = omega arith in
+                let q : (416 + j) % 52 ≡ j % 52 = omega arith in
+                rows-chroma tableV vOffset with-u (λ k p. rw (zero-add k) at (second .done k (omega arith)) ∙ at-luma k p) j h ∙ sym (at-v (416 + j) (omega arith) ∙ rw (r, q))
+
+      pub whole : (u v l₁ l₂ : List ℕ) → u ≡ mappedQps tableU uOffset → v ≡ mappedQps tableV vOffset →
+          l₁ ≡ withRow 0 208 208 (rowsBy l u) l → l₂ ≡ withRow 0 416 208 (rowsBy l₁ v) l₁ → l₂ ≡ entriesOf strengths tableU uOffset tableV vOffset
+      whole u v l₁ l₂ eu ev e₁ e₂ = rw (e₂, e₁, eu, ev) third
+
+  -- ---- what callers cite
 
   pub entries-long : length (entriesOf strengths tableU uOffset tableV vOffset) ≡ 624
   unfolding entriesOf

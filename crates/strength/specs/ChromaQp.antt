@@ -5,6 +5,7 @@ use mathlib.Core.List.{List}
 use lib.IntN.{ℤ, pos, negsuc, natAbs, _+ℤ_}
 use lib.ListN.{getD}
 use Rattle.laws.specs.Clip.{clipZ, heldTo}
+use Rattle.laws.specs.Index.{tabulate}
 
 -- clip(-12, 57, QP + offset), and its index in a table, 12 more
 unfoldable pub indexOf : (offset : ℤ) → ℕ → ℕ
@@ -19,3 +20,7 @@ heldQp z = heldTo 51 z
 
 abbrev pub mapped : (table : List ℤ) → (offset : ℤ) → ℕ → ℕ
 mapped table offset qp = heldQp (mappedZ table offset qp)
+
+-- those of the 52 QPs of a row
+abbrev pub mappedQps : (table : List ℤ) → (offset : ℤ) → List ℕ
+mappedQps table offset = tabulate 52 (mapped table offset)

@@ -13,6 +13,10 @@ use Rattle.strength.specs.ChromaQp.{mapped}
 unfoldable pub chromaEntry : (strengths : List ℕ) → (table : List ℤ) → (offset : ℤ) → (row qp : ℕ) → ℕ
 chromaEntry strengths table offset row qp = getD strengths (52 * row + mapped table offset qp) 0
 
+-- the place i of four rows copied from a list's first four, each entry at the QP that stands in place of its own
+abbrev pub rowsBy : (list qps : List ℕ) → ℕ → ℕ
+rowsBy list qps i = getD list (52 * (i / 52) + getD qps (i % 52) 0) 0
+
 -- at place i: luma's below 208, U's below 416, and V's
 unfoldable pub entryAt : (strengths : List ℕ) → (tableU : List ℤ) → (uOffset : ℤ) → (tableV : List ℤ) → (vOffset : ℤ) → ℕ → ℕ
 entryAt strengths tableU uOffset tableV vOffset i =

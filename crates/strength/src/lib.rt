@@ -1,10 +1,11 @@
 // The strength entries of a pass, one table for the three planes, and the QP of a chroma plane, by a lent table.
 // The Rust beside it: df.rs, evc_tbl_df_st and the chroma lookups into it of evc_deblock_cu_hor and evc_deblock_cu_ver.
 ghost use mathlib.Core.Path.{_≡_};
-ghost use Prim.Native.Nat.{_≤_, _<_};
-ghost use lib.ListN.{getD};
-ghost use Rattle.strength.specs.ChromaQp.{indexOf, mappedZ, heldQp};
-ghost use Rattle.strength.specs.Entries.{chromaEntry, entryAt, entriesOf};
+ghost use Prim.Native.Nat.{ℕ, _+_, _≤_};
+ghost use lib.ListN.{length, getD};
+ghost use Rattle.laws.specs.Plane.{withRow};
+ghost use Rattle.strength.specs.ChromaQp.{indexOf, heldQp, mapped, mappedQps};
+ghost use Rattle.strength.specs.Entries.{rowsBy, entriesOf};
 
 // ---- a chroma QP
 
@@ -22,65 +23,67 @@ fn index_of(offset: i8, qp: u8) -> usize
     }
 }
 
-// What the table maps a QP to, and 0 past its end.
-fn mapped(table: &[i8], offset: i8, qp: u8) -> i8
-    ensures { λ r. ⌜ r ≡ mappedZ (now (table .entry)) offset qp ⌝ }
-{
-    let i = index_of(offset, qp);
-    if i < table.len() { table[i] } else { 0 }
-}
-
 // A mapped QP at the nearest end of 0..51.
-fn held_qp(qp: i8) -> usize
-    ensures { λ r. ⌜ (r ≡ heldQp qp) × (r ≤ 51) ⌝ }
+fn held_qp(qp: i8) -> u8
+    ensures { λ r. ⌜ r ≡ heldQp qp ⌝ }
 {
     if qp < 0 {
         0
     } else if 51 < qp {
         51
     } else {
-        qp as usize
+        qp as u8
     }
+}
+
+// The QP that the table maps a QP to, held; 0 where the table does not reach so far.
+fn mapped(table: &[i8], offset: i8, qp: u8) -> u8
+    ensures { λ r. ⌜ r ≡ mapped (now (table .entry)) offset qp ⌝ }
+{
+    let i = index_of(offset, qp);
+    if i < table.len() {
+        held_qp(table[i])
+    } else {
+        0
+    }
+}
+
+// Those of a whole row. A table is looked up here and nowhere else: once for each QP, and not for each entry.
+fn mapped_qps(table: &[i8], offset: i8) -> [u8; 52]
+    ensures { λ r. ⌜ r ≡ mappedQps (now (table .entry)) offset ⌝ }
+{
+    let mut qps = [0u8; 52];
+    let mut qp = 0;
+    while qp < 52 {
+        qps[qp] = mapped(table, offset, qp as u8);
+        qp += 1;
+    }
+    qps
 }
 
 // ---- the entries
 
-// The lent entry at i, and 0 past the end.
-fn lent_at(strengths: &[u8], i: usize) -> u8
-    ensures { λ r. ⌜ r ≡ getD (now (strengths .entry)) i 0 ⌝ }
+// Copies the row at `from` to the row at `to`, for each QP the entry at the mapped one.
+fn put_row(list: &mut [u8], from: usize, to: usize, qps: &[u8; 52])
+    requires { ⌜ (from + 52 ≤ to) × (to + 52 ≤ length (now list)) × ((qp : ℕ) → getD (now qps) qp 0 ≤ 51) ⌝ }
+    ensures { λ _. ⌜ now (list .exit) ≡ withRow 0 to 52 (λ (qp : ℕ). getD (now (list .entry)) (from + getD (now (qps .entry)) qp 0) 0) (now (list .entry)) ⌝ }
 {
-    if i < strengths.len() { strengths[i] } else { 0 }
-}
-
-// A chroma plane's entry in a row at a QP: the lent one at what the QP is mapped to.
-fn chroma_entry(strengths: &[u8], table: &[i8], offset: i8, row: usize, qp: u8) -> u8
-    requires { ⌜ row ≤ 3 ⌝ }
-    ensures { λ r. ⌜ r ≡ chromaEntry (now (strengths .entry)) (now (table .entry)) offset row qp ⌝ }
-{
-    lent_at(strengths, 52 * row + held_qp(mapped(table, offset, qp)))
-}
-
-// The entry at place i of the three planes'.
-fn entry_at(
-    strengths: &[u8],
-    table_u: &[i8],
-    u_offset: i8,
-    table_v: &[i8],
-    v_offset: i8,
-    i: usize,
-) -> u8
-    requires { ⌜ i < 624 ⌝ }
-    ensures { λ r. ⌜ r ≡ entryAt (now (strengths .entry)) (now («table_u» .entry)) «u_offset» (now («table_v» .entry)) «v_offset» i ⌝ }
-{
-    if i < 208 {
-        return lent_at(strengths, i);
+    let mut qp = 0;
+    while qp < 52 {
+        list[to + qp] = list[from + qps[qp] as usize];
+        qp += 1;
     }
-    let row = i % 208 / 52;
-    let qp = (i % 52) as u8;
-    if i < 416 {
-        chroma_entry(strengths, table_u, u_offset, row, qp)
-    } else {
-        chroma_entry(strengths, table_v, v_offset, row, qp)
+}
+
+// A chroma plane's four rows, from `at` on: luma's at the mapped QPs.
+fn put_rows(list: &mut [u8], at: usize, qps: &[u8; 52])
+    requires { ⌜ (208 ≤ at) × (at + 208 ≤ length (now list)) × ((qp : ℕ) → getD (now qps) qp 0 ≤ 51) ⌝ }
+    ensures { λ _. ⌜ now (list .exit) ≡ withRow 0 at 208 (rowsBy (now (list .entry)) (now (qps .entry))) (now (list .entry)) ⌝ }
+{
+    let mut row = 0;
+    while row < 4 {
+        put_row(list, 52 * row, at + 52 * row, qps);
+        row += 1;
     }
 }
 
@@ -95,10 +98,19 @@ pub fn entries(
     ensures { λ r. ⌜ r ≡ entriesOf (now (strengths .entry)) (now («table_u» .entry)) «u_offset» (now («table_v» .entry)) «v_offset» ⌝ }
 {
     let mut list = [0u8; 624];
+    let n = if strengths.len() < 208 {
+        strengths.len()
+    } else {
+        208
+    };
     let mut i = 0;
-    while i < 624 {
-        list[i] = entry_at(strengths, table_u, u_offset, table_v, v_offset, i);
+    while i < n {
+        list[i] = strengths[i];
         i += 1;
     }
+    let u = mapped_qps(table_u, u_offset);
+    put_rows(&mut list, 208, &u);
+    let v = mapped_qps(table_v, v_offset);
+    put_rows(&mut list, 416, &v);
     list
 }

@@ -1,42 +1,66 @@
--- `strength::entries` meets its contract: a turn stores the entry at one place more. Assumes nothing.
-use Prim.Native.Nat.{_-_}
-use mathlib.Core.Path.{ap, _∙_}
+-- `strength::entries` meets its contract: the lent entries, then U's rows and V's, copied from them. Assumes nothing.
+use Prim.Native.Nat.{ℕ, _-_, _≤_}
+use mathlib.Core.Logic.{_⊎_, inl, inr, ⊎-elim}
+use mathlib.Core.Path.{refl, ap, _∙_}
 use native.Mathlib.Omega.{arith}
 use borrow.Author.Needs.{needs}
 use denote.Ref.{now}
-use lib.IntN.{ℤ}
+use lib.ListN.{length, getD, getD-replicate}
 use mir.Syntax.{w8}
-use mir.Val.{toZ, ofZ}
-use Rattle.laws.specs.Index.{tabulate}
-use Rattle.laws.proofs.Fill.{Upto, upto-none, upto-more, upto-all}
+use Rattle.laws.proofs.Fill.{Upto, upto-none, upto-more}
+use Rattle.laws.proofs.Planes.{length-row}
 use Rattle.laws.proofs.Widths.{back}
-use Rattle.strength.specs.Entries.{entryAt, entriesOf}
+use Rattle.strength.specs.ChromaQp.{mappedQps}
+use Rattle.strength.proofs.ChromaQp.{qps-most}
+use Rattle.strength.proofs.Strengths.{lumas, whole}
 use Rattle.strength.proofs.entries.Statement.{statement}
 use Rattle.strength.proofs.entries.Tie as tie
 
 abbrev Inv-loop : tie.InvT-loop
-Inv-loop strengths table-u u-offset table-v v-offset list₀ i₀ list i = Upto 0 (entryAt strengths table-u (toZ w8 u-offset) table-v (toZ w8 v-offset)) list₀ list i
+Inv-loop strengths table-u u-offset table-v v-offset list₀ n i₀ list i =
+    (i ≤ n) × (n ≤ 208) × (n ≤ length strengths) × ((208 ≤ n) ⊎ (length strengths ≤ n)) × Upto 0 (λ (k : ℕ). getD strengths k 0) list₀ list i
 
 abbrev μ-loop : tie.MeasureT-loop
-μ-loop strengths table-u u-offset table-v v-offset list₀ i₀ list i = 624 - i
+μ-loop strengths table-u u-offset table-v v-offset list₀ n i₀ list i = n - i
 
 loop-holds : tie.Need-loop-holds Inv-loop μ-loop
-loop-holds c = upto-none 0 _ _
+loop-holds c =
+    let l = length (now (c .before .before .args .strengths)) in
+    let n : (c .if1 .n ≤ 208) × (c .if1 .n ≤ l) × ((208 ≤ c .if1 .n) ⊎ (l ≤ c .if1 .n)) =
+    ⊎-elim (λ p. (omega arith, omega arith, inr (omega arith))) (λ p. (omega arith, omega arith, inl (omega arith))) (c .if1 .came) in
+    (omega arith, n .0, n .1, n .2, upto-none _ _ _)
 
 loop-again : tie.Need-loop-again Inv-loop μ-loop
 loop-again c =
-    let h = c .before .before .loop in
-    upto-more 0 _ _ _ (h .i) _ (omega arith) (c .entry-at .ensures) (h .inv)
+    let l = c .before .before .loop in
+    (omega arith, l .inv .1, l .inv .2, l .inv .3, upto-more 0 _ _ _ (l .i) _ (omega arith) refl (l .inv .4))
+
+put-rows-requires : tie.Need-put-rows-requires Inv-loop μ-loop
+put-rows-requires c κs =
+    (omega arith, omega (arith, c .before .before .before .before .loop .inv .4 .long), rw (c .before .before .mapped-qps .ensures) (qps-most _ _))
+
+put-rows-requires-2 : tie.Need-put-rows-requires-2 Inv-loop μ-loop
+put-rows-requires-2 c κs =
+    let r = c .before .before .before .before in (
+      omega arith,
+      rw (r .put-rows .ensures, length-row) (omega (arith, r .before .before .before .before .before .loop .inv .4 .long)),
+      rw (c .before .before .mapped-qps2 .ensures) (qps-most _ _),
+    )
 
 returns : tie.Need-returns Inv-loop μ-loop
-unfolding entriesOf
 returns c =
-    let s = c .before .before .before in
-    upto-all 0 _ _ _ (c .before .loop .i) (c .loop-test .left) (c .before .loop .inv)
-    ∙ ap (λ (z : ℤ). tabulate 624 (entryAt (now (s .args .strengths)) (now (s .args .table-u)) z (now (s .args .table-v)) (toZ w8 (ofZ w8 (s .args .v-offset))))) (back w8 _ (s .fits .u-offset))
-    ∙ ap (λ (z : ℤ). tabulate 624 (entryAt (now (s .args .strengths)) (now (s .args .table-u)) (s .args .u-offset) (now (s .args .table-v)) z)) (back w8 _ (s .fits .v-offset))
+    let u = c .before .before .before .before .before .before .before .before .before in
+    let l = u .before .before .loop in
+    let s = u .before .before .before .before .before in
+    let all : (208 ≤ l .i) ⊎ (length (now (s .args .strengths)) ≤ l .i) = ⊎-elim (λ p. inl (omega arith)) (λ p. inr (omega arith)) (l .inv .3) in
+    whole _ _ _ _ _ _ _ refl (lumas _ _ _ _ _ _ _ (l .i) (λ k p. getD-replicate 624 k 0 0 (omega arith)) (omega arith) all (l .inv .4)) _ _ _ _
+    (u .mapped-qps .ensures ∙ ap (mappedQps (now (s .args .table-u))) (back w8 _ (s .fits .u-offset)))
+    (c .before .before .before .before .mapped-qps2 .ensures ∙ ap (mappedQps (now (s .args .table-v))) (back w8 _ (s .fits .v-offset)))
+    (c .before .before .before .before .before .before .put-rows .ensures)
+    (c .before .put-rows2 .ensures)
 
 pub entries-spec : {M : Type 1} → statement M
 entries-spec =
     tie.close
-    (tie.spec Inv-loop μ-loop loop-holds (λ c κs. search needs) (λ c. search needs) (λ c. search needs) (λ c. search needs) loop-again returns)
+    (tie.spec Inv-loop μ-loop loop-holds (λ c. search needs) (λ c. search needs) (λ c. search needs) (λ c. search needs) loop-again
+    (λ c κs. search needs) (λ c. search needs) put-rows-requires (λ c κs. search needs) (λ c. search needs) put-rows-requires-2 returns)

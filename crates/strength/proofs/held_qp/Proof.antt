@@ -19,13 +19,13 @@ cast-result : tie.Need-cast-result
 cast-result c = rw (at (c .before .before)) (within c .some, record { fits = omega (arith, within c .most) })
 
 returns : tie.Need-returns
-returns c = (held-low 51 _ (rw (at (c .before)) at (c .if1 .taken)), omega arith)
+returns c = held-low 51 _ (rw (at (c .before)) at (c .if1 .taken))
 
 returns-2 : tie.Need-returns-2
-returns-2 c = (held-high 51 _ (rw (at (c .before .before)) at (c .if2 .taken)), omega arith)
+returns-2 c = held-high 51 _ (rw (at (c .before .before)) at (c .if2 .taken))
 
 returns-3 : tie.Need-returns-3
-returns-3 c = rw (at (c .before .before)) (within c .same, within c .most)
+returns-3 c = rw (at (c .before .before)) (within c .same)
 
 pub held-qp-spec : {M : Type 1} → statement M
 held-qp-spec = tie.close (tie.spec cast-result returns returns-2 returns-3)
