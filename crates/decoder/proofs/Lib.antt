@@ -7,4 +7,5 @@ pub mod Refusing
 pub mod Settled
 pub mod Streams
 pub mod Taking
+pub mod Unread
 pub mod Values
