@@ -23,6 +23,9 @@
 #include <stddef.h>
 #include <stdint.h>
 
+/* The version of these calls; bindings/rust has the same. CHANGELOG.md says what changed. */
+#define LOMSAKEUN_VERSION "0.1.0"
+
 #ifdef __cplusplus
 extern "C" {
 #endif
