@@ -1,13 +1,14 @@
--- No call refuses always: each has an input that it accepts, here with the number of its outcome. (What `listing` accepts is what `edgelist` prints, and what
--- `reconstruct` and `checked_leaves` accept is in `replay_driver`.)
+-- No call refuses always: each has an input that it accepts, here with the number of its outcome. (What `reconstruct` and `checked_leaves` accept is in
+-- `replay_driver`.)
 -- Assumes nothing.
 use mathlib.Core.Path.{_≡_, refl}
 use mathlib.Core.Bool.{true, false}
-use mathlib.Core.List.{List, [], _∷_}
+use mathlib.Core.List.{List, [], _∷_, _++_}
 use Prim.Native.Nat.{ℕ}
 use lib.IntN.{ℤ, pos}
 use lib.ListN.{replicate}
 use Rattle.laws.specs.Bits.{fieldOf}
+use Rattle.laws.specs.Index.{tabulateFrom}
 use Rattle.laws.specs.Scan.{allBelow}
 use Rattle.def.specs.Answers.{answerNumber}
 use Rattle.def.specs.Blocks.{blockSideOk, componentSideOk, blockOk, unitOk}
@@ -39,6 +40,23 @@ use Rattle.split.specs.LeavesCall as leaves
 use Rattle.split.specs.ListCall as list
 use Rattle.split.specs.RootCall as root-list
 use Rattle.split.specs.Walk.{onward, inTurn, leafWalk, byByte, walk}
+use Rattle.bits.specs.Bits.{bitAt}
+use Rattle.marks.specs.ListCall as marked
+use Rattle.marks.specs.TakeCall as marked-by
+use Rattle.marks_rules.specs.Descent.{descendOn, descents as descentsBy, descend as descendBy}
+use Rattle.marks_rules.specs.Marks.{marks, digits}
+use Rattle.marks_rules.specs.Pictures.{joined}
+use Rattle.pack_rules.specs.Form as compact
+use Rattle.pack_rules.specs.GetCall as get-map
+use Rattle.pack_rules.specs.PutCall as put-map
+use Rattle.sheet_lines.specs.Lines.{startOf, lineOf, startsWith, isNumber, numberLine, edgeLine, oldEdge, sameLine, splitsLine, numberAfter, valueFrom, lineOk, firstBad}
+use Rattle.sheet_lines.specs.ReadCall as sheet
+use Rattle.sheet_lines.specs.Words.{widthKey, heightKey, limitKey, ownEdge, splitsKey}
+use Rattle.sheet.specs.Descent.{descents, descend}
+use Rattle.sheet.specs.Listing as listing
+use Rattle.sheet.specs.Text.{sidesOk, foundBy, foundOf, foundIn}
+use Rattle.sheet.specs.Words.{newline}
+use Rattle.decoder.specs.Promise.{refusalIn}
 
 abbrev points : Points
 points = record { count = 1; a = replicate 58 (pos 0); b = replicate 58 (pos 0) }
@@ -121,3 +139,32 @@ given =
 pub accepted : given ≡ replicate 19 0
 unfolding derived.outcome points-check.check points-check.lengthsOk points-check.pointsOk points-check.pivotsOk points-check.pivotOk inOf outOf avail.intraOutcome avail.interOutcome avail.checkOf ranks.numberOutcome ranks.check ranks.lengthsOk ranks.modesOk gather.outcome gather.checkOf gather.lengthsOk gather.samplesOk gather.runAt gather.nearAt predict.outcome predict.lengthsOk recon.outcome recon.blockCheck recon.lengthsOk plane.outcome plane.planeCheck plane.blockLengthsOk leaves.outcome leaves.checkOf leaves.lengthsOk leaves.rootOk check.outcome check.check rank.outcome rank.check list.outcome list.checkOf list.lengthsOk list.limitOk root-list.outcome root-list.checkOf mend.outcome mend.check mend.lengthsOk checks.checkOf checks.fromLengths checks.lengthsOk checks.settingsOk checks.offsetOk checks.qpsOk checks.planesOk deblock.outcome band-checks.checkOf band-checks.bandOk bandRows band.outcome sizeOk blockOk blockSideOk componentSideOk unitOk samplesOk flagAt fieldOf allBelow walk byByte inTurn onward leafWalk
 accepted = refl
+
+-- ---- that picture's map: its marks, and its compact form, four bits 1
+
+pub accepted-maps :
+    answerNumber (points-check.check (record { global-offset = false; same-table = false; first = points; second = points; t0 = 70; t1 = 70 }))
+    ∷ marked.outcome (record { w = 4; h = 4; splits = cut; root = 0; out = replicate 85 0 }) .reading .number
+    ∷ marked-by.outcome (record { w = 4; h = 4; src = 240 ∷ []; from = 0; to = 4; root = 0; out = replicate 85 0 }) .reading .number
+    ∷ put-map.outcome (record { w = 4; h = 4; splits = cut; buf = 0 ∷ []; at = 0 }) .number
+    ∷ get-map.outcome (record { w = 4; h = 4; src = 240 ∷ []; at = 0; map = replicate 1024 0 }) .number
+    ∷ []
+    ≡ replicate 5 0
+unfolding points-check.check points-check.lengthsOk points-check.pointsOk points-check.pivotsOk points-check.pivotOk inOf outOf marked.outcome marked.check marked.lengthsOk marked-by.outcome marked-by.check put-map.outcome put-map.check compact.roomOk get-map.outcome get-map.check compact.zerosOk descendBy descentsBy descendOn marks digits joined bitAt fieldOf tabulateFrom allBelow sizeOk walk byByte inTurn onward leafWalk
+accepted-maps = refl
+
+-- ---- its sheet
+
+abbrev lines : List ℕ
+lines =
+    widthKey ++ (52 ∷ (newline ++ (heightKey ++ (52 ∷ (newline ++ (limitKey ++ (54 ∷ (newline ++ (ownEdge ++ (newline ++ (splitsKey ++ (replicate 4 49 ++ newline))))))))))))
+
+-- its lines are read; its edges are found, and so listed; and the buffer is long enough for a text
+pub accepted-sheets :
+    sheet.outcome (record { input = lines }) .reading .number
+    ∷ refusalIn (foundIn lines)
+    ∷ listing.outcome (record { input = lines; out = replicate 81920 0 }) .reading .number
+    ∷ []
+    ≡ replicate 3 0
+unfolding sheet.outcome sheet.readOf listing.outcome listing.check foundIn foundOf foundBy sidesOk list.limitOk firstBad lineOk startOf lineOf numberLine startsWith isNumber allBelow edgeLine oldEdge sameLine splitsLine numberAfter valueFrom descents descend byByte onward leafWalk
+accepted-sheets = refl

@@ -1,6 +1,7 @@
 -- Every public call that may refuse, in one place; `Values` has the others.
 --     NAME-once        over the contract as the checker reads it from the source: the arguments determine the answer and every slice that the call may write
---     NAME-refusals    the refusals that the call gives, in the order of its ladder, each with an input that meets it; of a call that gives none, nothing
+--     NAME-refusals    the refusals that the call gives, in the order of its ladder, each with an input that meets it and, where one input can, what every later
+--                      rung refuses too, so that in another order another number would come out; of a call that gives none, nothing
 -- The answer is determined, and not its reading alone, because each reading tells all answers apart: `answer-apart` (def), `reading-apart` (avail, df,
 -- sheet_lines, sheet), `rank-apart` (rank), `leaves-apart`, `list-apart` (split), `marks-apart` (marks), `placed-apart` (pack), `mended-apart` (mend),
 -- and `number-apart` (def).
@@ -12,7 +13,7 @@ use mathlib.Core.Bool.{true, false, not, _||_}
 use mathlib.Core.List.{List, [], _∷_, _++_, map}
 use denote.Ref.{RefT, now, ptr}
 use lib.Dec.{ltb, leb, eqb}
-use lib.IntN.{ℤ, pos}
+use lib.IntN.{ℤ, pos, negsuc}
 use lib.ListN.{length, replicate}
 use Rattle.laws.proofs.Calls.{one-outcome}
 use Rattle.laws.specs.Bits.{fieldOf}
@@ -172,13 +173,13 @@ chroma-table = replicate 70 (pos 0)
 abbrev pointed : List ℤ → Points → Points → derived.Input
 pointed t p q = record { global-offset = false; same-table = false; first = p; second = q; t0 = t; t1 = t }
 
--- an input for each rung
+-- an input for each rung. An a of -1 is 10, and its pivot 11; one of 70 is 11 alone
 abbrev pointings : List derived.Input
 pointings =
-    pointed [] (points 1 (pos 0)) (points 1 (pos 0))
-    ∷ pointed chroma-table (points 0 (pos 0)) (points 1 (pos 0))
-    ∷ pointed chroma-table (points 1 (pos 0)) (points 0 (pos 0))
-    ∷ pointed chroma-table (points 1 (pos 70)) (points 1 (pos 0))
+    pointed [] (points 1 (negsuc 0)) (points 1 (negsuc 0))
+    ∷ pointed chroma-table (points 1 (negsuc 0)) (points 1 (negsuc 0))
+    ∷ pointed chroma-table (points 1 (pos 70)) (points 1 (negsuc 0))
+    ∷ pointed chroma-table (points 1 (pos 70)) (points 1 (pos 70))
     ∷ pointed chroma-table (points 1 (pos 0)) (points 1 (pos 70))
     ∷ []
 
@@ -229,7 +230,7 @@ availability-refuses f =
           (rung (sizeOk (i .w) (i .h)) Size _
           (rung (eqb (length (i .words)) (unitCount (i .w) (i .h))) Length _
           (rung (blockOk (i .w) (i .h) (i .x) (i .y) (i .side)) Block _ last)));
-      shown = unit 0 [] 4 ∷ unit 4 [] 4 ∷ unit 4 (0 ∷ []) 0 ∷ [];
+      shown = unit 0 (0 ∷ []) 0 ∷ unit 4 [] 0 ∷ unit 4 (0 ∷ []) 0 ∷ [];
       given = refl;
     }
 
@@ -249,9 +250,9 @@ get-mpm-once κs a r r′ x x′ p q = one-outcome ranks.partOutcome _ _ _ p q
 pub get-mpm-number-once : Sole 3 get-mpm-number-kinds.ps get-mpm-number-kinds.r get-mpm-number-reads.Post (λ κs r x. r)
 get-mpm-number-once κs a r r′ x x′ p q = told ranks.numberOutcome (λ o. o .number) p q (answer-apart r r′)
 
--- the second of two units side by side, the first intra, done and of mode 7
-abbrev second : ℕ → List ℕ → ℕ → ranks.Input
-second w table x = record { w = w; h = 4; words = 2147516416 ∷ 0 ∷ []; modes = 7 ∷ 0 ∷ []; table = table; x = x; y = 0 }
+-- a unit right of the first or the second of two, which are intra, done and of mode 7
+abbrev right : ℕ → List ℕ → ℕ → ranks.Input
+right w table x = record { w = w; h = 4; words = replicate 2 2147516416; modes = replicate 2 7; table = table; x = x; y = 0 }
 
 -- where it gives a number, `get_mpm` answers the empty part
 pub get-mpm-number-refusals : Refuses ranks.numberOutcome (λ o. o .number) (Size ∷ Length ∷ Block ∷ Mode ∷ [])
@@ -263,7 +264,7 @@ get-mpm-number-refusals =
           (rung (ranks.lengthsOk (i .w) (i .h) (length (i .words)) (length (i .modes)) (length (i .table))) Length _
           (rung (unitOk (i .w) (i .h) (i .x) (i .y)) Block _
           (rung (ranks.modesOk (i .w) (i .words) (i .modes) (i .x) (i .y)) Mode _ last))) .by;
-      shown = second 0 [] 0 ∷ second 8 [] 0 ∷ second 8 (replicate 180 0) 2 ∷ second 8 (replicate 180 0) 1 ∷ [];
+      shown = right 0 [] 2 ∷ right 8 [] 2 ∷ right 8 (replicate 180 0) 2 ∷ right 8 (replicate 180 0) 1 ∷ [];
       given = refl;
     }
 
@@ -272,11 +273,11 @@ get-mpm-number-refusals =
 pub get-nbr-once : Sole 3 get-nbr-kinds.ps get-nbr-kinds.r get-nbr-reads.Post (λ κs r x. ended r (now (x .1 .1 .1 .1 .1 .1 .1 .1 .1 .0) ∷ []))
 get-nbr-once κs a r r′ x x′ p q = settled gather.outcome (λ o. o .number) (λ o. o .run ∷ []) p q (answer-apart r r′)
 
--- around the second of two units side by side, of samples that are all 1024
-abbrev gathered : ℕ → List ℕ → ℕ → List ℕ → gather.Input
-gathered w words side run =
+-- around the second of two units side by side, the first done, of n samples that are all 1024. A block of 8 cannot stand there
+abbrev gathered : ℕ → ℕ → ℕ → List ℕ → gather.Input
+gathered h n side run =
     record {
-      around = record { component = Luma; w = w; h = 4; plane = replicate 32 1024; words = words; x = 4; y = 0; side = side; constrained = false };
+      around = record { component = Luma; w = 8; h = h; plane = replicate n 1024; words = 2147483648 ∷ 0 ∷ []; x = 4; y = 0; side = side; constrained = false };
       run = run;
     }
 
@@ -292,11 +293,11 @@ get-nbr-refusals =
           (rung (eqb (length (i .run)) (gather.runLength (i .around .component) (i .around .side))) Length _
           (rung (gather.samplesOk (i .around)) Sample _ last)))));
       shown =
-          gathered 0 [] 0 []
-          ∷ gathered 8 [] 0 []
-          ∷ gathered 8 (0 ∷ 0 ∷ []) 0 []
-          ∷ gathered 8 (0 ∷ 0 ∷ []) 4 []
-          ∷ gathered 8 (2147483648 ∷ 0 ∷ []) 4 (replicate 17 0)
+          gathered 5 31 8 []
+          ∷ gathered 4 31 8 []
+          ∷ gathered 4 32 8 []
+          ∷ gathered 4 32 4 []
+          ∷ gathered 4 32 4 (replicate 17 0)
           ∷ [];
       given = refl;
     }
@@ -320,9 +321,9 @@ ipred-b-refusals =
           (rung (predict.modeOk (i .mode)) Mode _
           (rung (samplesOk (i .run)) Sample _ last))));
       shown =
-          predicting 0 0 []
-          ∷ predicting 0 2 []
-          ∷ predicting 5 2 (replicate 9 0)
+          predicting 5 3 (replicate 8 1024)
+          ∷ predicting 5 2 (replicate 8 1024)
+          ∷ predicting 5 2 (replicate 9 1024)
           ∷ predicting 0 2 (replicate 9 1024)
           ∷ [];
       given = refl;
@@ -348,11 +349,11 @@ recon-refusals =
           (rung (componentSideOk (i .side)) Block _
           (rung (recon.lengthsOk (i .side) (length (i .pred)) (length (i .coef)) (length (i .rec))) Length _
           (rung (samplesOk (i .pred)) Sample _ last)));
-      shown = adding 0 [] ∷ adding 2 [] ∷ adding 2 (replicate 4 1024) ∷ [];
+      shown = adding 3 (replicate 5 1024) ∷ adding 2 (replicate 5 1024) ∷ adding 2 (replicate 4 1024) ∷ [];
       given = refl;
     }
 
--- into a luma plane w wide and 4 high
+-- into a luma plane w wide and 4 high, in which no block of 8 fits
 abbrev adding-at : ℕ → ℕ → List ℕ → List ℕ → plane.Input
 adding-at w side pred rec =
     record { component = Luma; w = w; h = 4; x = 0; y = 0; side = side; coded = true; pred = pred; coef = replicate 16 (pos 0); rec = rec }
@@ -369,10 +370,10 @@ recon-plane-refusals =
           (rung (plane.blockLengthsOk (i .side / scaleOf (i .component)) (length (i .pred)) (length (i .coef))) Length _
           (rung (samplesOk (i .pred)) Sample _ last)))));
       shown =
-          adding-at 0 0 [] []
-          ∷ adding-at 4 0 [] []
-          ∷ adding-at 4 0 [] (replicate 16 0)
-          ∷ adding-at 4 4 [] (replicate 16 0)
+          adding-at 0 8 (replicate 17 1024) (replicate 15 0)
+          ∷ adding-at 4 8 (replicate 17 1024) (replicate 15 0)
+          ∷ adding-at 4 8 (replicate 17 1024) (replicate 16 0)
+          ∷ adding-at 4 4 (replicate 17 1024) (replicate 16 0)
           ∷ adding-at 4 4 (replicate 16 1024) (replicate 16 0)
           ∷ [];
       given = refl;
@@ -395,12 +396,15 @@ list-edges-once κs a r r′ x x′ p q = settled list.outcome (λ o. o .reading
 pub root-list-once : Sole 2 root-list-kinds.ps root-list-kinds.r root-list-reads.Post (λ κs r x. ended r (now (x .1 .1 .1 .1 .1 .1 .1 .1 .0) ∷ []))
 root-list-once κs a r r′ x x′ p q = settled root-list.outcome (λ o. o .reading) (λ o. o .out ∷ []) p q (leaves-apart r r′)
 
--- the split bytes of a root, all of them b. In a picture of one unit a block of 64 reaches past the picture
+-- the split bytes of a root, all of them b; and one too few, all of them 2. In a picture of one unit a block of 64 reaches past the picture
 abbrev root : ℕ → List ℕ
 root b = replicate 1024 b
 
+abbrev torn : List ℕ
+torn = replicate 1023 2
+
 abbrev walked : ℕ → List ℕ → ℕ → leaves.Input
-walked w splits x = record { w = w; h = 4; splits = splits; x = x; y = 0; out = replicate 768 0 }
+walked h splits x = record { w = 4; h = h; splits = splits; x = x; y = 0; out = replicate 768 0 }
 
 pub leaves-refusals : Refuses leaves.outcome (λ o. o .reading .number) (Size ∷ Length ∷ Block ∷ Split ∷ Leaf ∷ [])
 unfolding leaves.outcome leaves.checkOf leaves.lengthsOk leaves.rootOk sizeOk walk byByte inTurn onward leafWalk
@@ -412,12 +416,12 @@ leaves-refusals =
           (rung (leaves.lengthsOk (i .w) (i .h) (length (i .splits)) (length (i .out))) Length _
           (rung (leaves.rootOk (i .w) (i .h) (i .x) (i .y)) Block _
           (root-stops (i .splits) (i .w / 4) (i .h / 4) (leaves.rootIndex (i .w) (i .x) (i .y))))));
-      shown = walked 0 [] 0 ∷ walked 4 [] 0 ∷ walked 4 (root 2) 1 ∷ walked 4 (root 2) 0 ∷ walked 4 (root 0) 0 ∷ [];
+      shown = walked 5 torn 1 ∷ walked 4 torn 1 ∷ walked 4 (root 2) 1 ∷ walked 4 (root 2) 0 ∷ walked 4 (root 0) 0 ∷ [];
       given = refl;
     }
 
 abbrev checking : ℕ → List ℕ → check.Input
-checking w splits = record { w = w; h = 4; splits = splits }
+checking h splits = record { w = 4; h = h; splits = splits }
 
 pub check-refusals : Refuses check.outcome (λ o. o .number) (Size ∷ Length ∷ Split ∷ Leaf ∷ [])
 unfolding check.outcome check.check sizeOk walk byByte inTurn onward leafWalk
@@ -428,7 +432,7 @@ check-refusals =
           (rung (sizeOk (i .w) (i .h)) Size _
           (rung (eqb (length (i .splits)) (1024 * rootCount (i .w) (i .h))) Length _
           (picture-stops (i .splits) (i .w / 4) (i .h / 4))));
-      shown = checking 0 [] ∷ checking 4 [] ∷ checking 4 (root 2) ∷ checking 4 (root 0) ∷ [];
+      shown = checking 5 torn ∷ checking 4 torn ∷ checking 4 (root 2) ∷ checking 4 (root 0) ∷ [];
       given = refl;
     }
 
@@ -443,7 +447,7 @@ visiting-rank-refusals =
     }
 
 abbrev edges : ℕ → List ℕ → ℕ → list.Input
-edges w splits limit = record { w = w; h = 4; splits = splits; limit = limit; vertical = 0 ∷ 0 ∷ []; horizontal = 0 ∷ 0 ∷ [] }
+edges h splits limit = record { w = 4; h = h; splits = splits; limit = limit; vertical = 0 ∷ 0 ∷ []; horizontal = 0 ∷ 0 ∷ [] }
 
 pub list-edges-refusals : Refuses list.outcome (λ o. o .reading .number) (Size ∷ Length ∷ Setting ∷ Split ∷ Leaf ∷ [])
 unfolding list.outcome list.checkOf list.lengthsOk list.limitOk sizeOk walk byByte inTurn onward leafWalk
@@ -455,12 +459,13 @@ list-edges-refusals =
           (rung (list.lengthsOk (i .w) (i .h) (length (i .splits)) (length (i .vertical)) (length (i .horizontal))) Length _
           (rung (list.limitOk (i .limit)) Setting _
           (picture-stops (i .splits) (i .w / 4) (i .h / 4)))));
-      shown = edges 0 [] 5 ∷ edges 4 [] 5 ∷ edges 4 (root 2) 7 ∷ edges 4 (root 2) 5 ∷ edges 4 (root 0) 5 ∷ [];
+      shown = edges 5 torn 7 ∷ edges 4 torn 7 ∷ edges 4 (root 2) 7 ∷ edges 4 (root 2) 5 ∷ edges 4 (root 0) 5 ∷ [];
       given = refl;
     }
 
-abbrev rooted : ℕ → List ℕ → ℕ → root-list.Input
-rooted w splits x = record { w = w; h = 4; splits = splits; x = x; y = 0; horizontal = false; short = false; top = 0; out = replicate 512 0 }
+-- n: how long the list is
+abbrev rooted : ℕ → ℕ → List ℕ → ℕ → ℕ → root-list.Input
+rooted h top splits x n = record { w = 4; h = h; splits = splits; x = x; y = 0; horizontal = false; short = false; top = top; out = replicate n 0 }
 
 pub root-list-refusals : Refuses root-list.outcome (λ o. o .reading .number) (Size ∷ Length ∷ Block ∷ Split ∷ Leaf ∷ [])
 unfolding root-list.outcome root-list.checkOf leaves.checkOf leaves.lengthsOk leaves.rootOk sizeOk walk byByte inTurn onward leafWalk
@@ -475,7 +480,7 @@ root-list-refusals =
           (rung (leaves.lengthsOk (i .w) (i .h) (length (i .splits)) 768) Length _
           (rung (leaves.rootOk (i .w) (i .h) (i .x) (i .y)) Block _
           (root-stops (i .splits) (i .w / 4) (i .h / 4) (leaves.rootIndex (i .w) (i .x) (i .y)))))))));
-      shown = rooted 0 [] 0 ∷ rooted 4 [] 0 ∷ rooted 4 (root 2) 1 ∷ rooted 4 (root 2) 0 ∷ rooted 4 (root 0) 0 ∷ [];
+      shown = rooted 4 1024 torn 1 511 ∷ rooted 4 0 torn 1 512 ∷ rooted 4 0 (root 2) 1 512 ∷ rooted 4 0 (root 2) 0 512 ∷ rooted 4 0 (root 0) 0 512 ∷ [];
       given = refl;
     }
 
@@ -565,7 +570,7 @@ pub list-marks-once : Sole 2 list-marks-kinds.ps list-marks-kinds.r list-marks-r
 list-marks-once κs a r r′ x x′ p q = settled marked.outcome (λ o. o .reading) (λ o. o .out ∷ []) p q (marks-apart r r′)
 
 abbrev marking : ℕ → List ℕ → ℕ → marked.Input
-marking w splits i = record { w = w; h = 4; splits = splits; root = i; out = replicate 85 0 }
+marking h splits i = record { w = 4; h = h; splits = splits; root = i; out = replicate 85 0 }
 
 pub list-marks-refusals : Refuses marked.outcome (λ o. o .reading .number) (Size ∷ Length ∷ Block ∷ [])
 unfolding marked.outcome marked.check marked.lengthsOk sizeOk
@@ -576,16 +581,16 @@ list-marks-refusals =
           (rung (sizeOk (i .w) (i .h)) Size _
           (rung (marked.lengthsOk (i .w) (i .h) (length (i .splits)) (length (i .out))) Length _
           (rung (ltb (i .root) (rootCount (i .w) (i .h))) Block _ last)));
-      shown = marking 0 [] 0 ∷ marking 4 [] 0 ∷ marking 4 (root 0) 1 ∷ [];
+      shown = marking 5 torn 1 ∷ marking 4 torn 1 ∷ marking 4 (root 0) 1 ∷ [];
       given = refl;
     }
 
 pub take-marks-once : Sole 2 take-marks-kinds.ps take-marks-kinds.r take-marks-reads.Post (λ κs r x. ended r (now (x .1 .1 .1 .1 .1 .1 .0) ∷ []))
 take-marks-once κs a r r′ x x′ p q = settled marked-by.outcome (λ o. o .reading) (λ o. o .out ∷ []) p q (marks-apart r r′)
 
--- the bits of a byte
+-- some bits 0; n: how long the list is
 abbrev taking : ℕ → ℕ → ℕ → ℕ → marked-by.Input
-taking w byte to i = record { w = w; h = 4; src = byte ∷ []; from = 0; to = to; root = i; out = replicate 85 0 }
+taking h to i n = record { w = 4; h = h; src = 0 ∷ []; from = 0; to = to; root = i; out = replicate n 0 }
 
 take-stops : (i : marked-by.Input) → Stops (Size ∷ Length ∷ Block ∷ Bits ∷ Leaf ∷ []) (marked-by.check i)
 unfolding marked-by.check
@@ -601,7 +606,7 @@ take-marks-refusals =
     record {
       only = λ i.
           by-checks (λ o. o .reading .number) (marked-by.refused i) (marked-by.done i) (Size ∷ Length ∷ Block ∷ Bits ∷ Leaf ∷ []) (marked-by.check i) (λ r. refl) refl (take-stops i);
-      shown = taking 0 0 8 0 ∷ record { w = 4; h = 4; src = []; from = 0; to = 0; root = 0; out = [] } ∷ taking 4 0 8 1 ∷ taking 4 0 0 0 ∷ taking 4 0 8 0 ∷ [];
+      shown = taking 5 0 1 84 ∷ taking 4 0 1 84 ∷ taking 4 0 1 85 ∷ taking 4 0 0 85 ∷ taking 4 8 0 85 ∷ [];
       given = refl;
     }
 
@@ -609,7 +614,7 @@ pub put-map-once : Sole 2 put-map-kinds.ps put-map-kinds.r put-map-reads.Post (�
 put-map-once κs a r r′ x x′ p q = settled put-map.outcome (λ o. record { number = o .number; at = o .at }) (λ o. o .buf ∷ []) p q (placed-apart r r′)
 
 abbrev putting : ℕ → List ℕ → put-map.Input
-putting w splits = record { w = w; h = 4; splits = splits; buf = []; at = 0 }
+putting h splits = record { w = 4; h = h; splits = splits; buf = []; at = 0 }
 
 pub put-map-refusals : Refuses put-map.outcome (λ o. o .number) (Size ∷ Length ∷ Split ∷ Leaf ∷ Bits ∷ [])
 unfolding put-map.outcome put-map.check compact.roomOk sizeOk walk byByte inTurn onward leafWalk marks digits joined
@@ -621,7 +626,7 @@ put-map-refusals =
           (rung (eqb (length (i .splits)) (1024 * rootCount (i .w) (i .h))) Length _
           (walk-rung (Bits ∷ []) _ _ (picture-stops (i .splits) (i .w / 4) (i .h / 4))
           (rung (compact.roomOk (length (i .buf)) (i .at) (length (put-map.digits i))) Bits _ last))));
-      shown = putting 0 [] ∷ putting 4 [] ∷ putting 4 (root 2) ∷ putting 4 (root 0) ∷ putting 4 (root 1) ∷ [];
+      shown = putting 5 torn ∷ putting 4 torn ∷ putting 4 (root 2) ∷ putting 4 (root 0) ∷ putting 4 (root 1) ∷ [];
       given = refl;
     }
 
@@ -629,7 +634,7 @@ pub get-map-once : Sole 2 get-map-kinds.ps get-map-kinds.r get-map-reads.Post (�
 get-map-once κs a r r′ x x′ p q = settled get-map.outcome (λ o. record { number = o .number; at = o .at }) (λ o. o .map ∷ []) p q (placed-apart r r′)
 
 abbrev getting : ℕ → List ℕ → List ℕ → get-map.Input
-getting w src map = record { w = w; h = 4; src = src; at = 0; map = map }
+getting h src map = record { w = 4; h = h; src = src; at = 0; map = map }
 
 get-stops : (i : get-map.Input) → Stops (Size ∷ Length ∷ Bits ∷ Leaf ∷ Bits ∷ []) (get-map.check i)
 unfolding get-map.check
@@ -645,7 +650,7 @@ get-map-refusals =
     record {
       only = λ i.
           by-checks (λ o. o .number) (get-map.refused i) (get-map.done i) (Size ∷ Length ∷ Bits ∷ Leaf ∷ Bits ∷ []) (get-map.check i) (λ r. refl) refl (get-stops i);
-      shown = getting 0 [] [] ∷ getting 4 [] [] ∷ getting 4 [] (root 0) ∷ getting 4 (0 ∷ []) (root 0) ∷ getting 4 (255 ∷ []) (root 0) ∷ [];
+      shown = getting 5 [] [] ∷ getting 4 [] [] ∷ getting 4 [] (root 0) ∷ getting 4 (127 ∷ []) (root 0) ∷ getting 4 (255 ∷ []) (root 0) ∷ [];
       given = refl;
     }
 

@@ -8,7 +8,7 @@ use mathlib.Core.List.{List, [], _∷_, _++_}
 use mathlib.Core.Logic.{inl, inr}
 use denote.Ref.{now}
 use lib.Dec.{leb, eqb}
-use lib.ListN.{length, replicate}
+use lib.ListN.{length, replicate, take}
 use Rattle.laws.specs.Call.{unless}
 use Rattle.laws.specs.Scan.{allBelow}
 use Rattle.laws.specs.Index.{tabulateFrom}
@@ -60,6 +60,7 @@ abbrev header-of : ℕ → List ℕ
 header-of digit =
     89 ∷ 85 ∷ 86 ∷ 52 ∷ 77 ∷ 80 ∷ 69 ∷ 71 ∷ 50 ∷ 32 ∷ 87 ∷ digit ∷ 32 ∷ 72 ∷ digit ∷ 32 ∷ 67 ∷ 52 ∷ 50 ∷ 48 ∷ 112 ∷ 49 ∷ 48 ∷ 10 ∷ []
 
+-- of a size that is not taken
 abbrev one-by-one : List ℕ
 one-by-one = header-of 49
 
@@ -77,7 +78,7 @@ by-header (said p n) = inr (by-size (sizeOk (p .w) (p .h)) (ReadHeader (p .w) (p
 pub read-header-refusals : Refuses header.outcome (λ o. o .reading .number) (Stream ∷ Size ∷ [])
 unfolding header.outcome headerIn words ending valueOk saidWith before isNumber valueFrom sameLine startsWith allBelow sizeOk
 read-header-refusals =
-    record { only = λ i. by-header (headerIn (i .input)); shown = record { input = [] } ∷ record { input = one-by-one } ∷ []; given = refl }
+    record { only = λ i. by-header (headerIn (i .input)); shown = record { input = take 23 one-by-one } ∷ record { input = one-by-one } ∷ []; given = refl }
 
 pub write-header-once : Sole 1 write-header-kinds.ps write-header-kinds.r write-header-reads.Post (λ κs r x. ended r (now (x .1 .1 .1 .1 .1 .1 .1 .0) ∷ []))
 write-header-once κs a r r′ x x′ p q = settled header-out.outcome (λ o. o .reading) (λ o. o .out ∷ []) p q (written-apart r r′)
@@ -95,7 +96,7 @@ write-header-refusals =
           (rung (sizeOk (i .w) (i .h)) Size _
           (rung (eqb (length (i .out)) 256) Length _
           (rung (header-out.numbersOk (i .format) (i .f) (i .g) (i .a) (i .b)) Setting _ last)));
-      shown = heading 0 1 [] ∷ heading 4 1 [] ∷ heading 4 0 (replicate 256 0) ∷ [];
+      shown = heading 0 0 [] ∷ heading 4 0 [] ∷ heading 4 0 (replicate 256 0) ∷ [];
       given = refl;
     }
 
@@ -142,16 +143,23 @@ framing side s y = record { input = s; at = 0; w = side; h = side; y = y; u = re
 abbrev bytes-of : ℕ → List ℕ
 bytes-of b = frameLine ++ replicate 48 b
 
+-- a byte too few, each sample over 1023; and no frame line either
+abbrev short : List ℕ
+short = frameLine ++ replicate 47 255
+
+abbrev broken : List ℕ
+broken = replicate 53 255
+
 pub read-frame-refusals : Refuses frame.outcome (λ o. o .reading .number) by-frame
 unfolding frame.outcome frame.checkOf frame.lengthsOk frame.frameOf matches linePlace planesOk samplesOk allBelow sizeOk tabulateFrom
 read-frame-refusals =
     record {
       only = λ i. subst (OneOf by-frame) (after-number i (frame.check i)) (frame-stops i .by);
       shown =
-          framing 0 [] []
-          ∷ framing 4 [] []
-          ∷ framing 4 (0 ∷ []) (replicate 16 0)
-          ∷ framing 4 [] (replicate 16 0)
+          framing 5 broken []
+          ∷ framing 4 broken []
+          ∷ framing 4 broken (replicate 16 0)
+          ∷ framing 4 short (replicate 16 0)
           ∷ framing 4 (bytes-of 4) (replicate 16 0)
           ∷ [];
       given = refl;
@@ -160,12 +168,12 @@ read-frame-refusals =
 pub write-frame-once : Sole 4 write-frame-kinds.ps write-frame-kinds.r write-frame-reads.Post (λ κs r x. ended r (now (x .1 .1 .1 .1 .1 .1 .0) ∷ []))
 write-frame-once κs a r r′ x x′ p q = settled frame-out.outcome (λ o. o .number) (λ o. o .out ∷ []) p q (answer-apart r r′)
 
--- a grey picture of 4 by 4 has planes of no chroma
-abbrev drawing : ℕ → ℕ → List ℕ → frame-out.Input
-drawing side sample out = record { format = Colour; w = side; h = side; y = replicate 16 sample; u = replicate 4 0; v = replicate 4 0; out = out }
+-- luma samples all alike; a grey picture of 4 by 4 has planes of no chroma
+abbrev drawing : ℕ → List ℕ → frame-out.Input
+drawing sample out = record { format = Colour; w = 4; h = 4; y = replicate 16 sample; u = replicate 4 0; v = replicate 4 0; out = out }
 
-abbrev grey : frame-out.Input
-grey = record { format = Grey; w = 4; h = 4; y = replicate 16 0; u = []; v = []; out = replicate 38 0 }
+abbrev grey : ℕ → List ℕ → frame-out.Input
+grey side out = record { format = Grey; w = side; h = side; y = replicate 16 1024; u = []; v = []; out = out }
 
 pub write-frame-refusals : Refuses frame-out.outcome (λ o. o .number) (Size ∷ Length ∷ Setting ∷ Sample ∷ [])
 unfolding frame-out.outcome frame-out.checkOf frame-out.lengthsOk frame-out.planesOk samplesOk allBelow sizeOk
@@ -177,7 +185,7 @@ write-frame-refusals =
           (rung (frame-out.lengthsOk (i .format) (i .w) (i .h) (length (i .y)) (length (i .u)) (length (i .v)) (length (i .out))) Length _
           (rung (colourOk (i .format)) Setting _
           (rung (frame-out.planesOk (i .y) (i .u) (i .v)) Sample _ last))));
-      shown = drawing 0 0 [] ∷ drawing 4 0 [] ∷ grey ∷ drawing 4 1024 (replicate 54 0) ∷ [];
+      shown = grey 5 [] ∷ grey 4 [] ∷ grey 4 (replicate 38 0) ∷ drawing 1024 (replicate 54 0) ∷ [];
       given = refl;
     }
 
@@ -209,11 +217,11 @@ import-frame-refusals =
     record {
       only = λ i. after-header i (header.readOf (i .input)) (by-header (headerIn (i .input)));
       shown =
-          importing [] []
-          ∷ importing one-by-one []
-          ∷ importing four-by-four []
-          ∷ importing (four-by-four ++ (0 ∷ [])) (replicate 16 0)
-          ∷ importing four-by-four (replicate 16 0)
+          importing (take 23 one-by-one ++ broken) []
+          ∷ importing (one-by-one ++ broken) []
+          ∷ importing (four-by-four ++ broken) []
+          ∷ importing (four-by-four ++ broken) (replicate 16 0)
+          ∷ importing (four-by-four ++ short) (replicate 16 0)
           ∷ importing (four-by-four ++ bytes-of 4) (replicate 16 0)
           ∷ [];
       given = refl;
@@ -225,7 +233,7 @@ pub accepted :
     header.outcome (record { input = four-by-four }) .reading .number
     ∷ header-out.outcome (heading 4 1 (replicate 256 0)) .reading .number
     ∷ frame.outcome (framing 4 (bytes-of 3) (replicate 16 0)) .reading .number
-    ∷ frame-out.outcome (drawing 4 1023 (replicate 54 0)) .number
+    ∷ frame-out.outcome (drawing 1023 (replicate 54 0)) .number
     ∷ import.outcome (importing (four-by-four ++ bytes-of 3) (replicate 16 0)) .reading .number
     ∷ []
     ≡ replicate 5 0

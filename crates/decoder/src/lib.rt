@@ -14,6 +14,9 @@
 //     the compact map   put_map, get_map; write_to, write_map, read_from, read_map; get_bit, put_bit
 //     a torn map        mend
 //     streams           read_header, write_header, read_frame, write_frame, import_frame
+// Inside are those that a caller needs none of. They are public because another crate calls them, and total like the rest: checked_points, start_qp, delta_in,
+// delta_out, checked_leaves, coded_y, coded_u, coded_v, mode_of, word_of, root_list, list_marks, take_marks, mark_place, mark_byte, root_count, checked,
+// checked_band, entries, mask_of, line, lanes, motion_row, read.
 pub use avail::Avail;
 pub use avail::Neighbours;
 pub use avail::get_avail_inter;
