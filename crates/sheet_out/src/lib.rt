@@ -12,14 +12,12 @@ pub fn room() -> [u8; 81920]
     [0u8; 81920]
 }
 
-// Writes the listing of `input`, by way of `out`.
-pub fn print(input: &[u8], out: &mut [u8])
+// Writes the listing of `input`, by way of `out`, and answers whether all of it was written.
+pub fn print(input: &[u8], out: &mut [u8]) -> bool
     ensures { λ _. ⌜ now (out .exit) ≡ outcome (record { input = now (input .entry); out = now (out .entry) }) .out ⌝ }
 {
     match sheet::listing(input, out) {
-        Printed::Done(n) => {
-            io::write_all(STDOUT_FILENO, &out[..n]);
-        }
-        Printed::Refused(_) => {}
+        Printed::Done(n) => io::write_all(STDOUT_FILENO, &out[..n]),
+        Printed::Refused(_) => false,
     }
 }
