@@ -23,6 +23,26 @@
 #include <stddef.h>
 #include <stdint.h>
 
+/* What is lent, and how many elements it has. w and h are the sides of the picture, or of what a call says it is lent of one.
+ *
+ *   y                       w*h samples, row by row
+ *   u, v                    (w/2)*(h/2) samples each
+ *   words, map_scu          (w/4)*(h/4), a word a unit of 4x4 luma samples, row by row: bit 15 intra, 16..22 QP, 24 luma-coded, 31 done
+ *   modes, map_ipm          (w/4)*(h/4), a byte a unit: 0 DC, 1 horizontal, 2 vertical, 3 UL, 4 UR, 255 none
+ *   motion, refs            four numbers a unit, list 0 x, y, list 1 x, y; and two
+ *   splits                  1024 a root of 64x64, roots row by row. The byte of a block of 64, 32, 16 or 8 is at 256*level + 16*row + column,
+ *                           level 0 to 3, with the row and column of the unit at its centre, in its root: 136 for 64, 768 + 17 for the
+ *                           first of 8. It is 1 where the block is cut and else 0. Bytes that no such block has may be anything.
+ *   leaves, residual        4 bytes a leaf, and the samples of the blocks that the masks name (reconstruct)
+ *   a, b                    58 each a table of chroma points
+ *   t0, t1, table0, table1  70 each, the chroma QP of QP q at 12 + q
+ *   strengths, table        4*52, and 6*6*5 for the mode ranks
+ *   run                     4*side + 1 samples: left downwards, the corner, up rightwards
+ *   pred, coef, rec, block  side*side
+ *   vertical, horizontal    2*(w/4)*(h/4)
+ *
+ * What a call only writes may hold anything at entry: so the planes, the words and the modes of reconstruct. */
+
 /* The version of these calls; bindings/rust has the same. CHANGELOG.md says what changed. */
 #define LOMSAKEUN_VERSION "0.1.0"
 
