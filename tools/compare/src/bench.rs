@@ -135,24 +135,34 @@ fn copied(rng: &mut Rng, size: usize) -> f64 {
     best(&mut to, |_| {}, |to| to.copy_from_slice(black_box(&from))) / from.len() as f64
 }
 
+/// Nanoseconds for each sample of the three planes: the Rust, and the product.
 fn deblocked(given: &Picture) -> (f64, f64) {
     let size = (given.w, given.h);
-    let count = 1.5 * (given.w * given.h) as f64;
+    let count = samples_of(given);
     let tables = given.tables.to_vec();
     let offsets = given.offsets.map(|offset| offset as i8);
     let fresh = oracle::deblock::Picture::new(size, &given.words, &given.splits, &given.motion, &given.refs);
     let mut rust = fresh;
     let fill = |rust: &mut oracle::deblock::Picture| rust.fill(given.planes.each_ref().map(|plane| &plane[..]));
     let theirs = best(&mut rust, fill, |rust| rust.run(&tables, offsets));
+    (theirs / count, finished(given) / count)
+}
+
+/// The samples that the three planes of a picture in colour have.
+fn samples_of(given: &Picture) -> f64 {
+    1.5 * (given.w * given.h) as f64
+}
+
+/// The product's nanoseconds for a picture, in its own format.
+fn finished(given: &Picture) -> f64 {
     let mut ours = (given.planes.clone(), given.words.clone());
     let refill = |(planes, words): &mut ([Vec<u16>; 3], Vec<u32>)| {
         planes.iter_mut().zip(&given.planes).for_each(|(plane, from)| plane.copy_from_slice(from));
         words.copy_from_slice(&given.words);
     };
-    let ours = best(&mut ours, refill, |(planes, words)| {
+    best(&mut ours, refill, |(planes, words)| {
         finish(given, planes, words);
-    });
-    (theirs / count, ours / count)
+    })
 }
 
 /// The product's call over a picture; the answer is how many edges of units it filtered.
@@ -205,12 +215,56 @@ fn settings(given: &Picture) -> lomsakeun::Settings {
     lomsakeun::Settings { limit: 6, u_offset, v_offset, colour: given.colour }
 }
 
-/// What is deblocked: pictures of these leaves, all units intra or all inter.
-fn kinds() -> impl Iterator<Item = (String, trees::Taste, bool)> {
-    LEAVES.into_iter().flat_map(|(leaves, taste)| {
-        [true, false].map(|intra| {
-            let units = if intra { "intra" } else { "inter" };
-            (format!("deblocking, {units}, leaves {leaves}"), taste, intra)
+/// What the samples of a picture are.
+#[derive(Clone, Copy)]
+enum Look {
+    /// Around a middle grey, at random: what a station's pictures are not.
+    Noise,
+    /// A smooth picture, each 8 by 8 of it at its middle sample, as coarse coding leaves it.
+    Blocky,
+    /// From corner to corner.
+    Ramp,
+}
+
+/// What the units of a picture are.
+#[derive(Clone, Copy)]
+enum Units {
+    Intra,
+    /// Motion and references at random.
+    Inter,
+    /// Motion and references that are equal everywhere.
+    Still,
+}
+
+/// A kind of picture that is deblocked.
+struct Kind {
+    what: String,
+    taste: trees::Taste,
+    look: Look,
+    units: Units,
+    qp: u32,
+}
+
+/// How the pictures look, what their units are, and their QP; the noise first.
+const LOOKS: [(&str, Look, Units, u32); 7] = [
+    ("noise, intra", Look::Noise, Units::Intra, 37),
+    ("noise, inter", Look::Noise, Units::Inter, 37),
+    ("blocky, intra", Look::Blocky, Units::Intra, 37),
+    ("blocky, inter", Look::Blocky, Units::Inter, 37),
+    ("blocky, still", Look::Blocky, Units::Still, 37),
+    ("blocky, intra, QP 10", Look::Blocky, Units::Intra, 10),
+    ("ramp, intra", Look::Ramp, Units::Intra, 37),
+];
+
+/// Each look with each kind of leaves.
+fn kinds() -> impl Iterator<Item = Kind> {
+    LOOKS.into_iter().flat_map(|(name, look, units, qp)| {
+        LEAVES.map(|(leaves, taste)| Kind {
+            what: format!("deblocking, {name}, leaves {leaves}"),
+            taste,
+            look,
+            units,
+            qp,
         })
     })
 }
@@ -233,15 +287,18 @@ pub fn maps_of(kind: usize, side: usize) -> bool {
     changes == 0 && mended == splits
 }
 
+/// How many kinds there are, in colour and then in grey.
+pub fn kind_count() -> usize {
+    2 * kinds().count()
+}
+
 /// Deblocks one square picture of a kind, by its place among them, for an instruction count: whole, and then by bands. After the kinds come the
 /// same pictures without their colour. False where there is no such kind, or where the two differ.
 pub fn count(kind: usize, side: usize) -> bool {
     let in_colour = kinds().count();
-    let Some((what, taste, intra)) = kinds().nth(kind % in_colour) else { return false };
-    let rng = &mut Rng::new(1);
-    let drawn = picture(rng, side, side, taste);
-    let given = alike(rng, drawn, intra);
-    let (what, given) = if kind < in_colour { (what, given) } else { (what + ", grey", given.grey()) };
+    let Some(found) = kinds().nth(kind % in_colour) else { return false };
+    let given = drawn(&mut Rng::new(1), &found, side);
+    let (what, given) = if kind < in_colour { (found.what, given) } else { (found.what + ", grey", given.grey()) };
     let mut whole = (given.planes.clone(), given.words.clone());
     let mut by_bands = whole.clone();
     let edges = finish(&given, &mut whole.0, &mut whole.1);
@@ -249,15 +306,32 @@ pub fn count(kind: usize, side: usize) -> bool {
     edges == finish_by_bands(&given, &mut by_bands.0, &mut by_bands.1) && whole == by_bands
 }
 
-/// The same kind of samples, words, motion and tables at every size, so that the sizes can be compared: noise around a middle grey, QP 37.
-fn alike(rng: &mut Rng, given: Picture, intra: bool) -> Picture {
+/// A plane of `side` a row. A luma sample and the chroma sample over the same place are alike: `step` is 1 in luma and 2 in chroma.
+fn plane(rng: &mut Rng, look: Look, side: usize, step: usize) -> Vec<u16> {
+    let smooth = |x: usize, y: usize| 512.0 + 200.0 * (x as f64 / 61.0).sin() * (y as f64 / 83.0).cos();
+    let ramp = |x: usize, y: usize| 100 + 800 * (x + y) / (2 * side * step);
+    (0..side * side)
+        .map(|i| (i % side * step, i / side * step))
+        .map(|(x, y)| match look {
+            Look::Noise => rng.range(500, 524) as u16,
+            Look::Blocky => smooth(x / 8 * 8 + 4, y / 8 * 8 + 4) as u16,
+            Look::Ramp => ramp(x, y) as u16,
+        })
+        .collect()
+}
+
+/// A square picture of a kind, the same at every size, so that the sizes can be compared.
+fn drawn(rng: &mut Rng, kind: &Kind, side: usize) -> Picture {
+    let given = picture(rng, side, side, kind.taste);
     let units = given.words.len();
     let table: Vec<i8> = (-12..58).map(|qp: i8| qp.clamp(0, 51)).collect();
+    let still = matches!(kind.units, Units::Still);
+    let intra = matches!(kind.units, Units::Intra) as u32;
     Picture {
-        planes: given.planes.map(|plane| plane.iter().map(|_| rng.range(500, 524) as u16).collect()),
-        words: vec![(intra as u32) << 15 | 37 << 16; units],
-        motion: (0..4 * units).map(|_| rng.pick(&[-2, 1, 2, 6])).collect(),
-        refs: (0..2 * units).map(|_| rng.pick(&[0, 1])).collect(),
+        planes: [(side, 1), (side / 2, 2), (side / 2, 2)].map(|(side, step)| plane(rng, kind.look, side, step)),
+        words: vec![intra << 15 | kind.qp << 16; units],
+        motion: (0..4 * units).map(|_| if still { 2 } else { rng.pick(&[-2, 1, 2, 6]) }).collect(),
+        refs: (0..2 * units).map(|_| if still { 0 } else { rng.pick(&[0, 1]) }).collect(),
         tables: [table.clone(), table],
         limit: 6,
         offsets: [0, 0],
@@ -266,16 +340,20 @@ fn alike(rng: &mut Rng, given: Picture, intra: bool) -> Picture {
     }
 }
 
+/// Deblocking alone, square pictures of one side: nanoseconds for each sample of the three planes, the Rust's and the product's, and the product's for
+/// the same picture without its colour, which the Rust has not.
+pub fn deblocking_at(side: usize) -> bool {
+    for kind in kinds() {
+        let given = drawn(&mut Rng::new(1), &kind, side);
+        let (rust, ours) = deblocked(&given);
+        let grey = finished(&given.clone().grey()) / samples_of(&given);
+        println!("{}: {rust:.3}, {ours:.3}: {:.2}; grey {grey:.3}: {:.2}", kind.what, rust / ours, rust / grey);
+    }
+    true
+}
+
 fn deblocking(rng: &mut Rng) -> Vec<Series> {
-    kinds()
-        .map(|(what, taste, intra)| {
-            series(&what, |size| {
-                let drawn = picture(rng, size, size, taste);
-                let given = alike(rng, drawn, intra);
-                deblocked(&given)
-            })
-        })
-        .collect()
+    kinds().map(|kind| series(&kind.what, |size| deblocked(&drawn(rng, &kind, size)))).collect()
 }
 
 fn series(what: &str, mut measure: impl FnMut(usize) -> (f64, f64)) -> Series {

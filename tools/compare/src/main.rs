@@ -23,7 +23,7 @@ use std::path::Path;
 use std::process::exit;
 
 const USAGE: &str =
-    "usage: record NAME OUTDIR | record all CRATESDIR | record headers COUNT SEED OUTDIR | all CALLS PICTURES SEED | fuzz CALLS SEED | bench OUTDIR | gather | count KIND SIDE | maps KIND SIDE";
+    "usage: record NAME OUTDIR | record all CRATESDIR | record headers COUNT SEED OUTDIR | all CALLS PICTURES SEED | fuzz CALLS SEED | bench OUTDIR | gather | deblock SIDE | count KIND SIDE | maps KIND SIDE | kinds";
 
 fn main() {
     // A panic of the Rust is an answer here, not a message: one of revc's files, or of the library below them.
@@ -49,9 +49,16 @@ fn main() {
         #[cfg(feature = "archive")]
         ["gather"] => bench::gathering(),
         #[cfg(feature = "archive")]
+        ["deblock", side] => bench::deblocking_at(number(side)),
+        #[cfg(feature = "archive")]
         ["count", kind, side] => bench::count(number(kind), number(side)),
         #[cfg(feature = "archive")]
         ["maps", kind, side] => bench::maps_of(number(kind), number(side)),
+        #[cfg(feature = "archive")]
+        ["kinds"] => {
+            println!("{}", bench::kind_count());
+            true
+        }
         _ => {
             eprintln!("{USAGE}");
             exit(2);

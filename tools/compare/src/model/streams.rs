@@ -47,9 +47,7 @@ pub fn read_header(stream: &[u8]) -> Result<Said, Refused> {
             _ if place == 0 => word == b"YUV4MPEG2",
             [] => false,
             [b'X', ..] => true,
-            [letter, rest @ ..] => {
-                value(*letter, rest).is_some_and(|found| said.insert(*letter, found).is_none())
-            }
+            [letter, rest @ ..] => value(*letter, rest).is_some_and(|found| said.insert(*letter, found).is_none()),
         };
         if !good {
             return Err((STREAM, place));
