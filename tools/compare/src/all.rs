@@ -22,7 +22,7 @@ const fn call(name: &'static str, draw: Draw, damaged: Draw, share: usize) -> Ca
 }
 
 /// The single calls; the shares of those that the Rust has add up to 1000.
-pub const CALLS: [Call; 16] = [
+pub const CALLS: [Call; 17] = [
     call("chroma_qp", chroma_qp::draw, chroma_qp::damaged, 100),
     call("avail", avail::draw, avail::damaged, 200),
     call("ranks", ranks::draw, ranks::damaged, 200),

@@ -6,6 +6,8 @@ mod all;
 mod bench;
 #[cfg(feature = "archive")]
 mod bench_driver;
+#[cfg(feature = "archive")]
+mod bench_streams;
 mod cases;
 #[cfg(feature = "archive")]
 mod chart;
@@ -23,7 +25,7 @@ use std::path::Path;
 use std::process::exit;
 
 const USAGE: &str =
-    "usage: record NAME OUTDIR | record all CRATESDIR | record headers COUNT SEED OUTDIR | all CALLS PICTURES SEED | fuzz CALLS SEED | bench OUTDIR | gather | deblock SIDE | count KIND SIDE | maps KIND SIDE | kinds";
+    "usage: record NAME OUTDIR | record all CRATESDIR | record headers COUNT SEED OUTDIR | all CALLS PICTURES SEED | fuzz CALLS SEED | bench OUTDIR | gather | streams | deblock SIDE | count KIND SIDE | maps KIND SIDE | kinds";
 
 fn main() {
     // A panic of the Rust is an answer here, not a message: one of revc's files, or of the library below them.
@@ -48,6 +50,8 @@ fn main() {
         ["bench", dir] => bench::bench(Path::new(dir)).expect("writing the table"),
         #[cfg(feature = "archive")]
         ["gather"] => bench::gathering(),
+        #[cfg(feature = "archive")]
+        ["streams"] => bench_streams::streams(),
         #[cfg(feature = "archive")]
         ["deblock", side] => bench::deblocking_at(number(side)),
         #[cfg(feature = "archive")]
