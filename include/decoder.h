@@ -65,7 +65,7 @@ enum {
     LOMSAKEUN_POINTS = 10,  /* the count of chroma points outside 1..58, or an a below 0 among them */
     LOMSAKEUN_PIVOT = 11,   /* a pivot outside -12..57 */
     LOMSAKEUN_SHEET = 12,   /* a malformed sheet */
-    LOMSAKEUN_RECORD = 13,  /* the leaf or residual list's length, a mask or a spare byte */
+    LOMSAKEUN_RECORD = 13,  /* the leaf or residual list's length, a mask or a keep byte */
     LOMSAKEUN_BAND = 14,    /* a band that is not the position's next, or is past the last */
     LOMSAKEUN_KEEP = 15,    /* a byte of the keep map that is not 0 or 1 */
     LOMSAKEUN_BITS = 16,    /* bits that run out, a fill bit that is not 0, or too little room for a map's own bytes */
@@ -178,20 +178,20 @@ uint8_t lomsakeun_list_edges(
     size_t *vertical_count, size_t *horizontal_count);
 
 /* Reconstructs a picture (driver): its blocks in the order of the walk, each predicted from what stands around it or taken from the lent
- * prediction, with its residual; then its unit words and its modes. leaves has four bytes a leaf: kind (a mode, or 5 for the lent
- * prediction), QP, mask (1 Y, 2 U, 4 V) and 0. residual has the masked blocks one after another: Y, U and V of each leaf.
+ * prediction, with its residual; then its unit words, its modes and its keep bytes. leaves has four bytes a leaf: kind (a mode, or 5
+ * for the lent prediction), QP, mask (1 Y, 2 U, 4 V) and keep (1 where deblocking is to leave the block as it is, else 0). residual has the masked blocks one after another: Y, U and V of each leaf.
  *
  *                                    colour          grey (colour is false)
  *     y, pred_y                      w*h             w*h
  *     u, v, pred_u, pred_v           (w/2)*(h/2)     0
  *     a mask, at most                7               1
- *     map_scu, modes                 (w/4)*(h/4)     (w/4)*(h/4) */
+ *     map_scu, modes, keep           (w/4)*(h/4)     (w/4)*(h/4) */
 uint8_t lomsakeun_reconstruct(
     size_t w, size_t h, bool colour, const uint8_t *splits, size_t splits_len, const uint8_t *leaves, size_t leaves_len,
     const int16_t *residual, size_t residual_len, const uint16_t *pred_y, size_t pred_y_len,
     const uint16_t *pred_u, size_t pred_u_len, const uint16_t *pred_v, size_t pred_v_len, bool constrained,
     uint16_t *y, size_t y_len, uint16_t *u, size_t u_len, uint16_t *v, size_t v_len,
-    uint32_t *map_scu, size_t map_scu_len, uint8_t *modes, size_t modes_len);
+    uint32_t *map_scu, size_t map_scu_len, uint8_t *modes, size_t modes_len, uint8_t *keep, size_t keep_len);
 
 /* Deblocks a picture (df): its planes are filtered and done is set in every word; how many edges each pass visited.
  * U's QP is mapped by table0, V's by table1. colour: the picture has chroma. What is lent of it, in elements, here and for a band:

@@ -13,7 +13,7 @@ enum { SIZE = 128, UNITS = SIZE / 4 * SIZE / 4, ROOTS = 4, ROOM = 1 << 18 };
 static uint16_t y[SIZE * SIZE], u[SIZE * SIZE / 4], v[SIZE * SIZE / 4], lent[SIZE * SIZE], run[257], block[64 * 64], out[2][2 * UNITS];
 static int16_t residual[SIZE * SIZE * 3 / 2], motion[4 * UNITS];
 static uint32_t words[UNITS];
-static uint8_t splits[1024 * ROOTS], records[4 * UNITS], modes[UNITS], ranks[180], five[5], strengths[208], text[81920], one;
+static uint8_t splits[1024 * ROOTS], records[4 * UNITS], modes[UNITS], keep[UNITS], ranks[180], five[5], strengths[208], text[81920], one;
 static int8_t refs[2 * UNITS], table[2][70], points[58];
 static size_t counted[2];
 static const char *sheet = "width=16\nheight=8\ntr_log2=6\nv_edge=own\nsplits=11110\n";
@@ -82,7 +82,7 @@ static void reconstruct(int real, int i) {
     size_t side = sides[i / 4], count = SIZE / side * (SIZE / side), long_ = leaves_of(side, i & 1);
     tree(side, 1);
     CALL(lomsakeun_reconstruct, SIZE, SIZE, 1, splits, sizeof splits, records, 4 * count, residual, long_, lent, SIZE * SIZE,
-         lent, SIZE * SIZE / 4, lent, SIZE * SIZE / 4, i & 2, y, SIZE * SIZE, u, SIZE * SIZE / 4, v, SIZE * SIZE / 4, words, UNITS, modes, UNITS);
+         lent, SIZE * SIZE / 4, lent, SIZE * SIZE / 4, i & 2, y, SIZE * SIZE, u, SIZE * SIZE / 4, v, SIZE * SIZE / 4, words, UNITS, modes, UNITS, keep, UNITS);
     more = i < 19;
 }
 static void deblock(int real, int i) {

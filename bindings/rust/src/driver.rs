@@ -11,7 +11,7 @@ pub struct Blocks<'a> {
     /// 1,024 bytes a root.
     pub splits: &'a [u8],
     /// Four bytes a leaf, in the order of the walk: kind (a mode, or 5 for the lent prediction), QP, mask (1 Y, 2 U, 4 V; of a grey picture 1
-    /// alone), 0.
+    /// alone), keep (1 where deblocking is to leave the block as it is, else 0).
     pub leaves: &'a [u8],
     /// The masked residuals one after another: Y, U and V of each leaf.
     pub residual: &'a [i16],
@@ -22,11 +22,12 @@ pub struct Blocks<'a> {
 }
 
 /// Reconstructs a picture: its blocks in the order of the walk, each predicted or taken from the lent prediction, with its residual; then its
-/// unit words, and its modes: a byte a unit, 255 where the prediction was lent. What the picture and the modes held before counts for nothing.
+/// unit words, and its modes: a byte a unit, 255 where the prediction was lent; and its keep bytes, a byte a unit, 0 or 1. What the picture, the
+/// modes and the keep bytes held before counts for nothing.
 /// Refusals: [`Size`](Refusal::Size), [`Length`](Refusal::Length), [`Split`](Refusal::Split), [`Leaf`](Refusal::Leaf),
 /// [`Record`](Refusal::Record), [`Mode`](Refusal::Mode), [`Qp`](Refusal::Qp), [`Sample`](Refusal::Sample).
 #[inline]
-pub fn reconstruct(blocks: Blocks, picture: Picture, modes: &mut [u8]) -> Result<(), Refusal> {
+pub fn reconstruct(blocks: Blocks, picture: Picture, modes: &mut [u8], keep: &mut [u8]) -> Result<(), Refusal> {
     let Blocks { colour, splits, leaves, residual, predictions: [pred_y, pred_u, pred_v], constrained } = blocks;
     let Picture { w, h, y, u, v, words } = picture;
     // Each pointer comes from a slice that lives through the call, with its own length.
@@ -58,6 +59,8 @@ pub fn reconstruct(blocks: Blocks, picture: Picture, modes: &mut [u8]) -> Result
             words.len(),
             modes.as_mut_ptr(),
             modes.len(),
+            keep.as_mut_ptr(),
+            keep.len(),
         )
     };
     answer(number, ())

@@ -29,7 +29,7 @@ pub enum Refusal {
     Pivot = 11,
     /// A malformed sheet.
     Sheet = 12,
-    /// The leaf or residual list's length, a mask or a spare byte.
+    /// The leaf or residual list's length, a mask or a keep byte.
     Record = 13,
     /// A band that is not the position's next, or is past the last.
     Band = 14,

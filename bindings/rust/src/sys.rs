@@ -183,6 +183,8 @@ extern "C" {
         map_scu_len: usize,
         modes: *mut u8,
         modes_len: usize,
+        keep: *mut u8,
+        keep_len: usize,
     ) -> u8;
     pub fn lomsakeun_deblock(
         w: usize,

@@ -394,25 +394,26 @@ fn quarters(n: usize, values: [u16; 4]) -> Vec<u16> {
 }
 
 /// A picture of 8 by 8 of four blocks of 4: DC with nothing around it, horizontal, lent, and horizontal from what was lent, which is not there
-/// where only intra units are.
+/// where only intra units are. The second and the third are kept.
 #[test]
 fn driving() {
-    let leaves = [0, 20, 1, 0, 1, 21, 4, 0, 5, 22, 3, 0, 1, 51, 0, 0];
+    let leaves = [0, 20, 1, 0, 1, 21, 4, 1, 5, 22, 3, 1, 1, 51, 0, 0];
     // Y of the first; V of the second; Y and U of the third
     let residual: Vec<i16> = [vec![8; 16], vec![-513; 4], vec![-8; 16], vec![1; 4]].concat();
     let lent = [vec![7; 64], vec![1023; 16], vec![100; 16]];
     for (constrained, last) in [(false, [0, 1023, 100]), (true, [512; 3])] {
         let (mut y, mut u, mut v) = ([9999; 64], [9999; 16], [9999; 16]);
-        let (mut words, mut modes) = ([u32::MAX; 4], [77; 4]);
+        let (mut words, mut modes, mut keep) = ([u32::MAX; 4], [77; 4], [88; 4]);
         let picture = Picture { w: 8, h: 8, y: &mut y, u: &mut u, v: &mut v, words: &mut words };
         let predictions = lent.each_ref().map(|plane| &plane[..]);
         let blocks =
             Blocks { colour: true, splits: &splits(), leaves: &leaves, residual: &residual, predictions, constrained };
-        assert_eq!(reconstruct(blocks, picture, &mut modes), Ok(()));
+        assert_eq!(reconstruct(blocks, picture, &mut modes, &mut keep), Ok(()));
         assert_eq!(y.to_vec(), quarters(8, [520, 520, 0, last[0]]));
         assert_eq!(u.to_vec(), quarters(4, [512, 512, 1023, last[1]]));
         assert_eq!(v.to_vec(), quarters(4, [512, 0, 100, last[2]]));
         let told = [20 << 16 | INTRA | 1 << 24, 21 << 16 | INTRA, 22 << 16 | 1 << 24, 51 << 16 | INTRA];
         assert_eq!((words, modes), (told.map(|word| word | DONE), [0, 1, 255, 1]));
+        assert_eq!(keep, [0, 1, 1, 0]);
     }
 }

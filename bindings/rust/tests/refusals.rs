@@ -579,6 +579,7 @@ struct Driver {
     planes: [Vec<u16>; 3],
     words: Vec<u32>,
     modes: Vec<u8>,
+    keep: Vec<u8>,
 }
 
 impl Driver {
@@ -595,6 +596,7 @@ impl Driver {
             planes,
             words: vec![9; 4],
             modes: vec![9; 4],
+            keep: vec![9; 4],
         }
     }
 
@@ -610,7 +612,7 @@ impl Driver {
             predictions,
             constrained: false,
         };
-        reconstruct(blocks, picture, &mut self.modes)
+        reconstruct(blocks, picture, &mut self.modes, &mut self.keep)
     }
 
     /// The same without its colour.
@@ -630,7 +632,8 @@ impl Driver {
         change(case);
         let before = case.clone();
         assert_eq!(case.run(), Err(refusal));
-        assert_eq!((self.planes, self.words, self.modes), (before.planes, before.words, before.modes));
+        let after = (self.planes, self.words, self.modes, self.keep);
+        assert_eq!(after, (before.planes, before.words, before.modes, before.keep));
     }
 }
 
@@ -639,6 +642,10 @@ fn driving() {
     let mut good = Driver::good();
     assert_eq!(good.run(), Ok(()));
     assert_eq!(good.planes, [vec![1022; 64], vec![1022; 16], vec![1022; 16]]);
+    assert_eq!(good.keep, [0; 4]);
+    let mut kept = Driver::good();
+    kept.leaves[3] = 1;
+    assert_eq!((kept.run(), kept.keep), (Ok(()), vec![1; 4]));
     for (w, h) in BAD_SIZES {
         Driver::refused(Size, |case| (case.w, case.h) = (w, h));
     }
@@ -656,6 +663,7 @@ fn driving() {
         case.words.pop();
     });
     Driver::refused(Length, |case| case.modes.push(0));
+    Driver::refused(Length, |case| case.keep.push(0));
     Driver::refused(Split, |case| case.splits[136] = 2);
     Driver::refused(Leaf, |case| case.splits[136] = 0);
     for wrong in [0, 3, 5, 8] {
@@ -666,7 +674,9 @@ fn driving() {
     }
     Driver::refused(Record, |case| case.leaves[2] = 8);
     Driver::refused(Record, |case| case.leaves[2] = 6);
-    Driver::refused(Record, |case| case.leaves[3] = 1);
+    for keep in [2, 128, 255] {
+        Driver::refused(Record, |case| case.leaves[3] = keep);
+    }
     for mode in [6, 255] {
         Driver::refused(Mode, |case| (case.leaves[0], case.leaves[1]) = (mode, 52));
     }

@@ -1,5 +1,5 @@
--- No call refuses always: each has an input that it accepts, here with the number of its outcome. (What `reconstruct` and `checked_leaves` accept is in
--- `replay_driver`.)
+-- No call refuses always: each has an input that it accepts, here with the number of its outcome. (Those that `reconstruct` and `checked_leaves` accept are
+-- `format-numbers` and `keep-numbers`, in Promises.)
 -- Assumes nothing.
 use mathlib.Core.Path.{_≡_, refl}
 use mathlib.Core.Bool.{true, false}

@@ -486,10 +486,10 @@ root-list-refusals =
 
 -- ---- the driver
 
--- the three planes, the words and the modes
-pub reconstruct-once : Sole 11 reconstruct-kinds.ps reconstruct-kinds.r reconstruct-reads.Post
-    (λ κs r x. let t = x .1 .1 .1 .1 .1 .1 .1 .1 .1 .1 in ended r (now (t .0) ∷ now (t .1 .0) ∷ now (t .1 .1 .0) ∷ now (t .1 .1 .1 .0) ∷ now (t .1 .1 .1 .1 .0) ∷ []))
-reconstruct-once κs a r r′ x x′ p q = settled driver.outcome (λ o. o .number) (λ o. o .y ∷ o .u ∷ o .v ∷ o .words ∷ o .modes ∷ []) p q (answer-apart r r′)
+-- the three planes, the words, the modes and the keep bytes
+pub reconstruct-once : Sole 12 reconstruct-kinds.ps reconstruct-kinds.r reconstruct-reads.Post
+    (λ κs r x. let t = x .1 .1 .1 .1 .1 .1 .1 .1 .1 .1 in ended r (now (t .0) ∷ now (t .1 .0) ∷ now (t .1 .1 .0) ∷ now (t .1 .1 .1 .0) ∷ now (t .1 .1 .1 .1 .0) ∷ now (t .1 .1 .1 .1 .1 .0) ∷ []))
+reconstruct-once κs a r r′ x x′ p q = settled driver.outcome (λ o. o .number) (λ o. o .y ∷ o .u ∷ o .v ∷ o .words ∷ o .modes ∷ o .keep ∷ []) p q (answer-apart r r′)
 
 pub checked-leaves-once : Sole 5 checked-leaves-kinds.ps checked-leaves-kinds.r checked-leaves-reads.Post (λ κs r x. r)
 checked-leaves-once κs a r r′ x x′ p q = p ∙ sym q
@@ -505,6 +505,7 @@ driven f n w splits words leaves sample =
       v = replicate n 0;
       words = words;
       modes = 0 ∷ [];
+      keep = 0 ∷ [];
     }
 
 -- an input for each rung
@@ -531,7 +532,7 @@ driver-stops i =
     let l = driver.leavesOf (g .w) (g .h) (i .splits) in
     rung (sizeOk (g .w) (g .h)) Size _
     (rung (driver.readOk (g .w) (g .h) (g .format) (length (i .splits)) (length (g .pred-y)) (length (g .pred-u)) (length (g .pred-v))) Length _
-    (rung (driver.writtenOk (g .w) (g .h) (g .format) (length (i .y)) (length (i .u)) (length (i .v)) (length (i .words)) (length (i .modes))) Length _
+    (rung (driver.writtenOk (g .w) (g .h) (g .format) (length (i .y)) (length (i .u)) (length (i .v)) (length (i .words)) (length (i .modes)) (length (i .keep))) Length _
     (walk-rung (Record ∷ Mode ∷ Qp ∷ Sample ∷ []) _ _ (picture-stops (i .splits) (g .w / 4) (g .h / 4))
     (rung (driver.recordsOk (g .format) (g .leaves) (length (g .residual)) (passed (g .leaves) l first .at) (length l)) Record _
     (rung (bytesOk (g .leaves) (length l) 0 5) Mode _
@@ -563,6 +564,18 @@ by-format =
 pub format-numbers : map (λ (i : driver.Input). driver.outcome i .number) by-format ≡ 13 ∷ 2 ∷ 2 ∷ 0 ∷ []
 unfolding driver.outcome driver.checkOf driver.readOk driver.writtenOk driver.dataCheck driver.recordsOk driver.lentOk bytesOk sizeOk leavesOf walk byByte inTurn onward leafWalk run samplesOk allBelow flagAt fieldOf
 format-numbers = refl
+
+-- by the keep byte: 0 or 1, and no other
+abbrev by-keep : List driver.Input
+by-keep =
+    driven Colour 4 4 (root 1) (0 ∷ []) (5 ∷ 51 ∷ 0 ∷ 0 ∷ []) 0
+    ∷ driven Colour 4 4 (root 1) (0 ∷ []) (5 ∷ 51 ∷ 0 ∷ 1 ∷ []) 0
+    ∷ driven Colour 4 4 (root 1) (0 ∷ []) (5 ∷ 51 ∷ 0 ∷ 2 ∷ []) 0
+    ∷ []
+
+pub keep-numbers : map (λ (i : driver.Input). driver.outcome i .number) by-keep ≡ 0 ∷ 0 ∷ 13 ∷ []
+unfolding driver.outcome driver.checkOf driver.readOk driver.writtenOk driver.dataCheck driver.recordsOk driver.lentOk bytesOk sizeOk leavesOf walk byByte inTurn onward leafWalk run samplesOk allBelow flagAt fieldOf
+keep-numbers = refl
 
 -- ---- marks, and the compact form of a split map
 

@@ -184,8 +184,16 @@ lomsakeun-deblock-band-once κs a n n′ x x′ p q = p ∙ sym q
 
 -- ---- reconstruct
 
-pub lomsakeun-reconstruct-once : Sole 11 reconstruct-kinds.ps reconstruct-kinds.r reconstruct-reads.Post {O = driving.Outcome}
-    (λ κs n x. let t = x .1 .1 .1 .1 .1 .1 .1 .1 .1 .1 in record { number = n; y = now (t .0); u = now (t .1 .0); v = now (t .1 .1 .0); words = now (t .1 .1 .1 .0); modes = now (t .1 .1 .1 .1 .0) })
+pub lomsakeun-reconstruct-once : Sole 12 reconstruct-kinds.ps reconstruct-kinds.r reconstruct-reads.Post {O = driving.Outcome}
+    (λ κs n x. let t = x .1 .1 .1 .1 .1 .1 .1 .1 .1 .1 in record {
+      number = n;
+      y = now (t .0);
+      u = now (t .1 .0);
+      v = now (t .1 .1 .0);
+      words = now (t .1 .1 .1 .0);
+      modes = now (t .1 .1 .1 .1 .0);
+      keep = now (t .1 .1 .1 .1 .1 .0);
+    })
 lomsakeun-reconstruct-once κs a n n′ x x′ p q = p ∙ sym q
 
 -- ---- streams

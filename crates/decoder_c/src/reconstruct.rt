@@ -22,6 +22,7 @@ pub extern "C" fn lomsakeun_reconstruct(
     v: &mut [u16],
     map_scu: &mut [u32],
     modes: &mut [u8],
+    keep: &mut [u8],
 ) -> u8
     ensures { λ n. ⌜ Gives driving.outcome
         (record {
@@ -32,8 +33,9 @@ pub extern "C" fn lomsakeun_reconstruct(
           v = now (v .entry);
           words = now («map_scu» .entry);
           modes = now (modes .entry);
+          keep = now (keep .entry);
         })
-        (record { number = n; y = now (y .exit); u = now (u .exit); v = now (v .exit); words = now («map_scu» .exit); modes = now (modes .exit) }) ⌝ }
+        (record { number = n; y = now (y .exit); u = now (u .exit); v = now (v .exit); words = now («map_scu» .exit); modes = now (modes .exit); keep = now (keep .exit) }) ⌝ }
 {
     def::answer_number(driver::reconstruct(
         w,
@@ -51,5 +53,6 @@ pub extern "C" fn lomsakeun_reconstruct(
         v,
         map_scu,
         modes,
+        keep,
     ))
 }

@@ -25,15 +25,15 @@ use Rattle.nbr.proofs.Sides.{four}
 use Rattle.split.specs.Stored.{leavesFrom}
 use Rattle.driver_rules.specs.Asked.{GivenAsked, StateAsked, Stepped}
 use Rattle.driver_rules.specs.Call.{Input, leavesOf, done}
-use Rattle.driver_rules.specs.Records.{kindAt, qpAt, maskAt, isMode, codedY, codedU, codedV, mostMask, residualCount, startU, placeOf, passed}
+use Rattle.driver_rules.specs.Records.{kindAt, qpAt, maskAt, keepAt, isMode, codedY, codedU, codedV, mostMask, residualCount, startU, placeOf, passed}
 use Rattle.driver_rules.specs.Steps.{Given, State, componentOf, withUnits, stepAt, steps}
 use Rattle.driver_rules.proofs.States.{plane-none, mask-of-y, asked-y, asked-u, asked-v}
 use Rattle.driver_rules.proofs.Walked.{one-leaf, leaves-none, leaves-more, stepped-place}
 use Rattle.driver.specs.Lends.{givenOf, stateOf, ColourDrawn, Drawn, ColourAsked, PlanesAsked, Told, Ended}
 
 module _ {w h : ℕ} {format : Format} {constrained : Bool} {leaves : List ℕ} {residual : List ℤ} {py pu pv : List ℕ} where
-  pub planes-asked : {y u v words modes : List ℕ} {at k : ℕ} (x z side mask : ℕ) → GivenAsked (givenOf w h format constrained leaves residual py pu pv)
-      → StateAsked (givenOf w h format constrained leaves residual py pu pv) (stateOf y u v words modes at k) → blockOk w h x z side ≡ true → mask ≤ mostMask format
+  pub planes-asked : {y u v words modes keep : List ℕ} {at k : ℕ} (x z side mask : ℕ) → GivenAsked (givenOf w h format constrained leaves residual py pu pv)
+      → StateAsked (givenOf w h format constrained leaves residual py pu pv) (stateOf y u v words modes keep at k) → blockOk w h x z side ≡ true → mask ≤ mostMask format
       → PlanesAsked (givenOf w h format constrained [] residual py pu pv) x z side mask words y u v
   planes-asked x z side mask ga sa b m =
       record {
@@ -85,8 +85,9 @@ module _ (g : Given) (x z side kind mask at : ℕ) (words u v : List ℕ) where
       let first : a ≡ startU at mask side = p .1 ∙ rw ey in
       record { y-drawn = p .0 ∙ rw ey; u-drawn = q .u-drawn ∙ rw first; v-drawn = q .v-drawn ∙ rw first; ends = q .ends ∙ rw first }
 
-pub told : (w h x z side : ℕ) (words modes : List ℕ) → sizeOk w h ≡ true → blockOk w h x z side ≡ true → length words ≡ unitCount w h → length modes ≡ unitCount w h → Told (w / 4) (x / 4) (z / 4) (side / 4) words modes
-told w h x z side words modes s b e f =
+pub told : (w h x z side : ℕ) (words modes keep : List ℕ) → sizeOk w h ≡ true → blockOk w h x z side ≡ true
+    → length words ≡ unitCount w h → length modes ≡ unitCount w h → length keep ≡ unitCount w h → Told (w / 4) (x / 4) (z / 4) (side / 4) words modes keep
+told w h x z side words modes keep s b e f d =
     let n = sized w h s in
     let k = blocked w h x z side b in
     let column = four x side (k .side-ok) (k .column) in
@@ -96,33 +97,35 @@ told w h x z side words modes s b e f =
       some = omega (arith, n .some-wide);
       right = omega (arith, k .by-four, k .inside);
       bottom = omega (arith, mul-le-mul-right (w / 4) rows, mul-comm (h / 4) (w / 4));
-      same = f ∙ sym e;
+      modes-same = f ∙ sym e;
+      keep-same = d ∙ sym e;
       rows = omega (arith, n .high);
     }
 
 -- ---- one leaf more of a list: leaf k + j is numbered from the list's first
 
-module _ {g : Given} {y u v words modes : List ℕ} {end : ℕ} where
-  pub leaves-start : (list : List ℕ) (k : ℕ) → StateAsked g (stateOf y u v words modes end k) → Stepped g (leavesFrom list 0) (stateOf y u v words modes end k) (stateOf y u v words modes end (k + 0))
+module _ {g : Given} {y u v words modes keep : List ℕ} {end : ℕ} where
+  pub leaves-start : (list : List ℕ) (k : ℕ) → StateAsked g (stateOf y u v words modes keep end k) → Stepped g (leavesFrom list 0) (stateOf y u v words modes keep end k) (stateOf y u v words modes keep end (k + 0))
   leaves-start list k h = let e : k + 0 ≡ k = omega arith in rw e (leaves-none g list _ h)
 
-  pub leaves-asked : {s : State} (list : List ℕ) (k j : ℕ) → Stepped g (leavesFrom list j) s (stateOf y u v words modes end (k + j)) → placeOf end (k + j) ≡ passed (g .leaves) (leavesFrom list j) (s .place)
+  pub leaves-asked : {s : State} (list : List ℕ) (k j : ℕ) → Stepped g (leavesFrom list j) s (stateOf y u v words modes keep end (k + j)) → placeOf end (k + j) ≡ passed (g .leaves) (leavesFrom list j) (s .place)
   leaves-asked list k j a = stepped-place g (leavesFrom list j) _ _ a
 
-module _ (g : Given) {x z side kind qp mask at end : ℕ} {y u v words modes y′ u′ v′ words′ modes′ : List ℕ} where
+module _ (g : Given) {x z side kind qp mask mark at end : ℕ} {y u v words modes keep y′ u′ v′ words′ modes′ keep′ : List ℕ} where
   pub leaves-next : {s : State} (list : List ℕ) (k j : ℕ) → GivenAsked g → blockOk (g .w) (g .h) x z side ≡ true
       → (x ≡ getD list (3 * j) 0) × (z ≡ getD list (3 * j + 1) 0) × (side ≡ getD list (3 * j + 2) 0)
-      → (kind ≡ kindAt (g .leaves) (k + j)) × (qp ≡ qpAt (g .leaves) (k + j)) × (mask ≡ maskAt (g .leaves) (k + j))
+      → (kind ≡ kindAt (g .leaves) (k + j)) × (qp ≡ qpAt (g .leaves) (k + j)) × (mask ≡ maskAt (g .leaves) (k + j)) × (mark ≡ keepAt (g .leaves) (k + j))
       → Drawn (givenOf (g .w) (g .h) (g .format) (g .constrained) [] (g .residual) (g .pred-y) (g .pred-u) (g .pred-v)) x z side kind mask at words y u v y′ u′ v′ end
       → (words′ ≡ withUnits (g .w) x z side (leafWord (isMode kind) qp (codedY mask)) words) × (modes′ ≡ withUnits (g .w) x z side (pick (isMode kind) kind 255) modes)
-      → Stepped g (leavesFrom list j) s (stateOf y u v words modes at (k + j)) → Stepped g (leavesFrom list (j + 1)) s (stateOf y′ u′ v′ words′ modes′ end (k + (j + 1)))
+      × (keep′ ≡ withUnits (g .w) x z side mark keep)
+      → Stepped g (leavesFrom list j) s (stateOf y u v words modes keep at (k + j)) → Stepped g (leavesFrom list (j + 1)) s (stateOf y′ u′ v′ words′ modes′ keep′ end (k + (j + 1)))
   unfolding stepAt
   leaves-next {s = s} list k j ga b place e d t a =
       let n : k + (j + 1) ≡ k + j + 1 = omega arith in
       let one = one-leaf g x z side _ _ ga (a .asked) b drawn in
       rw n (leaves-more g list j s _ _ a (rw (place .0, place .1, place .2) at one)) where
-        drawn : stateOf y′ u′ v′ words′ modes′ end (k + j + 1) ≡ stepAt g x z side (stateOf y u v words modes at (k + j))
-        drawn = rw (d .y-drawn, d .u-drawn, d .v-drawn, d .ends, t .0, t .1, e .0, e .1, e .2)
+        drawn : stateOf y′ u′ v′ words′ modes′ keep′ end (k + j + 1) ≡ stepAt g x z side (stateOf y u v words modes keep at (k + j))
+        drawn = rw (d .y-drawn, d .u-drawn, d .v-drawn, d .ends, t .0, t .1, t .2, e .0, e .1, e .2, e .3)
 
 -- lengths stay
 pub record Kept (s t : State) : Type 0 where
@@ -131,6 +134,7 @@ pub record Kept (s t : State) : Type 0 where
   pub v-kept : length (t .v) ≡ length (s .v)
   pub words-kept : length (t .words) ≡ length (s .words)
   pub modes-kept : length (t .modes) ≡ length (s .modes)
+  pub keep-kept : length (t .keep) ≡ length (s .keep)
 
 pub kept : (g : Given) (s t : State) → StateAsked g s → StateAsked g t → Kept s t
 kept g s t a b =
@@ -140,11 +144,12 @@ kept g s t a b =
       v-kept = b .v-long ∙ sym (a .v-long);
       words-kept = b .words-long ∙ sym (a .words-long);
       modes-kept = b .modes-long ∙ sym (a .modes-long);
+      keep-kept = b .keep-long ∙ sym (a .keep-long);
     }
 
 -- ---- the planes and the maps of a state
 
-pub ended : {s : State} {y u v words modes : List ℕ} {at k : ℕ} → stateOf y u v words modes at k ≡ s → Ended s y u v words modes
+pub ended : {s : State} {y u v words modes keep : List ℕ} {at k : ℕ} → stateOf y u v words modes keep at k ≡ s → Ended s y u v words modes keep
 ended e =
     record {
       y-end = ap (λ (s : State). s .y) e;
@@ -152,10 +157,11 @@ ended e =
       v-end = ap (λ (s : State). s .v) e;
       words-end = ap (λ (s : State). s .words) e;
       modes-end = ap (λ (s : State). s .modes) e;
+      keep-end = ap (λ (s : State). s .keep) e;
     }
 
 -- as the call's outcome: the words were cleared first
-pub done-ended : (i : Input) {words y′ u′ v′ words′ modes′ : List ℕ} → words ≡ tabulate (length (i .words)) (λ (k : ℕ). 0)
-    → Ended (steps (i .given) (leavesOf (i .given .w) (i .given .h) (i .splits)) (stateOf (i .y) (i .u) (i .v) words (i .modes) 0 0)) y′ u′ v′ words′ modes′
-    → record { number = 0; y = y′; u = u′; v = v′; words = words′; modes = modes′ } ≡ done i
-done-ended i e d = let f = rw e at d in rw (f .y-end, f .u-end, f .v-end, f .words-end, f .modes-end)
+pub done-ended : (i : Input) {words y′ u′ v′ words′ modes′ keep′ : List ℕ} → words ≡ tabulate (length (i .words)) (λ (k : ℕ). 0)
+    → Ended (steps (i .given) (leavesOf (i .given .w) (i .given .h) (i .splits)) (stateOf (i .y) (i .u) (i .v) words (i .modes) (i .keep) 0 0)) y′ u′ v′ words′ modes′ keep′
+    → record { number = 0; y = y′; u = u′; v = v′; words = words′; modes = modes′; keep = keep′ } ≡ done i
+done-ended i e d = let f = rw e at d in rw (f .y-end, f .u-end, f .v-end, f .words-end, f .modes-end, f .keep-end)

@@ -19,8 +19,8 @@ abbrev pub givenOf : (w h : ℕ) (format : Format) (constrained : Bool) (leaves 
 givenOf w h format constrained leaves residual py pu pv =
     record { w = w; h = h; format = format; constrained = constrained; leaves = leaves; residual = residual; pred-y = py; pred-u = pu; pred-v = pv }
 
-abbrev pub stateOf : (y u v words modes : List ℕ) (at k : ℕ) → State
-stateOf y u v words modes at k = record { y = y; u = u; v = v; words = words; modes = modes; place = placeOf at k }
+abbrev pub stateOf : (y u v words modes keep : List ℕ) (at k : ℕ) → State
+stateOf y u v words modes keep at k = record { y = y; u = u; v = v; words = words; modes = modes; keep = keep; place = placeOf at k }
 
 -- where V's residuals end, those of U starting at `at`
 abbrev pub colourEnd : (at mask side : ℕ) → ℕ
@@ -55,18 +55,20 @@ pub record PlanesAsked (g : Given) (x z side mask : ℕ) (words y u v : List ℕ
   pub y-asked : BlockAsked (aroundOf g Luma x z side y words)
   pub colour : ColourAsked g x z side mask words u v
 
--- a block of n by n units in two maps of rows of `columns`
-pub record Told (columns x y n : ℕ) (words modes : List ℕ) : Type 0 where
+-- a block of n by n units in three maps of rows of `columns`
+pub record Told (columns x y n : ℕ) (words modes keep : List ℕ) : Type 0 where
   pub some : 0 < columns
   pub right : x + n ≤ columns
   pub bottom : (y + n) * columns ≤ length words
-  pub same : length modes ≡ length words
+  pub modes-same : length modes ≡ length words
+  pub keep-same : length keep ≡ length words
   pub rows : y + n ≤ 4096
 
 -- the planes and the maps of a state
-pub record Ended (s : State) (y u v words modes : List ℕ) : Type 0 where
+pub record Ended (s : State) (y u v words modes keep : List ℕ) : Type 0 where
   pub y-end : y ≡ s .y
   pub u-end : u ≡ s .u
   pub v-end : v ≡ s .v
   pub words-end : words ≡ s .words
   pub modes-end : modes ≡ s .modes
+  pub keep-end : keep ≡ s .keep

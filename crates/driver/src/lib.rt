@@ -31,6 +31,7 @@ pub fn reconstruct(
     v: &mut [u16],
     map_scu: &mut [u32],
     modes: &mut [u8],
+    keep: &mut [u8],
 ) -> Answer
     ensures { λ r. ⌜ Gives outcome
         (record {
@@ -41,8 +42,9 @@ pub fn reconstruct(
           v = now (v .entry);
           words = now («map_scu» .entry);
           modes = now (modes .entry);
+          keep = now (keep .entry);
         })
-        (record { number = answerNumber r; y = now (y .exit); u = now (u .exit); v = now (v .exit); words = now («map_scu» .exit); modes = now (modes .exit) }) ⌝ }
+        (record { number = answerNumber r; y = now (y .exit); u = now (u .exit); v = now (v .exit); words = now («map_scu» .exit); modes = now (modes .exit); keep = now (keep .exit) }) ⌝ }
 {
     match checked_leaves(
         w,
@@ -59,6 +61,7 @@ pub fn reconstruct(
         v.len(),
         map_scu.len(),
         modes.len(),
+        keep.len(),
     ) {
         Answer::Refused(r) => Answer::Refused(r),
         Answer::Done => {
@@ -79,6 +82,7 @@ pub fn reconstruct(
                 v,
                 map_scu,
                 modes,
+                keep,
             );
             Answer::Done
         }

@@ -10,7 +10,7 @@ ghost use Rattle.def.specs.Word.{leafWord};
 ghost use Rattle.split.specs.Stored.{leavesFrom};
 ghost use Rattle.driver_rules.specs.Asked.{GivenAsked, StateAsked, Reaches, Blocks, Accepted, Listed, Stepped};
 ghost use Rattle.driver_rules.specs.Call.{leavesOf};
-ghost use Rattle.driver_rules.specs.Records.{kindAt, qpAt, maskAt, isMode, codedY, endV, placeOf, first, passed};
+ghost use Rattle.driver_rules.specs.Records.{kindAt, qpAt, maskAt, keepAt, isMode, codedY, endV, placeOf, first, passed};
 ghost use Rattle.driver_rules.specs.Steps.{withUnits, steps};
 ghost use Rattle.driver.specs.Lends.{givenOf, stateOf, colourEnd, ColourDrawn, Drawn, ColourAsked, PlanesAsked, Told, Ended};
 use crate::component::Block;
@@ -33,11 +33,12 @@ struct Leaf {
     side: usize,
 }
 
-// A leaf's record, but its spare byte.
+// A leaf's record.
 struct Record {
     kind: u8,
     qp: u8,
     mask: u8,
+    keep: u8,
 }
 
 // Leaf j of a list.
@@ -58,33 +59,52 @@ fn leaf_at(list: &[u16], j: usize) -> Leaf
 // The record of leaf k.
 fn record_at(leaves: &[u8], k: usize) -> Record
     requires { ⌜ 4 * (k + 1) ≤ length (now leaves) ⌝ }
-    ensures { λ r. ⌜ (r .kind ≡ kindAt (now (leaves .entry)) k) × (r .qp ≡ qpAt (now (leaves .entry)) k) × (r .mask ≡ maskAt (now (leaves .entry)) k) ⌝ }
+    ensures { λ r. ⌜ (r .kind ≡ kindAt (now (leaves .entry)) k) × (r .qp ≡ qpAt (now (leaves .entry)) k) × (r .mask ≡ maskAt (now (leaves .entry)) k) × (r .keep ≡ keepAt (now (leaves .entry)) k) ⌝ }
 {
     let kind = leaves[4 * k];
     let qp = leaves[4 * k + 1];
     let mask = leaves[4 * k + 2];
-    Record { kind, qp, mask }
+    let keep = leaves[4 * k + 3];
+    Record {
+        kind,
+        qp,
+        mask,
+        keep,
+    }
 }
 
 // ---- the maps
 
 // n units from place `at` on are told.
-fn tell_row(map_scu: &mut [u32], modes: &mut [u8], at: usize, n: usize, word: u32, mode: u8)
-    requires { ⌜ (at + n ≤ length (now «map_scu»)) × (at + n ≤ length (now modes)) ⌝ }
-    ensures { λ _. ⌜ (now («map_scu» .exit) ≡ withRow 0 at n (λ (j : ℕ). word) (now («map_scu» .entry))) × (now (modes .exit) ≡ withRow 0 at n (λ (j : ℕ). mode) (now (modes .entry))) ⌝ }
+fn tell_row(
+    map_scu: &mut [u32],
+    modes: &mut [u8],
+    keep: &mut [u8],
+    at: usize,
+    n: usize,
+    word: u32,
+    mode: u8,
+    mark: u8,
+)
+    requires { ⌜ (at + n ≤ length (now «map_scu»)) × (at + n ≤ length (now modes)) × (at + n ≤ length (now keep)) ⌝ }
+    ensures { λ _. ⌜ (now («map_scu» .exit) ≡ withRow 0 at n (λ (j : ℕ). word) (now («map_scu» .entry))) × (now (modes .exit) ≡ withRow 0 at n (λ (j : ℕ). mode) (now (modes .entry)))
+        × (now (keep .exit) ≡ withRow 0 at n (λ (j : ℕ). mark) (now (keep .entry))) ⌝ }
 {
     let mut j = 0;
     while j < n {
         map_scu[at + j] = word;
         modes[at + j] = mode;
+        keep[at + j] = mark;
         j += 1;
     }
 }
 
-// The units of a leaf, in maps of a picture w wide: the word of its record, and the mode.
-fn tell(map_scu: &mut [u32], modes: &mut [u8], w: usize, leaf: Leaf, said: Record)
-    requires { ⌜ Told (w / 4) (leaf .x .0 / 4) (leaf .z .0 / 4) (leaf .side / 4) (now «map_scu») (now modes) ⌝ }
-    ensures { λ _. ⌜ (now («map_scu» .exit) ≡ withUnits w (leaf .x .0) (leaf .z .0) (leaf .side) (leafWord (isMode (said .kind)) (said .qp) (codedY (said .mask))) (now («map_scu» .entry))) × (now (modes .exit) ≡ withUnits w (leaf .x .0) (leaf .z .0) (leaf .side) (pick (isMode (said .kind)) (said .kind) 255) (now (modes .entry))) ⌝ }
+// The units of a leaf, in maps of a picture w wide: the word of its record, the mode, and whether they are kept.
+fn tell(map_scu: &mut [u32], modes: &mut [u8], keep: &mut [u8], w: usize, leaf: Leaf, said: Record)
+    requires { ⌜ Told (w / 4) (leaf .x .0 / 4) (leaf .z .0 / 4) (leaf .side / 4) (now «map_scu») (now modes) (now keep) ⌝ }
+    ensures { λ _. ⌜ (now («map_scu» .exit) ≡ withUnits w (leaf .x .0) (leaf .z .0) (leaf .side) (leafWord (isMode (said .kind)) (said .qp) (codedY (said .mask))) (now («map_scu» .entry)))
+        × (now (modes .exit) ≡ withUnits w (leaf .x .0) (leaf .z .0) (leaf .side) (pick (isMode (said .kind)) (said .kind) 255) (now (modes .entry)))
+        × (now (keep .exit) ≡ withUnits w (leaf .x .0) (leaf .z .0) (leaf .side) (said .keep) (now (keep .entry))) ⌝ }
 {
     let columns = w / 4;
     let x = pel2scu(leaf.x).0;
@@ -93,15 +113,18 @@ fn tell(map_scu: &mut [u32], modes: &mut [u8], w: usize, leaf: Leaf, said: Recor
     let n = side / 4;
     let word = word_of(said.kind, said.qp, said.mask);
     let mode = mode_of(said.kind);
+    let mark = said.keep;
     let mut r = 0;
     while r < n {
         tell_row(
             &mut *map_scu,
             &mut *modes,
+            &mut *keep,
             (y + r) * columns + x,
             n,
             word,
             mode,
+            mark,
         );
         r += 1;
     }
@@ -264,15 +287,16 @@ fn draw_leaves(
     v: &mut [u16],
     map_scu: &mut [u32],
     modes: &mut [u8],
+    keep: &mut [u8],
     run: &mut [u16; 257],
     room: &mut [u16; 4096],
 ) -> usize
     requires { ⌜ GivenAsked (givenOf w h format constrained (now leaves) (now residual) (now «pred_y») (now «pred_u») (now «pred_v»)) ⌝ }
-    requires { ⌜ StateAsked (givenOf w h format constrained (now leaves) (now residual) (now «pred_y») (now «pred_u») (now «pred_v»)) (stateOf (now y) (now u) (now v) (now «map_scu») (now modes) at k) ⌝ }
+    requires { ⌜ StateAsked (givenOf w h format constrained (now leaves) (now residual) (now «pred_y») (now «pred_u») (now «pred_v»)) (stateOf (now y) (now u) (now v) (now «map_scu») (now modes) (now keep) at k) ⌝ }
     requires { ⌜ Blocks w h (now list) n × Reaches (now leaves) (length (now residual)) (passed (now leaves) (leavesFrom (now list) n) (placeOf at k)) ⌝ }
     ensures { λ r. ⌜ Stepped (givenOf w h format constrained (now (leaves .entry)) (now (residual .entry)) (now («pred_y» .entry)) (now («pred_u» .entry)) (now («pred_v» .entry))) (leavesFrom (now (list .entry)) n)
-        (stateOf (now (y .entry)) (now (u .entry)) (now (v .entry)) (now («map_scu» .entry)) (now (modes .entry)) at k)
-        (stateOf (now (y .exit)) (now (u .exit)) (now (v .exit)) (now («map_scu» .exit)) (now (modes .exit)) r (k + n)) ⌝ }
+        (stateOf (now (y .entry)) (now (u .entry)) (now (v .entry)) (now («map_scu» .entry)) (now (modes .entry)) (now (keep .entry)) at k)
+        (stateOf (now (y .exit)) (now (u .exit)) (now (v .exit)) (now («map_scu» .exit)) (now (modes .exit)) (now (keep .exit)) r (k + n)) ⌝ }
 {
     let mut end = at;
     for j in 0..n {
@@ -297,7 +321,7 @@ fn draw_leaves(
             &mut *run,
             &mut *room,
         );
-        tell(&mut *map_scu, &mut *modes, w, leaf, said);
+        tell(&mut *map_scu, &mut *modes, &mut *keep, w, leaf, said);
     }
     end
 }
@@ -346,14 +370,15 @@ pub(crate) fn draw_picture(
     v: &mut [u16],
     map_scu: &mut [u32],
     modes: &mut [u8],
+    keep: &mut [u8],
 )
     requires { ⌜ GivenAsked (givenOf w h format constrained (now leaves) (now residual) (now «pred_y») (now «pred_u») (now «pred_v»)) ⌝ }
-    requires { ⌜ StateAsked (givenOf w h format constrained (now leaves) (now residual) (now «pred_y») (now «pred_u») (now «pred_v»)) (stateOf (now y) (now u) (now v) (now «map_scu») (now modes) 0 0) ⌝ }
+    requires { ⌜ StateAsked (givenOf w h format constrained (now leaves) (now residual) (now «pred_y») (now «pred_u») (now «pred_v»)) (stateOf (now y) (now u) (now v) (now «map_scu») (now modes) (now keep) 0 0) ⌝ }
     requires { ⌜ Accepted w h (now splits) × Reaches (now leaves) (length (now residual)) (passed (now leaves) (leavesOf w h (now splits)) first) ⌝ }
     ensures { λ _. ⌜ Ended
         (steps (givenOf w h format constrained (now (leaves .entry)) (now (residual .entry)) (now («pred_y» .entry)) (now («pred_u» .entry)) (now («pred_v» .entry))) (leavesOf w h (now (splits .entry)))
-        (stateOf (now (y .entry)) (now (u .entry)) (now (v .entry)) (now («map_scu» .entry)) (now (modes .entry)) 0 0))
-        (now (y .exit)) (now (u .exit)) (now (v .exit)) (now («map_scu» .exit)) (now (modes .exit)) ⌝ }
+        (stateOf (now (y .entry)) (now (u .entry)) (now (v .entry)) (now («map_scu» .entry)) (now (modes .entry)) (now (keep .entry)) 0 0))
+        (now (y .exit)) (now (u .exit)) (now (v .exit)) (now («map_scu» .exit)) (now (modes .exit)) (now (keep .exit)) ⌝ }
 {
     let roots = (w + 63) / 64 * ((h + 63) / 64);
     let mut list = [0u16; 768];
@@ -382,6 +407,7 @@ pub(crate) fn draw_picture(
             &mut *v,
             &mut *map_scu,
             &mut *modes,
+            &mut *keep,
             &mut run,
             &mut room,
         );

@@ -119,14 +119,20 @@ fn written_ok(
     v: usize,
     map_scu: usize,
     modes: usize,
+    keep: usize,
 ) -> bool
     requires { ⌜ Sized w h ⌝ }
-    ensures { λ r. ⌜ r ≡ writtenOk w h format y u v «map_scu» modes ⌝ }
+    ensures { λ r. ⌜ r ≡ writtenOk w h format y u v «map_scu» modes keep ⌝ }
 {
     let luma = w * h;
     let chroma = colour_length(w, h, format);
     let units = w / 4 * (h / 4);
-    (y == luma) & (u == chroma) & (v == chroma) & (map_scu == units) & (modes == units)
+    (y == luma)
+        & (u == chroma)
+        & (v == chroma)
+        & (map_scu == units)
+        & (modes == units)
+        & (keep == units)
 }
 
 // Whether byte b of each of the first n leaf records is at most m.
@@ -143,7 +149,7 @@ fn bytes_ok(leaves: &[u8], n: usize, b: usize, m: u8) -> bool
     ok
 }
 
-// Whether the lists are as long as the leaves ask, no mask is over the format's largest, and every spare byte is 0. The n leaves end at `at` in the residual list.
+// Whether the lists are as long as the leaves ask, no mask is over the format's largest, and every keep byte is 0 or 1. The n leaves end at `at` in the residual list.
 fn records_ok(format: Format, leaves: &[u8], residual: usize, at: usize, n: usize) -> bool
     requires { ⌜ n ≤ 1048576 ⌝ }
     ensures { λ r. ⌜ r ≡ recordsOk format (now (leaves .entry)) residual at n ⌝ }
@@ -152,7 +158,7 @@ fn records_ok(format: Format, leaves: &[u8], residual: usize, at: usize, n: usiz
         return false;
     }
     let most = most_mask(format);
-    (residual == at) & bytes_ok(leaves, n, 2, most) & bytes_ok(leaves, n, 3, 0)
+    (residual == at) & bytes_ok(leaves, n, 2, most) & bytes_ok(leaves, n, 3, 1)
 }
 
 // Whether every sample of the lent prediction is one of 10 bits.
@@ -210,8 +216,9 @@ pub fn checked_leaves(
     v: usize,
     map_scu: usize,
     modes: usize,
+    keep: usize,
 ) -> Answer
-    ensures { λ r. ⌜ r ≡ checkOf w h format (now (splits .entry)) (now (leaves .entry)) residual (now («pred_y» .entry)) (now («pred_u» .entry)) (now («pred_v» .entry)) y u v «map_scu» modes ⌝ }
+    ensures { λ r. ⌜ r ≡ checkOf w h format (now (splits .entry)) (now (leaves .entry)) residual (now («pred_y» .entry)) (now («pred_u» .entry)) (now («pred_v» .entry)) y u v «map_scu» modes keep ⌝ }
 {
     if !def::size_ok(w, h) {
         return Answer::Refused(Refusal::Size);
@@ -227,7 +234,7 @@ pub fn checked_leaves(
     ) {
         return Answer::Refused(Refusal::Length);
     }
-    if !written_ok(w, h, format, y, u, v, map_scu, modes) {
+    if !written_ok(w, h, format, y, u, v, map_scu, modes, keep) {
         return Answer::Refused(Refusal::Length);
     }
     match split::check(w, h, splits) {

@@ -72,18 +72,19 @@ read-told w h f splits py pu pv e =
     let t = readTests w h f splits py pu pv in
     record { splits-long = eqb-true _ _ (all-at t 0 e); y-long = luma w h py (eqb-true _ _ (all-at t 1 e)); u-long = eqb-true _ _ (all-at t 2 e); v-long = eqb-true _ _ (all-at t 3 e) }
 
-pub record Written (w h : ℕ) (f : Format) (y u v words modes : ℕ) : Type 0 where
+pub record Written (w h : ℕ) (f : Format) (y u v words modes keep : ℕ) : Type 0 where
   pub y-long : y ≡ planeLength Luma w h
   pub u-long : u ≡ inFormat f (planeLength Chroma w h)
   pub v-long : v ≡ inFormat f (planeLength Chroma w h)
   pub words-long : words ≡ unitCount w h
   pub modes-long : modes ≡ unitCount w h
+  pub keep-long : keep ≡ unitCount w h
 
-pub written-told : (w h : ℕ) (f : Format) (y u v words modes : ℕ) → writtenOk w h f y u v words modes ≡ true → Written w h f y u v words modes
+pub written-told : (w h : ℕ) (f : Format) (y u v words modes keep : ℕ) → writtenOk w h f y u v words modes keep ≡ true → Written w h f y u v words modes keep
 unfolding writtenOk
-written-told w h f y u v words modes e =
-    let t = writtenTests w h f y u v words modes in
-    record { y-long = luma w h y (eqb-true _ _ (all-at t 0 e)); u-long = eqb-true _ _ (all-at t 1 e); v-long = eqb-true _ _ (all-at t 2 e); words-long = eqb-true _ _ (all-at t 3 e); modes-long = eqb-true _ _ (all-at t 4 e) }
+written-told w h f y u v words modes keep e =
+    let t = writtenTests w h f y u v words modes keep in
+    record { y-long = luma w h y (eqb-true _ _ (all-at t 0 e)); u-long = eqb-true _ _ (all-at t 1 e); v-long = eqb-true _ _ (all-at t 2 e); words-long = eqb-true _ _ (all-at t 3 e); modes-long = eqb-true _ _ (all-at t 4 e); keep-long = eqb-true _ _ (all-at t 5 e) }
 
 -- ---- the call's input, where its checks find nothing
 
@@ -92,9 +93,9 @@ pub record Passed (i : Input) : Type 0 where
   pub state : StateAsked (i .given) (start i)
   pub accepted : Accepted (i .given .w) (i .given .h) (i .splits)
   pub reaches : Reaches (i .given .leaves) (length (i .given .residual)) (passed (i .given .leaves) (leavesOf (i .given .w) (i .given .h) (i .splits)) first)
-  pub written : writtenOk (i .given .w) (i .given .h) (i .given .format) (length (i .y)) (length (i .u)) (length (i .v)) (length (i .words)) (length (i .modes)) ≡ true
+  pub written : writtenOk (i .given .w) (i .given .h) (i .given .format) (length (i .y)) (length (i .u)) (length (i .v)) (length (i .words)) (length (i .modes)) (length (i .keep)) ≡ true
   pub records : length (i .given .leaves) ≡ 4 * length (leavesOf (i .given .w) (i .given .h) (i .splits))
-  pub spares : bytesOk (i .given .leaves) (length (leavesOf (i .given .w) (i .given .h) (i .splits))) 3 0 ≡ true
+  pub spares : bytesOk (i .given .leaves) (length (leavesOf (i .given .w) (i .given .h) (i .splits))) 3 1 ≡ true
   pub kinds : bytesOk (i .given .leaves) (length (leavesOf (i .given .w) (i .given .h) (i .splits))) 0 5 ≡ true
   pub qps : bytesOk (i .given .leaves) (length (leavesOf (i .given .w) (i .given .h) (i .splits))) 1 51 ≡ true
 
@@ -124,7 +125,7 @@ all-passed i e =
     let qps = passes (bytesOk (g .leaves) (length l) 1 51) Qp _ (modes .rest) in
     let lent = passes (lentOk (g .pred-y) (g .pred-u) (g .pred-v)) Sample Done (qps .rest) in
     let r = read-told _ _ (g .format) _ _ _ _ (read .holds) in
-    let w = written-told _ _ (g .format) _ _ _ _ _ (written .holds) in
+    let w = written-told _ _ (g .format) _ _ _ _ _ _ (written .holds) in
     let tests = lentTests (g .pred-y) (g .pred-u) (g .pred-v) in
     let lists = recordTests (g .format) (g .leaves) (length (g .residual)) (passed (g .leaves) l first .at) (length l) in
     let four : length (g .leaves) ≡ 4 * length l = eqb-true _ _ (all-at lists 0 (records .holds)) in
@@ -146,6 +147,7 @@ all-passed i e =
             v-long = w .v-long;
             words-long = long ∙ w .words-long;
             modes-long = w .modes-long;
+            keep-long = w .keep-long;
             y-done = done-none Luma _ _ Small (i .y) (i .y) _ (size .holds) (w .words-long);
             u-done = done-none Chroma _ _ Small (i .u) (i .u) _ (size .holds) (w .words-long);
             v-done = done-none Chroma _ _ Small (i .v) (i .v) _ (size .holds) (w .words-long);

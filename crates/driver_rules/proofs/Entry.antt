@@ -1,4 +1,4 @@
--- What the planes, the words and the modes held before the call counts for nothing.
+-- What the planes, the words, the modes and the keep bytes held before the call counts for nothing.
 --     plane-alike    a component of a leaf in two planes that agree where units are done
 --     step-alike, steps-alike    a leaf; the leaves of a list
 --     held-for-nothing    the theorem
@@ -89,13 +89,14 @@ pub record Alike (g : Given) (s t : State) : Type 0 where
   pub u : g .format ≡ Colour → PlaneSame Chroma (g .w) (g .h) (s .u) (t .u) (s .words)
   pub v : g .format ≡ Colour → PlaneSame Chroma (g .w) (g .h) (s .v) (t .v) (s .words)
   pub modes : UnitsSame (g .w) (g .h) (s .modes) (t .modes) (s .words)
+  pub keep : UnitsSame (g .w) (g .h) (s .keep) (t .keep) (s .words)
   pub words : s .words ≡ t .words
   pub place : s .place ≡ t .place
 
 module _ (g : Given) (ga : GivenAsked g) where
   -- where the words and the places are one
   abbrev held : State → State → State
-  held s t = record { y = t .y; u = t .u; v = t .v; words = s .words; modes = t .modes; place = s .place }
+  held s t = record { y = t .y; u = t .u; v = t .v; words = s .words; modes = t .modes; keep = t .keep; place = s .place }
 
   module _ (x y side : ℕ) (s t : State) (sa : StateAsked g s) (ta : StateAsked g t) (b : blockOk (g .w) (g .h) x y side ≡ true) (a : Alike g s t) where
     colour : (plane other lent : List ℕ) (kind : ℕ) (coded : Bool) (coef : List ℤ) (word : ℕ) → length plane ≡ inFormat (g .format) (planeLength Chroma (g .w) (g .h)) → length other ≡ inFormat (g .format) (planeLength Chroma (g .w) (g .h))
@@ -112,13 +113,14 @@ module _ (g : Given) (ga : GivenAsked g) where
           u = colour (s .u) (t .u) (g .pred-u) _ _ _ _ (sa .u-long) (ta .u-long) (a .u);
           v = colour (s .v) (t .v) (g .pred-v) _ _ _ _ (sa .v-long) (ta .v-long) (a .v);
           modes = units-alike (g .w) (g .h) x y side _ _ (s .modes) (t .modes) (s .words) (sa .modes-long) (ta .modes-long) (sa .words-long) (a .modes);
+          keep = units-alike (g .w) (g .h) x y side _ _ (s .keep) (t .keep) (s .words) (sa .keep-long) (ta .keep-long) (sa .words-long) (a .keep);
           words = refl;
           place = refl;
         }
 
     step-alike : Alike g (stepAt g x y side s) (stepAt g x y side t)
     step-alike =
-        let same : held s t ≡ t = (λ k. record { y = t .y; u = t .u; v = t .v; words = a .words k; modes = t .modes; place = a .place k }) in
+        let same : held s t ≡ t = (λ k. record { y = t .y; u = t .u; v = t .v; words = a .words k; modes = t .modes; keep = t .keep; place = a .place k }) in
         subst (λ (r : State). Alike g (stepAt g x y side s) (stepAt g x y side r)) same step-held
 
   -- ---- the leaves of a list
@@ -135,14 +137,14 @@ module _ (g : Given) (ga : GivenAsked g) where
 module _ (i j : Input) (e : SameButHeld i j) where
   same-check : check i ≡ check j
   same-check = (λ k. let g = e .given k in
-      checkOf (g .w) (g .h) (g .format) (e .splits k) (g .leaves) (length (g .residual)) (g .pred-y) (g .pred-u) (g .pred-v) (e .y k) (e .u k) (e .v k) (e .words k) (e .modes k))
+      checkOf (g .w) (g .h) (g .format) (e .splits k) (g .leaves) (length (g .residual)) (g .pred-y) (g .pred-u) (g .pred-v) (e .y k) (e .u k) (e .v k) (e .words k) (e .modes k) (e .keep k))
 
   -- the second call's input, with what the two have in common taken from the first
   abbrev again : Input
-  again = record { given = i .given; splits = i .splits; y = j .y; u = j .u; v = j .v; words = j .words; modes = j .modes }
+  again = record { given = i .given; splits = i .splits; y = j .y; u = j .u; v = j .v; words = j .words; modes = j .modes; keep = j .keep }
 
   is-again : again ≡ j
-  is-again = (λ k. record { given = e .given k; splits = e .splits k; y = j .y; u = j .u; v = j .v; words = j .words; modes = j .modes })
+  is-again = (λ k. record { given = e .given k; splits = e .splits k; y = j .y; u = j .u; v = j .v; words = j .words; modes = j .modes; keep = j .keep })
 
   module _ (accepted : check i ≡ Done) where
     abbrev w : ℕ
@@ -170,6 +172,7 @@ module _ (i j : Input) (e : SameButHeld i j) where
           u = λ c. done-none Chroma w h (_≡_ {A = ℕ}) (i .u) (j .u) (length (i .words)) size words-all;
           v = λ c. done-none Chroma w h (_≡_ {A = ℕ}) (i .v) (j .v) (length (i .words)) size words-all;
           modes = record { each = λ u v p q d. absurd (none-done w h (length (i .words)) u v words-all p q d) };
+          keep = record { each = λ u v p q d. absurd (none-done w h (length (i .words)) u v words-all p q d) };
           words = ap (λ (n : ℕ). tabulate n (λ (k : ℕ). 0)) (e .words);
           place = refl;
         })
@@ -197,8 +200,9 @@ module _ (i j : Input) (e : SameButHeld i j) where
         let u = one-colour _ _ (a .u-long) (b .u-long) (alike .u) in
         let v = one-colour _ _ (a .v-long) (b .v-long) (alike .v) in
         let modes = one-map _ _ (a .modes-long) (b .modes-long) (alike .modes) in
+        let keep = one-map _ _ (a .keep-long) (b .keep-long) (alike .keep) in
         outcome-done i accepted
-        ∙ (λ k. record { number = 0; y = y k; u = u k; v = v k; words = alike .words k; modes = modes k })
+        ∙ (λ k. record { number = 0; y = y k; u = u k; v = v k; words = alike .words k; modes = modes k; keep = keep k })
         ∙ sym (outcome-done again too) ∙ ap outcome is-again
 
   pub held-for-nothing : HeldForNothing i j

@@ -49,7 +49,7 @@ use Rattle.split.proofs.Walks.{each-done}
 use Rattle.driver_rules.specs.Asked.{Small, DoneSmall, GivenAsked, StateAsked}
 use Rattle.driver_rules.specs.Call.{Input, Outcome, check, leavesOf, start, end, refused, done, outcome}
 use Rattle.driver_rules.specs.Finished.{Told, Finished}
-use Rattle.driver_rules.specs.Records.{byteAt, qpAt, bytesOk, wordAt, modeAt}
+use Rattle.driver_rules.specs.Records.{byteAt, qpAt, bytesOk, wordAt, modeAt, keepAt}
 use Rattle.driver_rules.specs.Steps.{Given, State, withUnits, stepAt, step, steps}
 use Rattle.driver_rules.proofs.Checks.{Passed, all-passed}
 use Rattle.driver_rules.proofs.Lists.{leaf-block}
@@ -105,16 +105,20 @@ module _ (g : Given) (ga : GivenAsked g) where
     abbrev mode : State → ℕ
     mode s = unitAt (g .w) (s .modes) u v
 
+    abbrev mark : State → ℕ
+    mark s = unitAt (g .w) (s .keep) u v
+
     -- what leaves that come after the unit's own do not change
-    kept : (q : Leaf) (l : List Leaf) (s : State) → Holds q u v → ((p : Leaf) → List·Memᴰ p l → Before q p) → Fits l → StateAsked g s → (word (steps g l s) ≡ word s) × (mode (steps g l s) ≡ mode s)
+    kept : (q : Leaf) (l : List Leaf) (s : State) → Holds q u v → ((p : Leaf) → List·Memᴰ p l → Before q p) → Fits l → StateAsked g s → (word (steps g l s) ≡ word s) × (mode (steps g l s) ≡ mode s) × (mark (steps g l s) ≡ mark s)
     unfolding run stepAt
-    kept q [] s k b f a = (refl, refl)
+    kept q [] s k b f a = (refl, refl, refl)
     kept q (p ∷ l) s k b f a =
         let next = step-asked g (4 * p .x) (4 * p .y) (4 * p .side) s ga a (f p (List·Memᴰ·head refl)) in
         let r = kept q l (step g p s) k (λ i m. b i (List·Memᴰ·tail m)) (λ i m. f i (List·Memᴰ·tail m)) next in
         let h = b p (List·Memᴰ·head refl) in (
           r .0 ∙ told-out (g .w) (g .h) p (wordAt (g .leaves) (s .place .k)) (s .words) (a .words-long) u v cu cv q k h,
           r .1 ∙ told-out (g .w) (g .h) p (modeAt (g .leaves) (s .place .k)) (s .modes) (a .modes-long) u v cu cv q k h,
+          r .2 ∙ told-out (g .w) (g .h) p (keepAt (g .leaves) (s .place .k)) (s .keep) (a .keep-long) u v cu cv q k h,
         )
 
     -- the leaf of a list that holds the unit, by its number
@@ -124,6 +128,7 @@ module _ (g : Given) (ga : GivenAsked g) where
       pub holds : Holds (getD l number (leaf 0 0 0)) u v
       pub the-word : word s ≡ wordAt (g .leaves) (k + number)
       pub the-mode : mode s ≡ modeAt (g .leaves) (k + number)
+      pub the-mark : mark s ≡ keepAt (g .leaves) (k + number)
 
     pub unit-told : (q : Leaf) (l : List Leaf) (s : State) → List·Memᴰ q l → Holds q u v → Pairwise Before l → Fits l → StateAsked g s → Numbered (s .place .k) l (steps g l s)
     unfolding run stepAt
@@ -138,6 +143,7 @@ module _ (g : Given) (ga : GivenAsked g) where
           holds = mine;
           the-word = r .0 ∙ told-in (g .w) (g .h) p (wordAt (g .leaves) (s .place .k)) (s .words) (a .words-long) u v cu cv mine ∙ ap (wordAt (g .leaves)) (sym z);
           the-mode = r .1 ∙ told-in (g .w) (g .h) p (modeAt (g .leaves) (s .place .k)) (s .modes) (a .modes-long) u v cu cv mine ∙ ap (modeAt (g .leaves)) (sym z);
+          the-mark = r .2 ∙ told-in (g .w) (g .h) p (keepAt (g .leaves) (s .place .k)) (s .keep) (a .keep-long) u v cu cv mine ∙ ap (keepAt (g .leaves)) (sym z);
         }
     unit-told q (p ∷ l) s (List·Memᴰ·tail m) k b f a =
         let next = step-asked g (4 * p .x) (4 * p .y) (4 * p .side) s ga a (f p (List·Memᴰ·head refl)) in
@@ -149,6 +155,7 @@ module _ (g : Given) (ga : GivenAsked g) where
           holds = r .holds;
           the-word = r .the-word ∙ ap (wordAt (g .leaves)) e;
           the-mode = r .the-mode ∙ ap (modeAt (g .leaves)) e;
+          the-mark = r .the-mark ∙ ap (keepAt (g .leaves)) e;
         }
 
 -- ---- a plane all of whose units are done
@@ -193,7 +200,7 @@ module _ (i : Input) (accepted : check i ≡ Done) where
   pub last : StateAsked (i .given) (end i)
   last = steps-asked (i .given) (p .given) l (start i) fits (p .state)
 
-  units : (u v : ℕ) → u < w / 4 → v < h / 4 → Told w (i .given .leaves) l (end i .words) (end i .modes) u v
+  units : (u v : ℕ) → u < w / 4 → v < h / 4 → Told w (i .given .leaves) l (end i .words) (end i .modes) (end i .keep) u v
   units u v cu cv =
       let t = demand-3 false (i .splits) (w / 4) (h / 4) some (p .accepted .walked) .tiles u v cu cv in
       let n = unit-told (i .given) (p .given) u v cu cv (t .one) l (start i) (t .listed) (t .holds) (leaves-order (i .splits) (w / 4) (h / 4) some fine) fits (p .state) in
@@ -204,6 +211,7 @@ module _ (i : Input) (accepted : check i ≡ Done) where
         holds = n .holds;
         word = word;
         mode = n .the-mode ∙ ap (modeAt (i .given .leaves)) (zero-add (n .number));
+        kept = n .the-mark ∙ ap (keepAt (i .given .leaves)) (zero-add (n .number));
         done = ap doneOf word ∙ leaf-word _ _ _ .done-bit;
       }
 
@@ -223,6 +231,16 @@ module _ (i : Input) (accepted : check i ≡ Done) where
       let f : qpOf (unitAt w (end i .words) u v) ≡ qpAt (i .given .leaves) (t .number) % 128 = ap qpOf (t .word) ∙ leaf-word _ _ _ .qp-bits in
       omega (arith, f, record-qp (t .number) (t .early)))
 
+  -- the keep byte of a leaf's record
+  record-keep : (k : ℕ) → k < length l → keepAt (i .given .leaves) k ≤ 1
+  unfolding bytesOk
+  record-keep k q = leb-true _ _ (scan-at (λ (j : ℕ). leb (byteAt (i .given .leaves) j 3) 1) (length l) k q (p .spares))
+
+  unit-keep : (k : ℕ) → k < w / 4 * (h / 4) → getD (end i .keep) k 0 ≤ 1
+  unit-keep =
+      every-place (w / 4) (h / 4) some (λ (k : ℕ). getD (end i .keep) k 0 ≤ 1)
+      (λ u v cu cv. let t = units u v cu cv in omega (arith, t .kept, record-keep (t .number) (t .early)))
+
   pub finished : Finished i
   finished =
       record {
@@ -231,6 +249,7 @@ module _ (i : Input) (accepted : check i ≡ Done) where
         v-small = colour-small (i .given .format) w h _ _ (p .accepted .size) (last .v-long) (last .v-done) all-done;
         units = units;
         qps = scan-pass _ (length (end i .words)) (λ k q. le-leb _ _ (word-qp k (rw (last .words-long) at q)));
+        keeps = scan-pass _ (length (end i .keep)) (λ k q. le-leb _ _ (unit-keep k (rw (last .keep-long) at q)));
       }
 
 -- ---- what a caller learns from an answer of 0

@@ -1,4 +1,4 @@
--- A picture that is accepted stays accepted without its colour, and its luma plane, words and modes are the same.
+-- A picture that is accepted stays accepted without its colour, and its luma plane, words, modes and keep bytes are the same.
 --     mask-luma, byte-luma    a leaf record with Y's bit alone
 --     luma-ends    where the residuals of Y end
 --     leaves-same    each leaf has the same luma data
@@ -143,7 +143,13 @@ module _ (g : Given) where
     unfolding run lumaResiduals
     leaves-same [] t u pre e h long is n q = absurd (omega (arith, q))
     leaves-same (p ∷ l) t u pre e h long is zero q =
-        record { kind = byte-same t u 0 (omega arith) (λ d. omega (arith, d)) e; qp = byte-same t u 1 (omega arith) (λ d. omega (arith, d)) e; coded = coded-same t u e; residual = first-same p l t u pre h long is }
+        record {
+          kind = byte-same t u 0 (omega arith) (λ d. omega (arith, d)) e;
+          qp = byte-same t u 1 (omega arith) (λ d. omega (arith, d)) e;
+          keep = byte-same t u 3 (omega arith) (λ d. omega (arith, d)) e;
+          coded = coded-same t u e;
+          residual = first-same p l t u pre h long is;
+        }
     leaves-same (p ∷ l) t u pre e h long is (suc n) q =
         let now : endV (u .at) (maskAt (o .leaves) (u .k)) (4 * p .side) ≡ u .at + residualCount Luma (codedY (maskAt r (u .k))) (4 * p .side) =
         ap (λ (m : List ℕ). endV (u .at) (maskAt m (u .k)) (4 * p .side)) same ∙ end-luma r (u .at) (u .k) (4 * p .side) in
@@ -173,7 +179,7 @@ module _ (i : Input) (accepted : check i ≡ Done) where
   pub stays : check grey ≡ Done
   unfolding checkOf readOk writtenOk dataCheck recordsOk lentOk
   stays =
-      let w = written-told (g .w) (g .h) (g .format) _ _ _ _ _ (p .written) in
+      let w = written-told (g .w) (g .h) (g .format) _ _ _ _ _ _ (p .written) in
       let n : length (lumaRecords (g .leaves)) ≡ 4 * length l = length-tabulate (λ (k : ℕ). pick (eqb (k % 4) 2) (getD (g .leaves) k 0 % 2) (getD (g .leaves) k 0)) (length (g .leaves)) ∙ p .records in
       let ends : length (lumaResiduals g l first) ≡ passed (lumaRecords (g .leaves)) l first .at = sym (luma-ends g l first first refl (p .reaches .residuals) ∙ zero-add _) in
       let luma : (m : ℕ) → m ≡ planeLength Luma (g .w) (g .h) → m ≡ lumaLength (g .w) (g .h) = λ m e. rw (← div-one (g .w), ← div-one (g .h)) e in
@@ -184,11 +190,12 @@ module _ (i : Input) (accepted : check i ≡ Done) where
         eq-eqb _ _ (luma _ (w .y-long)),
         eq-eqb _ _ (w .words-long),
         eq-eqb _ _ (w .modes-long),
+        eq-eqb _ _ (w .keep-long),
         p .accepted .walked,
         eq-eqb _ _ n,
         eq-eqb _ _ ends,
         masks-luma (g .leaves) (length l),
-        bytes-luma (g .leaves) (length l) 3 0 (omega arith) (λ d. omega (arith, d)) (p .spares),
+        bytes-luma (g .leaves) (length l) 3 1 (omega arith) (λ d. omega (arith, d)) (p .spares),
         bytes-luma (g .leaves) (length l) 0 5 (omega arith) (λ d. omega (arith, d)) (p .kinds),
         bytes-luma (g .leaves) (length l) 1 51 (omega arith) (λ d. omega (arith, d)) (p .qps),
         p .given .lent-y .small,
@@ -208,6 +215,7 @@ module _ (i : Input) (accepted : check i ≡ Done) where
               y = refl;
               words = refl;
               modes = refl;
+              keep = refl;
             })
             accepted stays;
       }

@@ -1,4 +1,4 @@
--- Two calls that are lent the same luma data leave the same luma plane, words and modes, whatever their formats.
+-- Two calls that are lent the same luma data leave the same luma plane, words, modes and keep bytes, whatever their formats.
 --     step-same    a leaf
 --     steps-same    the leaves of a list
 --     same-luma    the theorem
@@ -35,6 +35,7 @@ pub record Agree (s t : State) : Type 0 where
   pub y : s .y ≡ t .y
   pub words : s .words ≡ t .words
   pub modes : s .modes ≡ t .modes
+  pub keep : s .keep ≡ t .keep
 
 module _ (g o : Given) (e : SameGiven g o) where
   step-same : (x z side : ℕ) (s t : State) → Agree s t → SameLeaf g o side (s .place) (t .place) → Agree (stepAt g x z side s) (stepAt o x z side t)
@@ -48,6 +49,7 @@ module _ (g o : Given) (e : SameGiven g o) where
             (l .kind k) (e .pred-y k) (l .coded k) (lumaResidual o side (t .place)));
         words = (λ k. withUnits (e .w k) x z side (leafWord (isMode (l .kind k)) (l .qp k) (l .coded k)) (a .words k));
         modes = (λ k. withUnits (e .w k) x z side (pick (isMode (l .kind k)) (l .kind k) 255) (a .modes k));
+        keep = (λ k. withUnits (e .w k) x z side (l .keep k) (a .keep k));
       }
 
   -- ---- the leaves of a list
@@ -64,10 +66,10 @@ module _ (g o : Given) (e : SameGiven g o) where
 module _ (i j : Input) (e : SameLuma i j) where
   -- the second call's input, with what the first held in the luma plane and the maps
   abbrev alike : Input
-  alike = record { given = j .given; splits = j .splits; y = i .y; u = j .u; v = j .v; words = i .words; modes = i .modes }
+  alike = record { given = j .given; splits = j .splits; y = i .y; u = j .u; v = j .v; words = i .words; modes = i .modes; keep = i .keep }
 
   held : HeldForNothing j alike
-  held = held-for-nothing j alike (record { given = refl; splits = refl; y = sym (e .y); u = refl; v = refl; words = sym (e .words); modes = sym (e .modes) })
+  held = held-for-nothing j alike (record { given = refl; splits = refl; y = sym (e .y); u = refl; v = refl; words = sym (e .words); modes = sym (e .modes); keep = sym (e .keep) })
 
   same-leaves : leavesOf (i .given .w) (i .given .h) (i .splits) ≡ leavesOf (j .given .w) (j .given .h) (j .splits)
   same-leaves = (λ k. leavesOf (e .given .w k) (e .given .h k) (e .splits k))
@@ -76,9 +78,9 @@ module _ (i j : Input) (e : SameLuma i j) where
   same-end =
       rw (← same-leaves)
       (steps-same (i .given) (j .given) (e .given) (leavesOf (i .given .w) (i .given .h) (i .splits)) (start i) (start alike)
-      (record { y = refl; words = refl; modes = refl }) (e .leaves))
+      (record { y = refl; words = refl; modes = refl; keep = refl }) (e .leaves))
 
   pub same-luma : check i ≡ Done → check j ≡ Done → LumaAgrees (outcome i) (outcome j)
   same-luma c d =
       rw (held .all d, outcome-done i c, outcome-done alike (sym (held .answer) ∙ d))
-      (record { y = same-end .y; words = same-end .words; modes = same-end .modes })
+      (record { y = same-end .y; words = same-end .words; modes = same-end .modes; keep = same-end .keep })

@@ -102,6 +102,7 @@ module _ (g : Given) (x y side : ℕ) (s : State) (ga : GivenAsked g) (sa : Stat
         v-long = plane-kept _ _ _ _ _ ∙ sa .v-long;
         words-long = units-kept _ _ _ _ _ (s .words) ∙ sa .words-long;
         modes-long = units-kept _ _ _ _ _ (s .modes) ∙ sa .modes-long;
+        keep-long = units-kept _ _ _ _ _ (s .keep) ∙ sa .keep-long;
         y-done = plane-done _ _ asked-y (ga .lent-y) _ _ _ _;
         u-done = colour-done (s .u) (g .pred-u) (sa .u-long) (sa .u-done) (ga .lent-u) _ _ _ _;
         v-done = colour-done (s .v) (g .pred-v) (sa .v-long) (sa .v-done) (ga .lent-v) _ _ _ _;

@@ -63,6 +63,7 @@ pub record StateAsked (g : Given) (s : State) : Type 0 where
   pub v-long : length (s .v) ≡ inFormat (g .format) (planeLength Chroma (g .w) (g .h))
   pub words-long : length (s .words) ≡ unitCount (g .w) (g .h)
   pub modes-long : length (s .modes) ≡ unitCount (g .w) (g .h)
+  pub keep-long : length (s .keep) ≡ unitCount (g .w) (g .h)
   pub y-done : DoneSmall Luma (g .w) (g .h) (s .y) (s .words)
   pub u-done : DoneSmall Chroma (g .w) (g .h) (s .u) (s .words)
   pub v-done : DoneSmall Chroma (g .w) (g .h) (s .v) (s .words)

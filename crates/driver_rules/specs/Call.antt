@@ -30,6 +30,7 @@ pub record Input : Type 0 where
   pub v : List ℕ
   pub words : List ℕ
   pub modes : List ℕ
+  pub keep : List ℕ
 
 pub record Outcome : Type 0 where
   pub number : ℕ
@@ -38,6 +39,7 @@ pub record Outcome : Type 0 where
   pub v : List ℕ
   pub words : List ℕ
   pub modes : List ℕ
+  pub keep : List ℕ
 
 abbrev pub leavesOf : (w h : ℕ) → List ℕ → List Leaf
 leavesOf w h splits = allLeaves splits (w / 4) (h / 4)
@@ -56,16 +58,16 @@ readTests w h f splits py pu pv =
 unfoldable pub readOk : (w h : ℕ) → Format → (splits py pu pv : ℕ) → Bool
 readOk w h f splits py pu pv = allOf (readTests w h f splits py pu pv)
 
-abbrev pub writtenTests : (w h : ℕ) → Format → (y u v words modes : ℕ) → List Bool
-writtenTests w h f y u v words modes =
-    eqb y (lumaLength w h) ∷ eqb u (colourLength f w h) ∷ eqb v (colourLength f w h) ∷ eqb words (unitCount w h) ∷ eqb modes (unitCount w h) ∷ []
+abbrev pub writtenTests : (w h : ℕ) → Format → (y u v words modes keep : ℕ) → List Bool
+writtenTests w h f y u v words modes keep =
+    eqb y (lumaLength w h) ∷ eqb u (colourLength f w h) ∷ eqb v (colourLength f w h) ∷ eqb words (unitCount w h) ∷ eqb modes (unitCount w h) ∷ eqb keep (unitCount w h) ∷ []
 
-unfoldable pub writtenOk : (w h : ℕ) → Format → (y u v words modes : ℕ) → Bool
-writtenOk w h f y u v words modes = allOf (writtenTests w h f y u v words modes)
+unfoldable pub writtenOk : (w h : ℕ) → Format → (y u v words modes keep : ℕ) → Bool
+writtenOk w h f y u v words modes keep = allOf (writtenTests w h f y u v words modes keep)
 
--- 13: four bytes a leaf, as many residuals as the leaves take, no bit in a mask that the format does not have, and the spare byte 0. residual: its list's length; at, k: where the leaves end
+-- 13: four bytes a leaf, as many residuals as the leaves take, no bit in a mask that the format does not have, and the last byte 0 or 1. residual: its list's length; at, k: where the leaves end
 abbrev pub recordTests : Format → (r : List ℕ) (residual at k : ℕ) → List Bool
-recordTests f r residual at k = eqb (length r) (4 * k) ∷ eqb residual at ∷ bytesOk r k 2 (mostMask f) ∷ bytesOk r k 3 0 ∷ []
+recordTests f r residual at k = eqb (length r) (4 * k) ∷ eqb residual at ∷ bytesOk r k 2 (mostMask f) ∷ bytesOk r k 3 1 ∷ []
 
 unfoldable pub recordsOk : Format → (r : List ℕ) (residual at k : ℕ) → Bool
 recordsOk f r residual at k = allOf (recordTests f r residual at k)
@@ -87,11 +89,11 @@ dataCheck f r residual py pu pv l =
     Done)))
 
 -- 1, 2, then 4 or 5 as the walk meets them, and then the data. residual and what is written by their lengths
-unfoldable pub checkOf : (w h : ℕ) → Format → (splits leaves : List ℕ) (residual : ℕ) (py pu pv : List ℕ) (y u v words modes : ℕ) → Answer
-checkOf w h f splits leaves residual py pu pv y u v words modes =
+unfoldable pub checkOf : (w h : ℕ) → Format → (splits leaves : List ℕ) (residual : ℕ) (py pu pv : List ℕ) (y u v words modes keep : ℕ) → Answer
+checkOf w h f splits leaves residual py pu pv y u v words modes keep =
     unless (sizeOk w h) (Refused Size)
     (unless (readOk w h f (length splits) (length py) (length pu) (length pv)) (Refused Length)
-    (unless (writtenOk w h f y u v words modes) (Refused Length)
+    (unless (writtenOk w h f y u v words modes keep) (Refused Length)
     (afterChecks Refused (dataCheck f leaves residual py pu pv (leavesOf w h splits))
     (pictureWalk splits (w / 4) (h / 4) .answer))))
 
@@ -99,17 +101,17 @@ abbrev pub check : Input → Answer
 check i =
     let g = i .given in
     checkOf (g .w) (g .h) (g .format) (i .splits) (g .leaves) (length (g .residual)) (g .pred-y) (g .pred-u) (g .pred-v)
-    (length (i .y)) (length (i .u)) (length (i .v)) (length (i .words)) (length (i .modes))
+    (length (i .y)) (length (i .u)) (length (i .v)) (length (i .words)) (length (i .modes)) (length (i .keep))
 
 -- ---- the outcome
 
 abbrev pub refused : Input → Refusal → Outcome
-refused i r = record { number = numberOf r; y = i .y; u = i .u; v = i .v; words = i .words; modes = i .modes }
+refused i r = record { number = numberOf r; y = i .y; u = i .u; v = i .v; words = i .words; modes = i .modes; keep = i .keep }
 
 -- map words start at 0
 abbrev pub start : Input → State
 start i =
-    record { y = i .y; u = i .u; v = i .v; words = tabulate (length (i .words)) (λ (k : ℕ). 0); modes = i .modes; place = first }
+    record { y = i .y; u = i .u; v = i .v; words = tabulate (length (i .words)) (λ (k : ℕ). 0); modes = i .modes; keep = i .keep; place = first }
 
 abbrev pub end : Input → State
 end i = steps (i .given) (leavesOf (i .given .w) (i .given .h) (i .splits)) (start i)
@@ -117,7 +119,7 @@ end i = steps (i .given) (leavesOf (i .given .w) (i .given .h) (i .splits)) (sta
 abbrev pub done : Input → Outcome
 done i =
     let s = end i in
-    record { number = 0; y = s .y; u = s .u; v = s .v; words = s .words; modes = s .modes }
+    record { number = 0; y = s .y; u = s .u; v = s .v; words = s .words; modes = s .modes; keep = s .keep }
 
 unfoldable pub outcome : Input → Outcome
 outcome i = afterChecks (refused i) (done i) (check i)

@@ -1,4 +1,4 @@
--- What the planes, the words and the modes held before the call counts for nothing. The proof is `held-for-nothing`, in proofs/.
+-- What the planes, the words, the modes and the keep bytes held before the call counts for nothing. The proof is `held-for-nothing`, in proofs/.
 -- Assumes nothing: these are definitions.
 use mathlib.Core.Path.{_≡_}
 use lib.ListN.{length}
@@ -14,6 +14,7 @@ pub record SameButHeld (i j : Input) : Type 0 where
   pub v : length (i .v) ≡ length (j .v)
   pub words : length (i .words) ≡ length (j .words)
   pub modes : length (i .modes) ≡ length (j .modes)
+  pub keep : length (i .keep) ≡ length (j .keep)
 
 -- both are refused alike or neither is, and where neither is all that they leave is the same
 pub record HeldForNothing (i j : Input) : Type 0 where

@@ -1,4 +1,4 @@
--- What two calls have in common that are lent the same luma data, whatever their formats: they leave the same luma plane, words and modes (`same-luma`, in proofs/).
+-- What two calls have in common that are lent the same luma data, whatever their formats: they leave the same luma plane, words, modes and keep bytes (`same-luma`, in proofs/).
 -- So a grey picture's are those of the run in colour. That the leaves are the same needs no word: `leavesOf` is not given the format.
 -- And a picture without its colour is accepted where the picture is (`without-colour`, in proofs/).
 -- Assumes nothing: these are definitions.
@@ -15,7 +15,7 @@ use Rattle.def.specs.declared.Component.the-variants.{Luma}
 use Rattle.def.specs.declared.Format.the-variants.{Grey}
 use Rattle.split.specs.Walk.{Leaf, leaf}
 use Rattle.driver_rules.specs.Call.{Input, Outcome, leavesOf, check, outcome}
-use Rattle.driver_rules.specs.Records.{kindAt, qpAt, maskAt, codedY, sampleCount, Place, first, advance, passed}
+use Rattle.driver_rules.specs.Records.{kindAt, qpAt, maskAt, keepAt, codedY, sampleCount, Place, first, advance, passed}
 use Rattle.driver_rules.specs.Steps.{Given}
 
 -- ---- a leaf
@@ -24,10 +24,11 @@ use Rattle.driver_rules.specs.Steps.{Given}
 abbrev pub lumaResidual : Given → (side : ℕ) → Place → List ℤ
 lumaResidual g side t = take (sampleCount Luma side) (drop (t .at) (g .residual))
 
--- its kind, its QP, whether Y is coded, and Y's residual where it is. The masks' other bits, and so the two places, may differ
+-- its kind, its QP, its keep byte, whether Y is coded, and Y's residual where it is. The masks' other bits, and so the two places, may differ
 pub record SameLeaf (g o : Given) (side : ℕ) (t u : Place) : Type 0 where
   pub kind : kindAt (g .leaves) (t .k) ≡ kindAt (o .leaves) (u .k)
   pub qp : qpAt (g .leaves) (t .k) ≡ qpAt (o .leaves) (u .k)
+  pub keep : keepAt (g .leaves) (t .k) ≡ keepAt (o .leaves) (u .k)
   pub coded : codedY (maskAt (g .leaves) (t .k)) ≡ codedY (maskAt (o .leaves) (u .k))
   pub residual : codedY (maskAt (g .leaves) (t .k)) ≡ true → lumaResidual g side t ≡ lumaResidual o side u
 
@@ -51,12 +52,14 @@ pub record SameLuma (i j : Input) : Type 0 where
   pub y : length (i .y) ≡ length (j .y)
   pub words : length (i .words) ≡ length (j .words)
   pub modes : length (i .modes) ≡ length (j .modes)
+  pub keep : length (i .keep) ≡ length (j .keep)
 
 -- what both leave
 pub record LumaAgrees (a b : Outcome) : Type 0 where
   pub y : a .y ≡ b .y
   pub words : a .words ≡ b .words
   pub modes : a .modes ≡ b .modes
+  pub keep : a .keep ≡ b .keep
 
 -- ---- a picture without its colour
 
@@ -91,6 +94,7 @@ withoutColour i =
       v = [];
       words = i .words;
       modes = i .modes;
+      keep = i .keep;
     }
 
 pub record WithoutColour (i : Input) : Type 0 where

@@ -1,4 +1,4 @@
--- The leaf records, four bytes a leaf in walk order: kind (0 to 4 a mode, 5 the lent prediction), QP, mask (1 Y, 2 U, 4 V; in a grey picture 1 alone), 0.
+-- The leaf records, four bytes a leaf in walk order: kind (0 to 4 a mode, 5 the lent prediction), QP, mask (1 Y, 2 U, 4 V; in a grey picture 1 alone), keep (1 or 0).
 -- And where a leaf's residuals lie in their list: Y, U, V one after another, only the masked ones.
 -- Assumes nothing: these are definitions.
 use Prim.Native.Nat.{ℕ, _+_, _*_}
@@ -30,6 +30,10 @@ qpAt r k = byteAt r k 1
 
 abbrev pub maskAt : List ℕ → ℕ → ℕ
 maskAt r k = byteAt r k 2
+
+-- 1 where deblocking is to leave the block as it is
+abbrev pub keepAt : List ℕ → ℕ → ℕ
+keepAt r k = byteAt r k 3
 
 -- byte b of each of the first n records is at most m
 unfoldable pub bytesOk : List ℕ → (n b m : ℕ) → Bool

@@ -16,7 +16,7 @@ use Rattle.ipred.specs.Modes.{predicted, blockOf}
 use Rattle.nbr.specs.Gather.{Around, across, column, row, sideOf, runOf}
 use Rattle.recon.specs.Plane as recon
 use Rattle.split.specs.Walk.{Leaf}
-use Rattle.driver_rules.specs.Records.{kindAt, maskAt, wordAt, modeAt, isMode, codedY, codedU, codedV, sampleCount, startU, startV, Place, past}
+use Rattle.driver_rules.specs.Records.{kindAt, maskAt, wordAt, modeAt, keepAt, isMode, codedY, codedU, codedV, sampleCount, startU, startV, Place, past}
 
 -- ---- one component of a leaf
 
@@ -67,6 +67,7 @@ pub record State : Type 0 where
   pub v : List ℕ
   pub words : List ℕ
   pub modes : List ℕ
+  pub keep : List ℕ
   pub place : Place
 
 abbrev pub aroundOf : Given → Component → (x y side : ℕ) → (plane words : List ℕ) → Around
@@ -95,6 +96,7 @@ stepAt g x y side s =
       v = componentOf g Chroma x y side kind (g .pred-v) (codedV mask) (startV at mask side) (s .v) (s .words);
       words = withUnits (g .w) x y side (wordAt (g .leaves) k) (s .words);
       modes = withUnits (g .w) x y side (modeAt (g .leaves) k) (s .modes);
+      keep = withUnits (g .w) x y side (keepAt (g .leaves) k) (s .keep);
       place = past (g .leaves) side (s .place);
     }
 

@@ -1,5 +1,5 @@
 // Replays recorded cases of the block driver. A line of data/cases is a call; the line printed for it is the number that it answers, and
-// the planes, the unit words and the modes as it leaves them.
+// the planes, the unit words, the modes and the keep bytes as it leaves them.
 use def::Format;
 
 // The picture's size and two flags come first in a case, whether it has colour and whether its intra is constrained; then its split bytes
@@ -73,7 +73,7 @@ fn predictions(
     )
 }
 
-// Then the planes, and the unit words and the modes last.
+// Then the planes, and the unit words, the modes and the keep bytes last.
 fn planes(
     s: &[u8],
     at: usize,
@@ -98,11 +98,14 @@ fn planes(
     let pw = cases::slice_u32(s, pv.next, &mut words);
     let mut modes = [0u8; 1300];
     let pm = cases::slice_u8(s, pw.next, &mut modes);
+    let mut keep = [0u8; 1300];
+    let pk = cases::slice_u8(s, pm.next, &mut keep);
     let ny = py.len;
     let nu = pu.len;
     let nv = pv.len;
     let nw = pw.len;
     let nm = pm.len;
+    let nk = pk.len;
     reconstructed(
         w,
         h,
@@ -119,8 +122,9 @@ fn planes(
         &mut v[..nv],
         &mut words[..nw],
         &mut modes[..nm],
+        &mut keep[..nk],
     );
-    pm.next
+    pk.next
 }
 
 fn reconstructed(
@@ -139,6 +143,7 @@ fn reconstructed(
     v: &mut [u16],
     words: &mut [u32],
     modes: &mut [u8],
+    keep: &mut [u8],
 ) {
     let answer = driver::reconstruct(
         w,
@@ -156,6 +161,7 @@ fn reconstructed(
         &mut *v,
         &mut *words,
         &mut *modes,
+        &mut *keep,
     );
     replay::print_first(def::answer_number(answer));
     replay::print_u16(y);
@@ -163,6 +169,7 @@ fn reconstructed(
     replay::print_u16(v);
     replay::print_u32(words);
     replay::print_u8(modes);
+    replay::print_u8(keep);
     replay::print_end();
 }
 
@@ -182,8 +189,8 @@ fn every(s: &[u8]) {
 }
 
 // A call keeps the checker from looking into the array.
-fn room() -> [u8; 5500000] {
-    [0u8; 5500000]
+fn room() -> [u8; 6000000] {
+    [0u8; 6000000]
 }
 
 fn main() {

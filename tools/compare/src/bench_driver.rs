@@ -60,11 +60,11 @@ impl Work {
         let records: Vec<u8> = (0..self.leaves.len()).flat_map(|k| [mode(k), QP, 7, 0]).collect();
         let residual: Vec<i16> = self.leaves.iter().flat_map(|leaf| self.residual(leaf)).copied().collect();
         let (lent, units) = (self.planes(), self.size / 4 * (self.size / 4));
-        let mut state = (self.planes(), vec![0u32; units], vec![0u8; units]);
+        let mut state = (self.planes(), vec![0u32; units], vec![0u8; units], vec![0u8; units]);
         let time = best(
             &mut state,
             |_| {},
-            |(planes, words, modes)| {
+            |(planes, words, modes, keep)| {
                 let [y, u, v] = planes;
                 let predictions = lent.each_ref().map(|plane| &plane[..]);
                 let picture = lomsakeun::Picture { w: self.size, h: self.size, y, u, v, words };
@@ -72,7 +72,7 @@ impl Work {
                 let (colour, constrained) = (true, false);
                 let blocks =
                     lomsakeun::Blocks { colour, splits, leaves, residual: &residual, predictions, constrained };
-                lomsakeun::reconstruct(blocks, picture, modes).unwrap();
+                lomsakeun::reconstruct(blocks, picture, modes, keep).unwrap();
             },
         );
         (time, state.0)

@@ -21,16 +21,17 @@ input s =
       v = a .v .now;
       words = a .map-scu .now;
       modes = a .modes .now;
+      keep = a .keep .now;
     }
 
 -- where the checks found nothing
-passed-at : (c : tie.After-enum-told) → Passed (input (c .before .before .before .before .before .before .before .before .before .before .before .before .before))
-passed-at c = all-passed (input (c .before .before .before .before .before .before .before .before .before .before .before .before .before)) (sym (c .before .before .checked-leaves .ensures) ∙ c .enum-told .given .1)
+passed-at : (c : tie.After-enum-told) → Passed (input (c .before .before .before .before .before .before .before .before .before .before .before .before .before .before))
+passed-at c = all-passed (input (c .before .before .before .before .before .before .before .before .before .before .before .before .before .before)) (sym (c .before .before .checked-leaves .ensures) ∙ c .enum-told .given .1)
 
 draw-picture-requires : tie.Need-draw-picture-requires
 draw-picture-requires c κs =
-    let p = passed-at (c .before .before .before .before .before .before .before .before .before) in
-    (p .given, (rw (c .before .before .before .before .before .before .before .clear .ensures) (p .state), (p .accepted, p .reaches)))
+    let p = passed-at (c .before .before .before .before .before .before .before .before .before .before) in
+    (p .given, (rw (c .before .before .before .before .before .before .before .before .clear .ensures) (p .state), (p .accepted, p .reaches)))
 
 returns : tie.Need-returns
 unfolding outcome
@@ -39,11 +40,11 @@ returns c = on-refusal _ _ _ _ _ (c .before .before .before .checked-leaves .ens
 returns-2 : tie.Need-returns-2
 unfolding outcome
 returns-2 c =
-    let s = c .before .before .before .before .before .before .before .before .before .before .before .before .before .before .before .before .before .before .before .before .before .before .before .before .before .before .before .before .before .before .before .before .before in
-    on-done _ _ _ _ _ (c .before .before .before .before .before .before .before .before .before .before .before .before .before .before .before .before .before .before .before .before .before .before .checked-leaves .ensures) (c .before .before .before .before .before .before .before .before .before .before .before .before .before .before .before .before .before .before .before .before .enum-told .given .1) (done-ended (input s) (c .before .before .before .before .before .before .before .before .before .before .before .before .before .before .before .before .before .before .clear .ensures) (c .before .before .before .before .before .before .before .before .before .before .draw-picture .ensures))
+    let s = c .before .before .before .before .before .before .before .before .before .before .before .before .before .before .before .before .before .before .before .before .before .before .before .before .before .before .before .before .before .before .before .before .before .before .before .before .before in
+    on-done _ _ _ _ _ (c .before .before .before .before .before .before .before .before .before .before .before .before .before .before .before .before .before .before .before .before .before .before .before .before .before .checked-leaves .ensures) (c .before .before .before .before .before .before .before .before .before .before .before .before .before .before .before .before .before .before .before .before .before .before .before .enum-told .given .1) (done-ended (input s) (c .before .before .before .before .before .before .before .before .before .before .before .before .before .before .before .before .before .before .before .before .before .clear .ensures) (c .before .before .before .before .before .before .before .before .before .before .before .before .draw-picture .ensures))
 
 pub reconstruct-spec : {M : Type 1} → statement M
 reconstruct-spec =
     tie.close
     (tie.spec (λ c κs. search needs) (λ c. search needs) (λ c. search needs) (λ c κs. search needs) draw-picture-requires returns
-    (λ c. c .before .before .before .before .before .before .before .before .before .before .draw-picture .kept .1 .1 .1 .1 .1 .1 .1 .1 .1 .1 .0) (λ c. c .before .before .before .before .before .before .before .before .before .before .draw-picture .kept .1 .1 .1 .1 .1 .1 .1 .1 .1 .1 .1 .0) (λ c. c .before .before .before .before .before .before .before .before .before .before .draw-picture .kept .1 .1 .1 .1 .1 .1 .1 .1 .1 .1 .1 .1 .0) (λ c. c .before .before .before .before .before .before .before .before .before .before .draw-picture .kept .1 .1 .1 .1 .1 .1 .1 .1 .1 .1 .1 .1 .1 .0 ∙ c .before .before .before .before .before .before .before .before .before .before .before .before .before .before .before .before .before .before .clear .kept .0) (λ c. c .before .before .before .before .before .before .before .before .before .before .draw-picture .kept .1 .1 .1 .1 .1 .1 .1 .1 .1 .1 .1 .1 .1 .1 .0) returns-2)
+    (λ c. c .before .before .before .before .before .before .before .before .before .before .before .before .draw-picture .kept .1 .1 .1 .1 .1 .1 .1 .1 .1 .1 .0) (λ c. c .before .before .before .before .before .before .before .before .before .before .before .before .draw-picture .kept .1 .1 .1 .1 .1 .1 .1 .1 .1 .1 .1 .0) (λ c. c .before .before .before .before .before .before .before .before .before .before .before .before .draw-picture .kept .1 .1 .1 .1 .1 .1 .1 .1 .1 .1 .1 .1 .0) (λ c. c .before .before .before .before .before .before .before .before .before .before .before .before .draw-picture .kept .1 .1 .1 .1 .1 .1 .1 .1 .1 .1 .1 .1 .1 .0 ∙ c .before .before .before .before .before .before .before .before .before .before .before .before .before .before .before .before .before .before .before .before .before .clear .kept .0) (λ c. c .before .before .before .before .before .before .before .before .before .before .before .before .draw-picture .kept .1 .1 .1 .1 .1 .1 .1 .1 .1 .1 .1 .1 .1 .1 .0) (λ c. c .before .before .before .before .before .before .before .before .before .before .before .before .draw-picture .kept .1 .1 .1 .1 .1 .1 .1 .1 .1 .1 .1 .1 .1 .1 .1 .0) returns-2)

@@ -23,6 +23,7 @@ pub struct Driver {
     pub planes: [Vec<u16>; 3],
     pub words: Vec<u32>,
     pub modes: Vec<u8>,
+    pub keep: Vec<u8>,
 }
 
 impl Driver {
@@ -54,7 +55,7 @@ impl Driver {
         out
     }
 
-    /// The luma plane, the words and the modes of the model's answer.
+    /// The luma plane, the words, the modes and the keep bytes of the model's answer.
     pub fn luma(&self) -> Vec<i64> {
         let mut line = self.model().0;
         let (y, colour) = (1 + self.planes[0].len(), self.planes[1].len() + self.planes[2].len());
@@ -85,13 +86,17 @@ impl Driver {
             residual::plane(chroma, size, block, coded, &prediction, coef, &mut out.planes[i])?;
             at += if coded { side * side } else { 0 };
         }
-        model::finish(&self.given(), leaf, record, &mut out.words, &mut out.modes);
+        model::finish(&self.given(), leaf, record, &mut out.maps());
         Some(at)
+    }
+
+    fn maps(&mut self) -> model::Maps<'_> {
+        model::Maps { words: &mut self.words, modes: &mut self.modes, keep: &mut self.keep }
     }
 
     fn answer(number: u32, out: &Driver) -> Line {
         let line = out.planes.iter().fold(Line::new().num(number), |line, plane| line.all(plane));
-        line.all(&out.words).all(&out.modes)
+        line.all(&out.words).all(&out.modes).all(&out.keep)
     }
 }
 
@@ -100,13 +105,14 @@ impl Case for Driver {
         let line = Line::new().num(self.w).num(self.h).flag(self.colour).flag(self.constrained).slice(&self.splits);
         let line = line.slice(&self.records).slice(&self.residuals);
         let line = self.predictions.iter().chain(&self.planes).fold(line, |line, plane| line.slice(plane));
-        line.slice(&self.words).slice(&self.modes)
+        line.slice(&self.words).slice(&self.modes).slice(&self.keep)
     }
 
     fn model(&self) -> Line {
         let mut out = self.clone();
+        let maps = model::Maps { words: &mut out.words, modes: &mut out.modes, keep: &mut out.keep };
         let planes = out.planes.each_mut().map(|plane| &mut plane[..]);
-        let number = model::reconstruct(&self.given(), planes, &mut out.words, &mut out.modes);
+        let number = model::reconstruct(&self.given(), planes, maps);
         Driver::answer(number, &out)
     }
 
@@ -132,6 +138,7 @@ impl Case for Driver {
         let [py, pu, pv] = self.predictions.each_ref().map(|plane| Lent::new(lending, plane));
         let [mut y, mut u, mut v] = self.planes.each_ref().map(|plane| Lent::new(lending, plane));
         let (mut words, mut modes) = (Lent::new(lending, &self.words), Lent::new(lending, &self.modes));
+        let mut keep = Lent::new(lending, &self.keep);
         let number = unsafe {
             sys::lomsakeun_reconstruct(
                 self.w,
@@ -160,6 +167,8 @@ impl Case for Driver {
                 words.len(),
                 modes.mut_ptr(),
                 modes.len(),
+                keep.mut_ptr(),
+                keep.len(),
             )
         };
         splits.kept(&self.splits)?;
@@ -169,7 +178,7 @@ impl Case for Driver {
         pu.kept(&self.predictions[1])?;
         pv.kept(&self.predictions[2])?;
         let line = Line::new().num(number).all(y.after()?).all(u.after()?).all(v.after()?);
-        Ok(line.all(words.after()?).all(modes.after()?))
+        Ok(line.all(words.after()?).all(modes.after()?).all(keep.after()?))
     }
 }
 
@@ -194,7 +203,7 @@ pub fn of(rng: &mut Rng, (w, h): (usize, usize), taste: Taste, kinds: &[u8], mas
 /// The same over these split bytes. Over bytes that the walk refuses, it has no leaves.
 pub fn drawn(rng: &mut Rng, (w, h): (usize, usize), splits: Vec<u8>, kinds: &[u8], masks: &[u8]) -> Driver {
     let leaves = walk::leaves(w, h, walk::cut_by(&splits, w)).unwrap_or_default();
-    let record = |rng: &mut Rng| [rng.pick(kinds), rng.below(52) as u8, rng.pick(masks), 0];
+    let record = |rng: &mut Rng| [rng.pick(kinds), rng.below(52) as u8, rng.pick(masks), rng.below(2) as u8];
     let units = (w / 4) * (h / 4);
     let lengths = [false, true, true].map(|chroma| plane_len(chroma, w, h));
     let mut picture = Driver {
@@ -209,6 +218,7 @@ pub fn drawn(rng: &mut Rng, (w, h): (usize, usize), splits: Vec<u8>, kinds: &[u8
         planes: lengths.map(|n| stale(rng, n)),
         words: (0..units).map(|_| rng.next() as u32).collect(),
         modes: (0..units).map(|_| rng.next() as u8).collect(),
+        keep: (0..units).map(|_| rng.next() as u8).collect(),
     };
     let count = leaves.iter().zip(model::records(&picture.given())).map(model::residual_len).sum();
     let high = rng.pick(&[0, 20, 1100, 32767]);

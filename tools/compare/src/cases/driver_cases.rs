@@ -52,12 +52,12 @@ pub fn damaged(rng: &mut Rng) -> Box<dyn Case> {
     Box::new(driver_refusals::damaged(rng))
 }
 
-/// A picture without its colour: its luma plane, its words and its modes must be those of the run in colour.
+/// A picture without its colour: its luma plane, its words, its modes and its keep bytes must be those of the run in colour.
 fn grey(case: &Driver) -> Driver {
     let grey = case.grey();
     assert!(
         grey.luma() == case.luma(),
-        "a grey picture has another luma plane, word or mode than the one in colour"
+        "a grey picture has another luma plane, word, mode or keep byte than the one in colour"
     );
     grey
 }

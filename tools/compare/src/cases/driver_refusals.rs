@@ -45,6 +45,7 @@ fn lengths(tape: &mut Tape, good: &Driver) {
     wrong_lengths(&good.splits).into_iter().for_each(|splits| tape.record(&Driver { splits, ..good.clone() }));
     wrong_lengths(&good.words).into_iter().for_each(|words| tape.record(&Driver { words, ..good.clone() }));
     wrong_lengths(&good.modes).into_iter().for_each(|modes| tape.record(&Driver { modes, ..good.clone() }));
+    wrong_lengths(&good.keep).into_iter().for_each(|keep| tape.record(&Driver { keep, ..good.clone() }));
 }
 
 /// The byte of each level at the picture's corner: 64, 32, 16, 8.
@@ -99,9 +100,9 @@ fn lists(tape: &mut Tape, rng: &mut Rng) {
     }
 }
 
-/// 9, 6 and 13: a kind, a QP and a spare byte, each with its boundary, in the first leaf, in the second and in the last.
+/// 9, 6 and 13: a kind, a QP and a keep byte, each with its boundary, in the first leaf, in the second and in the last.
 fn bytes(tape: &mut Tape, rng: &mut Rng) {
-    for (byte, values) in [(0, &[5, 6, 128, 255][..]), (1, &[0, 51, 52, 64, 127, 128, 255]), (3, &[1, 128, 255])] {
+    for (byte, values) in [(0, &[5, 6, 128, 255][..]), (1, &[0, 51, 52, 64, 127, 128, 255]), (3, &[0, 1, 2, 128, 255])] {
         for value in values {
             let good = picture(rng, 12, 8, trees::FINEST);
             for leaf in [0, 1, 5] {
@@ -217,7 +218,7 @@ fn spoil_list(rng: &mut Rng, bad: &mut Driver) {
         0 => bad.records.truncate(12),
         1 => bad.residuals.push(0),
         2 => bad.records[14] |= 8,
-        _ => bad.records[15] = 1,
+        _ => bad.records[15] = 2,
     }
 }
 
@@ -242,11 +243,11 @@ fn damage(rng: &mut Rng, grey: bool) -> Driver {
                 *place = value;
             }
         };
-        match rng.below(14) {
+        match rng.below(15) {
             0 => set(0, rng.pick(&[5, 6, 7, 254, 255])),
             1 => set(1, rng.pick(&[51, 52, 64, 128, 255])),
             2 => set(2, rng.pick(&[1, 2, 7, 8, 9, 255])),
-            3 => set(3, rng.pick(&[1, 128, 255])),
+            3 => set(3, rng.pick(&[0, 1, 2, 128, 255])),
             4 => spoil(rng, &mut case.w),
             5 => spoil(rng, &mut case.h),
             6 => stretch(rng, &mut case.splits),
@@ -256,6 +257,7 @@ fn damage(rng: &mut Rng, grey: bool) -> Driver {
             10 => stretch(rng, &mut case.planes[plane]),
             11 => stretch(rng, &mut case.words),
             12 => stretch(rng, &mut case.modes),
+            13 => stretch(rng, &mut case.keep),
             _ => overdo(rng, &mut case.predictions[plane]),
         }
     }

@@ -10,7 +10,7 @@ pub struct Given<'a> {
     /// Whether the picture has colour. A grey one has no U and V, and its leaves no mask bit and no residual of them.
     pub colour: bool,
     pub splits: &'a [u8],
-    /// Four bytes a leaf: kind, QP, mask, 0.
+    /// Four bytes a leaf: kind, QP, mask, keep.
     pub records: &'a [u8],
     pub residuals: &'a [i16],
     /// The lent predictions, Y, U, V.
@@ -24,20 +24,27 @@ pub struct Record {
     pub kind: u8,
     pub qp: u8,
     pub mask: u8,
-    pub spare: u8,
+    pub keep: u8,
 }
 
-pub fn reconstruct(given: &Given, mut planes: [&mut [u16]; 3], words: &mut [u32], modes: &mut [u8]) -> u32 {
+/// What the driver tells of each unit.
+pub struct Maps<'a> {
+    pub words: &'a mut [u32],
+    pub modes: &'a mut [u8],
+    pub keep: &'a mut [u8],
+}
+
+pub fn reconstruct(given: &Given, mut planes: [&mut [u16]; 3], mut maps: Maps) -> u32 {
     let lengths = planes.each_ref().map(|plane| plane.len());
-    let leaves = match check(given, lengths, words.len(), modes.len()) {
+    let leaves = match check(given, lengths, [maps.words.len(), maps.modes.len(), maps.keep.len()]) {
         Ok(leaves) => leaves,
         Err(number) => return number,
     };
-    words.fill(0);
+    maps.words.fill(0);
     let mut residuals = given.residuals;
     for (leaf, record) in leaves.iter().zip(records(given)) {
         for (i, plane) in planes.iter_mut().enumerate().take(if given.colour { 3 } else { 1 }) {
-            let prediction = predicted(given, *leaf, record, i, plane, words);
+            let prediction = predicted(given, *leaf, record, i, plane, maps.words);
             let coded = record.mask >> i & 1 == 1;
             let (own, rest) = residuals.split_at(if coded { prediction.len() } else { 0 });
             residuals = rest;
@@ -45,7 +52,7 @@ pub fn reconstruct(given: &Given, mut planes: [&mut [u16]; 3], words: &mut [u32]
             let (size, block) = ((given.w, given.h), (leaf.x, leaf.y, leaf.wide));
             assert_eq!(residual::plane(i > 0, size, block, coded, &prediction, &own, plane), DONE);
         }
-        finish(given, *leaf, record, words, modes);
+        finish(given, *leaf, record, &mut maps);
     }
     DONE
 }
@@ -69,7 +76,7 @@ fn predicted(given: &Given, leaf: Leaf, record: Record, i: usize, plane: &[u16],
 }
 
 /// The checks in their order; the leaves of an accepted walk.
-fn check(given: &Given, planes: [usize; 3], words: usize, modes: usize) -> Result<Vec<Leaf>, u32> {
+fn check(given: &Given, planes: [usize; 3], maps: [usize; 3]) -> Result<Vec<Leaf>, u32> {
     let (w, h) = (given.w, given.h);
     if !size_ok(w, h) {
         return Err(SIZE);
@@ -80,13 +87,13 @@ fn check(given: &Given, planes: [usize; 3], words: usize, modes: usize) -> Resul
     let chroma_len = if given.colour { plane_len(true, w, h) } else { 0 };
     let planes_ok =
         long.into_iter().all(|(n, chroma)| n == if chroma { chroma_len } else { plane_len(false, w, h) });
-    if !planes_ok || words != units || modes != units || given.splits.len() != 1024 * roots {
+    if !planes_ok || maps != [units; 3] || given.splits.len() != 1024 * roots {
         return Err(LENGTH);
     }
     let leaves = walk::leaves(w, h, walk::cut_by(given.splits, w))?;
     let most = if given.colour { 7 } else { 1 };
     if given.records.len() != 4 * leaves.len()
-        || !records(given).all(|record| record.mask <= most && record.spare == 0)
+        || !records(given).all(|record| record.mask <= most && record.keep <= 1)
     {
         return Err(RECORD);
     }
@@ -106,7 +113,7 @@ fn check(given: &Given, planes: [usize; 3], words: usize, modes: usize) -> Resul
 }
 
 pub fn records<'a>(given: &'a Given) -> impl Iterator<Item = Record> + 'a {
-    given.records.chunks_exact(4).map(|r| Record { kind: r[0], qp: r[1], mask: r[2], spare: r[3] })
+    given.records.chunks_exact(4).map(|r| Record { kind: r[0], qp: r[1], mask: r[2], keep: r[3] })
 }
 
 /// How many residuals a leaf has: of its masked components alone.
@@ -120,14 +127,16 @@ pub fn residual_len((leaf, record): (&Leaf, Record)) -> usize {
         .sum()
 }
 
-/// The words and the modes of a finished leaf's units.
-pub fn finish(given: &Given, leaf: Leaf, record: Record, words: &mut [u32], modes: &mut [u8]) {
+/// The words, the modes and the keep bytes of a finished leaf's units.
+pub fn finish(given: &Given, leaf: Leaf, record: Record, maps: &mut Maps) {
     let intra = (record.kind < 5) as u32;
     let word = 1 << 31 | (record.mask as u32 & 1) << 24 | (record.qp as u32) << 16 | intra << 15;
     for y in leaf.y / 4..(leaf.y + leaf.high) / 4 {
         for x in leaf.x / 4..(leaf.x + leaf.wide) / 4 {
-            words[y * (given.w / 4) + x] = word;
-            modes[y * (given.w / 4) + x] = if record.kind == 5 { 255 } else { record.kind };
+            let unit = y * (given.w / 4) + x;
+            maps.words[unit] = word;
+            maps.modes[unit] = if record.kind == 5 { 255 } else { record.kind };
+            maps.keep[unit] = record.keep;
         }
     }
 }

@@ -5,8 +5,8 @@ use Rattle.decoder_c.proofs.reconstruct.lomsakeun_reconstruct.Tie as ti
 
 returns : tie.Need-returns
 returns c =
-    let called = c .before .before .before .before .before .before .before .before .before .before .before in
-    rw (c .answer-number .ensures, ← (called .before .before .before .before .before .before .format-of .ensures)) (called .reconstruct .ensures)
+    let called = c .before .before .before .before .before .before .before .before .before .before .before .before .before in
+    rw (c .answer-number .ensures, ← (called .before .before .before .before .before .before .before .format-of .ensures)) (called .reconstruct .ensures)
 
 pub lomsakeun-reconstruct-spec : {M : Type 1} → statement M
 lomsakeun-reconstruct-spec =
@@ -15,6 +15,7 @@ lomsakeun-reconstruct-spec =
     (λ c κs. search needs)
     (λ c κs. search needs)
     (λ c κs. search needs)
+    (λ c. search needs)
     (λ c. search needs)
     (λ c. search needs)
     (λ c. search needs)

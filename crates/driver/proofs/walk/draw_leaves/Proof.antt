@@ -15,67 +15,70 @@ use Rattle.driver.proofs.walk.draw_leaves.Statement.{statement}
 use Rattle.driver.proofs.walk.draw_leaves.Tie as tie
 
 abbrev Inv-loop : tie.InvT-loop
-Inv-loop w h format constrained list n leaves k pred-y pred-u pred-v residual at y₀ u₀ v₀ words₀ modes₀ run₀ room₀ end₀ j₀ y u v words modes run room end j =
-    (j ≤ n) × Stepped (givenOf w h format constrained leaves residual pred-y pred-u pred-v) (leavesFrom list j) (stateOf y₀ u₀ v₀ words₀ modes₀ at k) (stateOf y u v words modes end (k + j))
+Inv-loop w h format constrained list n leaves k pred-y pred-u pred-v residual at y₀ u₀ v₀ words₀ modes₀ keep₀ run₀ room₀ end₀ j₀ y u v words modes keep run room end j =
+    (j ≤ n) × Stepped (givenOf w h format constrained leaves residual pred-y pred-u pred-v) (leavesFrom list j) (stateOf y₀ u₀ v₀ words₀ modes₀ keep₀ at k) (stateOf y u v words modes keep end (k + j))
 
 abbrev μ-loop : tie.MeasureT-loop
-μ-loop w h format constrained list n leaves k pred-y pred-u pred-v residual at y₀ u₀ v₀ words₀ modes₀ run₀ room₀ end₀ j₀ y u v words modes run room end j = n - j
+μ-loop w h format constrained list n leaves k pred-y pred-u pred-v residual at y₀ u₀ v₀ words₀ modes₀ keep₀ run₀ room₀ end₀ j₀ y u v words modes keep run room end j = n - j
 
 loop-holds : tie.Need-loop-holds Inv-loop μ-loop
-loop-holds c = let s = c .before .before .before .before .before .before .before .before .before .before in (omega arith, leaves-start (s .args .list .now) (s .args .k) (s .pre .1 .0))
+loop-holds c = let s = c .before .before .before .before .before .before .before .before .before .before .before in (omega arith, leaves-start (s .args .list .now) (s .args .k) (s .pre .1 .0))
 
 -- where leaf j stands in the list
-in-list : (c : tie.In-loop Inv-loop μ-loop) → 3 * c .before .loop .j + 2 < length (c .before .before .before .before .before .before .before .before .before .before .before .before .args .list .now)
-in-list c = let b = c .before .before .before .before .before .before .before .before .before .before .before .before .pre .1 .1 .0 in omega (arith, b .long, b .few, c .loop-test .taken)
+in-list : (c : tie.In-loop Inv-loop μ-loop) → 3 * c .before .loop .j + 2 < length (c .before .before .before .before .before .before .before .before .before .before .before .before .before .args .list .now)
+in-list c = let b = c .before .before .before .before .before .before .before .before .before .before .before .before .before .pre .1 .1 .0 in omega (arith, b .long, b .few, c .loop-test .taken)
 
 -- the lists reach past it
-reached : (c : tie.In-loop Inv-loop μ-loop) → let s = c .before .before .before .before .before .before .before .before .before .before .before .before in let l = c .before .loop in Reaches (s .args .leaves .now) (length (s .args .residual .now)) (past (s .args .leaves .now) (getD (s .args .list .now) (3 * l .j + 2) 0) (placeOf (l .end) (s .args .k + l .j)))
+reached : (c : tie.In-loop Inv-loop μ-loop) → let s = c .before .before .before .before .before .before .before .before .before .before .before .before .before in let l = c .before .loop in Reaches (s .args .leaves .now) (length (s .args .residual .now)) (past (s .args .leaves .now) (getD (s .args .list .now) (3 * l .j + 2) 0) (placeOf (l .end) (s .args .k + l .j)))
 reached c =
-    let s = c .before .before .before .before .before .before .before .before .before .before .before .before in
+    let s = c .before .before .before .before .before .before .before .before .before .before .before .before .before in
     let l = c .before .loop in
     leaves-reach (s .args .leaves .now) (length (s .args .residual .now)) (s .args .list .now) (l .j) (s .args .n) (placeOf (s .args .at) (s .args .k)) (placeOf (l .end) (s .args .k + l .j)) (c .loop-test .taken)
     (sides (s .pre .1 .1 .0) .units _ (c .loop-test .taken)) (leaves-asked (s .args .list .now) (s .args .k) (l .j) (l .inv .1)) (s .pre .1 .1 .1)
 
 -- it is a block of the picture
-block : (c : tie.After-leaf-at Inv-loop μ-loop) → let r = c .leaf-at .result in blockOk (c .before .before .before .before .before .before .before .before .before .before .before .before .before .args .w) (c .before .before .before .before .before .before .before .before .before .before .before .before .before .args .h) (r .x .0) (r .z .0) (r .side) ≡ true
-block c = let e = c .leaf-at .ensures in rw (e .0, e .1, e .2) (c .before .before .before .before .before .before .before .before .before .before .before .before .before .pre .1 .1 .0 .blocks _ (c .before .loop-test .taken))
+block : (c : tie.After-leaf-at Inv-loop μ-loop) → let r = c .leaf-at .result in blockOk (c .before .before .before .before .before .before .before .before .before .before .before .before .before .before .args .w) (c .before .before .before .before .before .before .before .before .before .before .before .before .before .before .args .h) (r .x .0) (r .z .0) (r .side) ≡ true
+block c = let e = c .leaf-at .ensures in rw (e .0, e .1, e .2) (c .before .before .before .before .before .before .before .before .before .before .before .before .before .before .pre .1 .1 .0 .blocks _ (c .before .loop-test .taken))
 
 leaf-planes-requires : tie.Need-leaf-planes-requires Inv-loop μ-loop
 leaf-planes-requires c κs =
-    let s = c .before .before .before .before .before .before .before .before .before .before .before .before .before .before .before .before .before .before .before .before in
+    let s = c .before .before .before .before .before .before .before .before .before .before .before .before .before .before .before .before .before .before .before .before .before in
     (planes-asked _ _ _ _ (s .pre .0) (c .before .before .before .before .before .before .before .before .before .loop .inv .1 .asked) (block (c .before .before .before .before .before .before .before)) (rw (c .before .before .before .before .before .before .record-at .ensures .2) (s .pre .0 .masks _)), rw (c .before .before .before .before .before .before .record-at .ensures .2, c .before .before .before .before .before .before .before .leaf-at .ensures .2) (reached (c .before .before .before .before .before .before .before .before) .residuals))
 
 tell-requires : tie.Need-tell-requires Inv-loop μ-loop
 tell-requires c κs =
-    let a = c .before .before .before .before .before .before .before .before .before .before .before .before .before .before .before .before .before .before .loop .inv .1 .asked in
-    told _ _ _ _ _ _ _ (c .before .before .before .before .before .before .before .before .before .before .before .before .before .before .before .before .before .before .before .before .before .before .before .before .before .before .before .before .before .pre .0 .size) (block (c .before .before .before .before .before .before .before .before .before .before .before .before .before .before .before .before)) (a .words-long) (a .modes-long)
+    let a = c .before .before .before .before .before .before .before .before .before .before .before .before .before .before .before .before .before .before .before .loop .inv .1 .asked in
+    told _ _ _ _ _ _ _ _ (c .before .before .before .before .before .before .before .before .before .before .before .before .before .before .before .before .before .before .before .before .before .before .before .before .before .before .before .before .before .before .before .pre .0 .size) (block (c .before .before .before .before .before .before .before .before .before .before .before .before .before .before .before .before .before)) (a .words-long) (a .modes-long) (a .keep-long)
 
 loop-again : tie.Need-loop-again Inv-loop μ-loop
 loop-again c =
-    let s = c .before .before .before .before .before .before .before .before .before .before .before .before .before .before .before .before .before .before .before .before .before .before .before .before .before .before .before .before .before .before .before .before .before .before in
-    let l = c .before .before .before .before .before .before .before .before .before .before .before .before .before .before .before .before .before .before .before .before .before .before .before .loop in (
-      omega (arith, c .before .before .before .before .before .before .before .before .before .before .before .before .before .before .before .before .before .before .before .before .before .before .loop-test .taken),
-      leaves-next (givenOf (s .args .w) (s .args .h) (s .args .format) (s .args .constrained) (s .args .leaves .now) (s .args .residual .now) (s .args .pred-y .now) (s .args .pred-u .now) (s .args .pred-v .now)) (s .args .list .now) (s .args .k) (l .j) (s .pre .0) (block (c .before .before .before .before .before .before .before .before .before .before .before .before .before .before .before .before .before .before .before .before .before)) (c .before .before .before .before .before .before .before .before .before .before .before .before .before .before .before .before .before .before .before .before .before .leaf-at .ensures) (c .before .before .before .before .before .before .before .before .before .before .before .before .before .before .before .before .before .before .before .before .record-at .ensures) (c .before .before .before .before .before .before .before .before .before .before .before .before .before .leaf-planes .ensures) (c .before .before .before .before .tell .ensures) (l .inv .1),
+    let s = c .before .before .before .before .before .before .before .before .before .before .before .before .before .before .before .before .before .before .before .before .before .before .before .before .before .before .before .before .before .before .before .before .before .before .before .before .before .before in
+    let l = c .before .before .before .before .before .before .before .before .before .before .before .before .before .before .before .before .before .before .before .before .before .before .before .before .before .before .loop in (
+      omega (arith, c .before .before .before .before .before .before .before .before .before .before .before .before .before .before .before .before .before .before .before .before .before .before .before .before .before .loop-test .taken),
+      leaves-next (givenOf (s .args .w) (s .args .h) (s .args .format) (s .args .constrained) (s .args .leaves .now) (s .args .residual .now) (s .args .pred-y .now) (s .args .pred-u .now) (s .args .pred-v .now)) (s .args .list .now) (s .args .k) (l .j) (s .pre .0) (block (c .before .before .before .before .before .before .before .before .before .before .before .before .before .before .before .before .before .before .before .before .before .before .before .before)) (c .before .before .before .before .before .before .before .before .before .before .before .before .before .before .before .before .before .before .before .before .before .before .before .before .leaf-at .ensures) (c .before .before .before .before .before .before .before .before .before .before .before .before .before .before .before .before .before .before .before .before .before .before .before .record-at .ensures) (c .before .before .before .before .before .before .before .before .before .before .before .before .before .before .before .before .leaf-planes .ensures) (c .before .before .before .before .before .before .tell .ensures) (l .inv .1),
     )
 
 -- at the end
-lengths : (c : tie.After-loop Inv-loop μ-loop) → let s = c .before .before .before .before .before .before .before .before .before .before .before .before in let l = c .before .loop in Kept (stateOf (s .args .y .now) (s .args .u .now) (s .args .v .now) (s .args .map-scu .now) (s .args .modes .now) (s .args .at) (s .args .k)) (stateOf (l .y) (l .u) (l .v) (l .map-scu) (l .modes) (l .end) (s .args .k + l .j))
-lengths c = kept _ _ _ (c .before .before .before .before .before .before .before .before .before .before .before .before .pre .1 .0) (c .before .loop .inv .1 .asked)
+lengths : (c : tie.After-loop Inv-loop μ-loop) → let s = c .before .before .before .before .before .before .before .before .before .before .before .before .before in let l = c .before .loop in Kept (stateOf (s .args .y .now) (s .args .u .now) (s .args .v .now) (s .args .map-scu .now) (s .args .modes .now) (s .args .keep .now) (s .args .at) (s .args .k)) (stateOf (l .y) (l .u) (l .v) (l .map-scu) (l .modes) (l .keep) (l .end) (s .args .k + l .j))
+lengths c = kept _ _ _ (c .before .before .before .before .before .before .before .before .before .before .before .before .before .pre .1 .0) (c .before .loop .inv .1 .asked)
 
 returns : tie.Need-returns Inv-loop μ-loop
 returns c =
     let l = c .before .loop in
-    let e : l .j ≡ c .before .before .before .before .before .before .before .before .before .before .before .before .args .n = omega (arith, l .inv .0, c .loop-test .left) in
+    let e : l .j ≡ c .before .before .before .before .before .before .before .before .before .before .before .before .before .args .n = omega (arith, l .inv .0, c .loop-test .left) in
     rw (← e) (l .inv .1)
 
 add-j : tie.Need-add-j Inv-loop μ-loop
-add-j c = omega (arith, c .before .before .before .before .before .before .before .before .before .before .before .before .before .before .before .before .before .before .before .before .before .before .loop-test .taken, c .before .before .before .before .before .before .before .before .before .before .before .before .before .before .before .before .before .before .before .before .before .before .before .before .before .before .before .before .before .before .before .before .before .before .pre .1 .1 .0 .few)
+add-j c = omega (arith, c .before .before .before .before .before .before .before .before .before .before .before .before .before .before .before .before .before .before .before .before .before .before .before .before .before .loop-test .taken, c .before .before .before .before .before .before .before .before .before .before .before .before .before .before .before .before .before .before .before .before .before .before .before .before .before .before .before .before .before .before .before .before .before .before .before .before .before .before .pre .1 .1 .0 .few)
 
 loop-less : tie.Need-loop-less Inv-loop μ-loop
-loop-less c = omega (arith, c .before .before .before .before .before .before .before .before .before .before .before .before .before .before .before .before .before .before .before .before .before .before .loop-test .taken)
+loop-less c = omega (arith, c .before .before .before .before .before .before .before .before .before .before .before .before .before .before .before .before .before .before .before .before .before .before .before .before .before .loop-test .taken)
+
+add-record-at : tie.Need-add-record-at Inv-loop μ-loop
+add-record-at c = omega (arith, reached (c .before) .records, c .before .before .before .before .before .before .before .before .before .before .before .before .before .before .good .1 .1 .1 .1 .1 .1 .0)
 
 pub draw-leaves-spec : {M : Type 1} → statement M
 draw-leaves-spec =
     tie.close
-    (tie.spec Inv-loop μ-loop loop-holds (λ c κs. in-list c) (λ c. omega (arith, reached (c .before) .records)) (λ c κs. reached (c .before) .records) leaf-planes-requires tell-requires
-    add-j loop-less loop-again (λ c. lengths c .y-kept) (λ c. lengths c .u-kept) (λ c. lengths c .v-kept) (λ c. lengths c .words-kept) (λ c. lengths c .modes-kept) returns)
+    (tie.spec Inv-loop μ-loop loop-holds (λ c κs. in-list c) add-record-at (λ c κs. reached (c .before) .records) leaf-planes-requires tell-requires
+    add-j loop-less loop-again (λ c. lengths c .y-kept) (λ c. lengths c .u-kept) (λ c. lengths c .v-kept) (λ c. lengths c .words-kept) (λ c. lengths c .modes-kept) (λ c. lengths c .keep-kept) returns)

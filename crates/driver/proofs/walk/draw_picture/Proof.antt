@@ -16,13 +16,13 @@ use Rattle.driver.proofs.walk.draw_picture.Statement.{statement}
 use Rattle.driver.proofs.walk.draw_picture.Tie as tie
 
 abbrev Inv-loop : tie.InvT-loop
-Inv-loop w h format constrained splits leaves pred-y pred-u pred-v residual y₀ u₀ v₀ words₀ modes₀ roots list₀ run₀ room₀ at₀ k₀ i₀ y u v words modes list run room at k i =
+Inv-loop w h format constrained splits leaves pred-y pred-u pred-v residual y₀ u₀ v₀ words₀ modes₀ keep₀ roots list₀ run₀ room₀ at₀ k₀ i₀ y u v words modes keep list run room at k i =
     (i ≤ roots) × (length list ≡ 768)
-    × Stepped (givenOf w h format constrained leaves residual pred-y pred-u pred-v) (leavesOf splits (w / 4) (h / 4) i) (stateOf y₀ u₀ v₀ words₀ modes₀ 0 0) (stateOf y u v words modes at k)
+    × Stepped (givenOf w h format constrained leaves residual pred-y pred-u pred-v) (leavesOf splits (w / 4) (h / 4) i) (stateOf y₀ u₀ v₀ words₀ modes₀ keep₀ 0 0) (stateOf y u v words modes keep at k)
     × (k ≤ 256 * i)
 
 abbrev μ-loop : tie.MeasureT-loop
-μ-loop w h format constrained splits leaves pred-y pred-u pred-v residual y₀ u₀ v₀ words₀ modes₀ roots list₀ run₀ room₀ at₀ k₀ i₀ y u v words modes list run room at k i = roots - i
+μ-loop w h format constrained splits leaves pred-y pred-u pred-v residual y₀ u₀ v₀ words₀ modes₀ keep₀ roots list₀ run₀ room₀ at₀ k₀ i₀ y u v words modes keep list run room at k i = roots - i
 
 size : (s : tie.Start Inv-loop μ-loop) → Sized (s .args .w) (s .args .h)
 size s = sized _ _ (s .pre .0 .size)
@@ -32,18 +32,18 @@ few s = few-roots (s .args .w) (s .args .h) (size s .wide) (size s .high)
 
 loop-holds : tie.Need-loop-holds Inv-loop μ-loop
 loop-holds c =
-    let s = c .before .before .before .before .before .before .before .before .before .before in
+    let s = c .before .before .before .before .before .before .before .before .before .before .before in
     (omega arith, refl, roots-none _ (s .args .splits .now) (s .args .w / 4) (s .args .h / 4) _ (s .pre .1 .0), omega arith)
 
 root-leaves-requires : tie.Need-root-leaves-requires Inv-loop μ-loop
-root-leaves-requires c κs = (c .before .before .before .before .before .before .before .before .before .before .before .before .before .pre .1 .1 .0, c .before .loop-test .taken, c .before .before .loop .inv .1)
+root-leaves-requires c κs = (c .before .before .before .before .before .before .before .before .before .before .before .before .before .before .pre .1 .1 .0, c .before .loop-test .taken, c .before .before .loop .inv .1)
 
 draw-leaves-requires : tie.Need-draw-leaves-requires Inv-loop μ-loop
 draw-leaves-requires c κs =
-    let s = c .before .before .before .before .before .before .before .before .before .before .before .before .before .before .before .before .before .before .before .before .before .before .before in
-    let l = c .before .before .before .before .before .before .before .before .before .before .before .before .loop in
-    let d = c .before .before .before .before .before .before .before .before .before .root-leaves .ensures in
-    let early : l .i < roots (s .args .w / 4) (s .args .h / 4) = omega (arith, c .before .before .before .before .before .before .before .before .before .before .before .loop-test .taken, roots-units (size s)) in (
+    let s = c .before .before .before .before .before .before .before .before .before .before .before .before .before .before .before .before .before .before .before .before .before .before .before .before .before in
+    let l = c .before .before .before .before .before .before .before .before .before .before .before .before .before .loop in
+    let d = c .before .before .before .before .before .before .before .before .before .before .root-leaves .ensures in
+    let early : l .i < roots (s .args .w / 4) (s .args .h / 4) = omega (arith, c .before .before .before .before .before .before .before .before .before .before .before .before .loop-test .taken, roots-units (size s)) in (
       s .pre .0,
       (
         l .inv .2 .asked,
@@ -57,46 +57,46 @@ draw-leaves-requires c κs =
 
 loop-again : tie.Need-loop-again Inv-loop μ-loop
 loop-again c =
-    let s = c .before .before .before .before .before .before .before .before .before .before .before .before .before .before .before .before .before .before .before .before .before .before .before .before .before .before .before .before .before .before .before .before .before .before in
-    let l = c .before .before .before .before .before .before .before .before .before .before .before .before .before .before .before .before .before .before .before .before .before .before .before .loop in
-    let d = c .before .before .before .before .before .before .before .before .before .before .before .before .before .before .before .before .before .before .before .before .root-leaves .ensures in (
-      omega (arith, c .before .before .before .before .before .before .before .before .before .before .before .before .before .before .before .before .before .before .before .before .before .before .loop-test .taken),
+    let s = c .before .before .before .before .before .before .before .before .before .before .before .before .before .before .before .before .before .before .before .before .before .before .before .before .before .before .before .before .before .before .before .before .before .before .before .before .before .before in
+    let l = c .before .before .before .before .before .before .before .before .before .before .before .before .before .before .before .before .before .before .before .before .before .before .before .before .before .before .loop in
+    let d = c .before .before .before .before .before .before .before .before .before .before .before .before .before .before .before .before .before .before .before .before .before .before .before .root-leaves .ensures in (
+      omega (arith, c .before .before .before .before .before .before .before .before .before .before .before .before .before .before .before .before .before .before .before .before .before .before .before .before .before .loop-test .taken),
       d .blocks .long,
-      roots-more _ (s .args .splits .now) (s .args .w / 4) (s .args .h / 4) (l .i) _ _ _ _ _ (d .same) (l .inv .2) (c .before .before .before .before .before .before .before .before .before .before .draw-leaves .ensures),
+      roots-more _ (s .args .splits .now) (s .args .w / 4) (s .args .h / 4) (l .i) _ _ _ _ _ (d .same) (l .inv .2) (c .before .before .before .before .before .before .before .before .before .before .before .before .draw-leaves .ensures),
       omega (arith, l .inv .3, d .blocks .few),
     )
 
 -- at the end
-lengths : (c : tie.After-loop Inv-loop μ-loop) → let s = c .before .before .before .before .before .before .before .before .before .before .before .before in let l = c .before .loop in Kept (stateOf (s .args .y .now) (s .args .u .now) (s .args .v .now) (s .args .map-scu .now) (s .args .modes .now) 0 0) (stateOf (l .y) (l .u) (l .v) (l .map-scu) (l .modes) (l .at) (l .k))
-lengths c = kept _ _ _ (c .before .before .before .before .before .before .before .before .before .before .before .before .pre .1 .0) (c .before .loop .inv .2 .asked)
+lengths : (c : tie.After-loop Inv-loop μ-loop) → let s = c .before .before .before .before .before .before .before .before .before .before .before .before .before in let l = c .before .loop in Kept (stateOf (s .args .y .now) (s .args .u .now) (s .args .v .now) (s .args .map-scu .now) (s .args .modes .now) (s .args .keep .now) 0 0) (stateOf (l .y) (l .u) (l .v) (l .map-scu) (l .modes) (l .keep) (l .at) (l .k))
+lengths c = kept _ _ _ (c .before .before .before .before .before .before .before .before .before .before .before .before .before .pre .1 .0) (c .before .loop .inv .2 .asked)
 
 returns : tie.Need-returns Inv-loop μ-loop
 returns c =
-    let s = c .before .before .before .before .before .before .before .before .before .before .before .before in
+    let s = c .before .before .before .before .before .before .before .before .before .before .before .before .before in
     let l = c .before .loop in
     let e : l .i ≡ roots (s .args .w / 4) (s .args .h / 4) = omega (arith, l .inv .0, c .loop-test .left, roots-units (size s)) in
     rw (← e) (ended (l .inv .2 .same))
 
 add-roots : tie.Need-add-roots Inv-loop μ-loop
-add-roots c = omega (arith, size (c .before .before .before .before .before .before .before .before .before .before) .wide)
+add-roots c = omega (arith, size (c .before .before .before .before .before .before .before .before .before .before .before) .wide)
 
 add-roots-2 : tie.Need-add-roots-2 Inv-loop μ-loop
-add-roots-2 c = omega (arith, size (c .before .before .before .before .before .before .before .before .before .before) .high)
+add-roots-2 c = omega (arith, size (c .before .before .before .before .before .before .before .before .before .before .before) .high)
 
 mul-roots : tie.Need-mul-roots Inv-loop μ-loop
-mul-roots c = omega (arith, few (c .before .before .before .before .before .before .before .before .before .before))
+mul-roots c = omega (arith, few (c .before .before .before .before .before .before .before .before .before .before .before))
 
 add-k : tie.Need-add-k Inv-loop μ-loop
-add-k c = let l = c .before .before .before .before .before .before .before .before .before .before .before .before .before .before .before .before .before .before .before .before .before .before .before .loop in omega (arith, l .inv .3, l .inv .0, c .before .before .before .before .before .before .before .before .before .before .before .before .before .before .before .before .before .before .before .before .root-leaves .ensures .blocks .few, few (c .before .before .before .before .before .before .before .before .before .before .before .before .before .before .before .before .before .before .before .before .before .before .before .before .before .before .before .before .before .before .before .before .before .before))
+add-k c = let l = c .before .before .before .before .before .before .before .before .before .before .before .before .before .before .before .before .before .before .before .before .before .before .before .before .before .before .loop in omega (arith, l .inv .3, l .inv .0, c .before .before .before .before .before .before .before .before .before .before .before .before .before .before .before .before .before .before .before .before .before .before .before .root-leaves .ensures .blocks .few, few (c .before .before .before .before .before .before .before .before .before .before .before .before .before .before .before .before .before .before .before .before .before .before .before .before .before .before .before .before .before .before .before .before .before .before .before .before .before .before))
 
 add-i : tie.Need-add-i Inv-loop μ-loop
-add-i c = omega (arith, c .before .before .before .before .before .before .before .before .before .before .before .before .before .before .before .before .before .before .before .before .before .before .loop-test .taken, few (c .before .before .before .before .before .before .before .before .before .before .before .before .before .before .before .before .before .before .before .before .before .before .before .before .before .before .before .before .before .before .before .before .before .before))
+add-i c = omega (arith, c .before .before .before .before .before .before .before .before .before .before .before .before .before .before .before .before .before .before .before .before .before .before .before .before .before .loop-test .taken, few (c .before .before .before .before .before .before .before .before .before .before .before .before .before .before .before .before .before .before .before .before .before .before .before .before .before .before .before .before .before .before .before .before .before .before .before .before .before .before))
 
 loop-less : tie.Need-loop-less Inv-loop μ-loop
-loop-less c = omega (arith, c .before .before .before .before .before .before .before .before .before .before .before .before .before .before .before .before .before .before .before .before .before .before .loop-test .taken)
+loop-less c = omega (arith, c .before .before .before .before .before .before .before .before .before .before .before .before .before .before .before .before .before .before .before .before .before .before .before .before .before .loop-test .taken)
 
 pub draw-picture-spec : {M : Type 1} → statement M
 draw-picture-spec =
     tie.close
     (tie.spec Inv-loop μ-loop add-roots add-roots-2 mul-roots loop-holds (λ c. search needs) root-leaves-requires (λ c. search needs) draw-leaves-requires
-    add-k add-i loop-less loop-again (λ c. lengths c .y-kept) (λ c. lengths c .u-kept) (λ c. lengths c .v-kept) (λ c. lengths c .words-kept) (λ c. lengths c .modes-kept) returns)
+    add-k add-i loop-less loop-again (λ c. lengths c .y-kept) (λ c. lengths c .u-kept) (λ c. lengths c .v-kept) (λ c. lengths c .words-kept) (λ c. lengths c .modes-kept) (λ c. lengths c .keep-kept) returns)
