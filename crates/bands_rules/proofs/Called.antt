@@ -11,7 +11,6 @@ use Prim.Native.Nat.{ℕ, zero, suc, _+_, _-_, _*_, _/_, _≤_, _<_}
 use native.Mathlib.Nat.{mul-le-mul-left, mul-le-mul-right, add-mul, mul-add}
 use native.Mathlib.Omega.{arith}
 use Prim.Native.Nat.{min}
-use lib.IntN.{ℤ}
 use lib.ListN.{length, getD, take, drop, length-take, length-drop}
 use lib.Seq.{getD-take, getD-drop, take-nil, drop-nil}
 use Rattle.def.proofs.Words.{Alike}
@@ -22,7 +21,7 @@ use Rattle.split.specs.Picture.{across}
 use Rattle.df_rules.specs.Filter.{filtered, finished}
 use Rattle.df_rules.specs.Places.{unitSide, unitQ, unitP}
 use Rattle.df_rules.specs.Window.{Samples}
-use Rattle.df_rules.specs.Strength.{Maps}
+use Rattle.df_rules.specs.Strength.{Over, Maps}
 use Rattle.df_rules.proofs.Alikes.{Alikes, alikes-at, strength-alike}
 use Rattle.df_rules.proofs.Planes.{run-same, finished-long, finished-small, finished-none}
 use Rattle.bands_rules.specs.Bands.{edgeDown, bandBytes, listFrom, bandList, mapsPart, placesOf, inPart, called, calledAll, joined}
@@ -137,12 +136,12 @@ module _ (m : Maps) (t : List ℕ) (at : ℕ → ℕ) (c : Component) (short : B
 
 -- ---- by words that differ in done alone
 
-pub finished-alike : (motion refs : List ℤ) {l m : List ℕ} → Alikes l m → (t : List ℕ) (at : ℕ → ℕ) (c : Component) (w : ℕ) (ups levels : List Edge) (p : List ℕ)
-    → finished (record { words = l; motion = motion; refs = refs }) t at c w ups levels p ≡ finished (record { words = m; motion = motion; refs = refs }) t at c w ups levels p
-finished-alike motion refs {l} {m} a t at c w ups levels p =
-    run-same (record { words = l; motion = motion; refs = refs }) t at horizontal c w (record { words = m; motion = motion; refs = refs }) t at levels (λ e i. strength-alike motion refs t a at (unitQ w e) (unitP horizontal w e)) _
-    ∙ ap (run (filtered (record { words = m; motion = motion; refs = refs }) t at horizontal c w) levels)
-    (run-same (record { words = l; motion = motion; refs = refs }) t at vertical c w (record { words = m; motion = motion; refs = refs }) t at ups (λ e i. strength-alike motion refs t a at (unitQ w e) (unitP vertical w e)) p)
+pub finished-alike : (over : Over) {l m : List ℕ} → Alikes l m → (t : List ℕ) (at : ℕ → ℕ) (c : Component) (w : ℕ) (ups levels : List Edge) (p : List ℕ)
+    → finished (record { words = l; over = over }) t at c w ups levels p ≡ finished (record { words = m; over = over }) t at c w ups levels p
+finished-alike over {l} {m} a t at c w ups levels p =
+    run-same (record { words = l; over = over }) t at horizontal c w m t at levels (λ e i. strength-alike over t a at (unitQ w e) (unitP horizontal w e)) _
+    ∙ ap (run (filtered (record { words = m; over = over }) t at horizontal c w) levels)
+    (run-same (record { words = l; over = over }) t at vertical c w m t at ups (λ e i. strength-alike over t a at (unitQ w e) (unitP vertical w e)) p)
 
 pub part-alikes : {l m : List ℕ} → Alikes l m → (k n : ℕ) → Alikes (take n (drop k l)) (take n (drop k m))
 part-alikes {l} {m} a k n =

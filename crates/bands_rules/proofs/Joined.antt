@@ -17,7 +17,7 @@ use Rattle.def.specs.declared.Component.the-variants.{Luma, Chroma}
 use Rattle.laws.specs.Index.{pick}
 use Rattle.laws.specs.Orders.{run}
 use Rattle.laws.proofs.Orders.{run-append}
-use Rattle.line.specs.Line.{maskOf}
+use Rattle.line.specs.declared.Mask.{Mask}
 use Rattle.split.specs.Edges.{Pass, vertical, horizontal, Edge, edgeList}
 use Rattle.split.specs.Picture.{across}
 use Rattle.split.specs.Rows.{crossOf, alongOf}
@@ -96,11 +96,12 @@ module _ (c : Component) (w : ℕ) where
   lower : (r i : ℕ) → placesOf c w r ≤ i → sideOf r i ≡ 1
   lower r i l = rw (le-ltb i (placesOf c w r) l)
 
-  pub swap : (r end st st₁ : ℕ) (e f : Edge) → Lies horizontal w 0 r e → Lies vertical w r end f → (xs : List ℕ) → window vertical c w st₁ f (window horizontal c w st e xs) ≡ window horizontal c w st e (window vertical c w st₁ f xs)
-  swap r end st st₁ e f a b =
-      commute (sideOf r) 1 0 (window vertical c w st₁ f) (window horizontal c w st e)
-      (window-local (Keyed (sideOf r) 1) (maskOf c) st₁ _ _ _ _ (λ k j hk hj. lower r _ (low r f (b .above) k j)))
-      (window-local (Keyed (sideOf r) 0) (maskOf c) st _ _ _ _ (λ k j hk hj. upper r _ (high horizontal r e (a .inner) (a .column) (a .below) k j hk hj)))
+  pub swap : (r end st st₁ : ℕ) (m m₁ : Mask) (e f : Edge) → Lies horizontal w 0 r e → Lies vertical w r end f
+      → (xs : List ℕ) → window m₁ vertical c w st₁ f (window m horizontal c w st e xs) ≡ window m horizontal c w st e (window m₁ vertical c w st₁ f xs)
+  swap r end st st₁ m m₁ e f a b =
+      commute (sideOf r) 1 0 (window m₁ vertical c w st₁ f) (window m horizontal c w st e)
+      (window-local (Keyed (sideOf r) 1) m₁ st₁ _ _ _ _ (λ k j hk hj. lower r _ (low r f (b .above) k j)))
+      (window-local (Keyed (sideOf r) 0) m st _ _ _ _ (λ k j hk hj. upper r _ (high horizontal r e (a .inner) (a .column) (a .below) k j hk hj)))
       (λ z. omega arith)
 
 -- ---- what a run leaves
@@ -139,7 +140,7 @@ module _ (m : Maps) (t : List ℕ) (at : ℕ → ℕ) (c : Component) (short : B
   bands-joined (suc n) l p =
       ap (λ (q : List ℕ). levels (hor n) (ups (ver n) q)) (bands-joined n (omega arith) p)
       ∙ ap (levels (hor n)) (runs-commute (filtered m t at vertical c w) (filtered m t at horizontal c w) (ver n) (joined hor n)
-      (λ f e i j. swap c w (16 * n) _ _ _ e f (joined-in short s w h pos walked horizontal n (omega arith) e j) (band-in short s w h pos walked vertical n l f i))
+      (λ f e i j. swap c w (16 * n) _ _ _ _ _ e f (joined-in short s w h pos walked horizontal n (omega arith) e j) (band-in short s w h pos walked vertical n l f i))
       (ups (joined ver n) p))
       ∙ sym (run-append (filtered m t at horizontal c w) (joined hor n) (hor n) (ups (ver n) (ups (joined ver n) p)))
       ∙ ap (levels (joined hor n ++ hor n)) (sym (run-append (filtered m t at vertical c w) (joined ver n) (ver n) p))
@@ -154,9 +155,9 @@ module _ (m : Maps) (t : List ℕ) (at : ℕ → ℕ) (c : Component) (short : B
   one-final k r l g p i z =
       let b : (j : ℕ) → Type 0 = λ j. lastTwo c w r ≤ j in
       run-leaves b (filtered m t at horizontal c w) (hor k)
-      (λ e n. let q = band-in short s w h pos walked horizontal k l e n .above in window-local b (maskOf c) _ _ _ _ _ (λ a j ha hj. near c w r e (omega arith) a j)) (ups (ver k) p) .at i (λ n. omega arith)
+      (λ e n. let q = band-in short s w h pos walked horizontal k l e n .above in window-local b _ _ _ _ _ _ (λ a j ha hj. near c w r e (omega arith) a j)) (ups (ver k) p) .at i (λ n. omega arith)
       ∙ run-leaves b (filtered m t at vertical c w) (ver k)
-      (λ e n. let q = band-in short s w h pos walked vertical k l e n .above in window-local b (maskOf c) _ _ _ _ _ (λ a j ha hj. omega (arith, low c w r e (omega arith) a j, less c w r))) p .at i (λ n. omega arith)
+      (λ e n. let q = band-in short s w h pos walked vertical k l e n .above in window-local b _ _ _ _ _ _ (λ a j ha hj. omega (arith, low c w r e (omega arith) a j, less c w r))) p .at i (λ n. omega arith)
 
   more-final : (k n : ℕ) → k + n ≤ across h → (p : List ℕ) (i : ℕ) → i < lastTwo c w (16 * k) → getD (banded (k + n) p) i 0 ≡ getD (banded k p) i 0
   unfolding banded
@@ -183,8 +184,8 @@ module _ (m : Maps) (t : List ℕ) (at : ℕ → ℕ) (c : Component) (short : B
       let less-rows = mul-le-mul-right {m = unitSide c * (16 * k)} {n = unitSide c * (16 * suc k)} (unitSide c * w) (mul-le-mul-left {m = 16 * k} {n = 16 * suc k} (unitSide c) (omega arith)) in
       run-leaves b (filtered m t at horizontal c w) (hor k)
       (λ e n. let q = band-in short s w h pos walked horizontal k l e n in let y = q .below in
-      window-local b (maskOf c) _ _ _ _ _ (λ a j ha hj. high c w horizontal (16 * suc k) e (q .inner) (q .column) (omega arith) a j ha hj)) (ups (ver k) (banded k p)) .at i (λ n. omega arith)
+      window-local b _ _ _ _ _ _ (λ a j ha hj. high c w horizontal (16 * suc k) e (q .inner) (q .column) (omega arith) a j ha hj)) (ups (ver k) (banded k p)) .at i (λ n. omega arith)
       ∙ run-leaves b (filtered m t at vertical c w) (ver k)
       (λ e n. let q = band-in short s w h pos walked vertical k l e n in let y = q .below in
-      window-local b (maskOf c) _ _ _ _ _ (λ a j ha hj. high c w vertical (16 * suc k) e (q .inner) (q .column) (omega arith) a j ha hj)) (banded k p) .at i (λ n. omega arith)
+      window-local b _ _ _ _ _ _ (λ a j ha hj. high c w vertical (16 * suc k) e (q .inner) (q .column) (omega arith) a j ha hj)) (banded k p) .at i (λ n. omega arith)
       ∙ bands-below k (omega arith) p i (omega arith)

@@ -12,7 +12,7 @@ use native.Mathlib.Nat.{mul-le-mul-left, mul-le-mul-right, add-mul, mul-add, mul
 use native.Mathlib.Omega.{arith}
 use borrow.Author.Tests.{lt-ltb}
 use lib.Dec.{ltb, eqb}
-use lib.IntN.{ℤ, pos}
+use lib.IntN.{pos}
 use lib.ListN.{length, getD, set, take, drop, length-set, length-take, length-drop, List·getD-append, take-append-drop}
 use lib.Seq.{getD-append-add, set-append-left, getD-take, getD-drop, length-take-le}
 use Rattle.def.specs.Word.{qpOf}
@@ -32,9 +32,9 @@ use Rattle.split.specs.Picture.{allLeaves}
 use Rattle.split.specs.Rows.{crossOf, alongOf}
 use Rattle.split.specs.Walk.{Leaf}
 use Rattle.split.proofs.Induct.{test}
-use Rattle.df_rules.specs.Filter.{window, filtered, finished}
+use Rattle.df_rules.specs.Filter.{maskAt, filtered, finished}
 use Rattle.df_rules.specs.Places.{unitSide, stepAcross, stepAlong, lineStart, unitQ, unitP}
-use Rattle.df_rules.specs.Strength.{Maps, motionAt, rowAt, strengthOf, strength}
+use Rattle.df_rules.specs.Strength.{Maps, keptAt, motionAt, rowBy, strengthOf, strength}
 use Rattle.df_rules.specs.Window.{quadAt, putIf, lineAt, linesAt, windowAt}
 use Rattle.df_rules.proofs.Edges.{inside, p-before}
 use Rattle.df_rules.proofs.Planes.{filtered-long, run-long}
@@ -141,7 +141,7 @@ before-q horizontal w e o = p-before w w horizontal (e .y) (e .x) o
 p-down : (d : Pass) (w a : ℕ) (e : Edge) → 0 < crossOf d e → unitP d w (edgeDown a e) ≡ a * w + unitP d w e
 p-down d w a e o = omega (arith, q-down w a e, before-q d w e o)
 
--- ---- its strength, by parts of the maps
+-- ---- its strength and its marks, by parts of the maps
 
 part-at : {A : Type 0} (m w a b : ℕ) (l : List A) (i : ℕ) (z : A) → i < m * (b * w) → getD (mapPart m w a b l) i z ≡ getD l (m * (a * w) + i) z
 part-at m w a b l i z h = getD-take (m * (b * w)) (drop (m * (a * w)) l) i z h ∙ getD-drop (m * (a * w)) l i z
@@ -150,26 +150,34 @@ module _ (m : Maps) (w a b : ℕ) where
   word-part : (q : ℕ) → q < b * w → getD (mapsPart w a b m .words) q 0 ≡ getD (m .words) (a * w + q) 0
   word-part q l = part-at 1 w a b (m .words) q 0 (omega arith) ∙ ap (λ (i : ℕ). getD (m .words) i 0) (omega arith)
 
-  motion-part : (q : ℕ) → q < b * w → motionAt (mapsPart w a b m .motion) (mapsPart w a b m .refs) q ≡ motionAt (m .motion) (m .refs) (a * w + q)
+  motion-part : (q : ℕ) → q < b * w → motionAt (mapsPart w a b m .over .motion) (mapsPart w a b m .over .refs) q ≡ motionAt (m .over .motion) (m .over .refs) (a * w + q)
   motion-part q l =
-      let mv : (j : ℕ) → j < 4 → getD (mapsPart w a b m .motion) (4 * q + j) (pos 0) ≡ getD (m .motion) (4 * (a * w + q) + j) (pos 0) =
-      λ j g. part-at 4 w a b (m .motion) (4 * q + j) (pos 0) (omega arith) ∙ ap (λ (i : ℕ). getD (m .motion) i (pos 0)) (omega arith) in
-      let rf : (j : ℕ) → j < 2 → getD (mapsPart w a b m .refs) (2 * q + j) (pos 0) ≡ getD (m .refs) (2 * (a * w + q) + j) (pos 0) =
-      λ j g. part-at 2 w a b (m .refs) (2 * q + j) (pos 0) (omega arith) ∙ ap (λ (i : ℕ). getD (m .refs) i (pos 0)) (omega arith) in
-      let mv₀ : getD (mapsPart w a b m .motion) (4 * q) (pos 0) ≡ getD (m .motion) (4 * (a * w + q)) (pos 0) =
-      part-at 4 w a b (m .motion) (4 * q) (pos 0) (omega arith) ∙ ap (λ (i : ℕ). getD (m .motion) i (pos 0)) (omega arith) in
-      let rf₀ : getD (mapsPart w a b m .refs) (2 * q) (pos 0) ≡ getD (m .refs) (2 * (a * w + q)) (pos 0) =
-      part-at 2 w a b (m .refs) (2 * q) (pos 0) (omega arith) ∙ ap (λ (i : ℕ). getD (m .refs) i (pos 0)) (omega arith) in
+      let mv : (j : ℕ) → j < 4 → getD (mapsPart w a b m .over .motion) (4 * q + j) (pos 0) ≡ getD (m .over .motion) (4 * (a * w + q) + j) (pos 0) =
+      λ j g. part-at 4 w a b (m .over .motion) (4 * q + j) (pos 0) (omega arith) ∙ ap (λ (i : ℕ). getD (m .over .motion) i (pos 0)) (omega arith) in
+      let rf : (j : ℕ) → j < 2 → getD (mapsPart w a b m .over .refs) (2 * q + j) (pos 0) ≡ getD (m .over .refs) (2 * (a * w + q) + j) (pos 0) =
+      λ j g. part-at 2 w a b (m .over .refs) (2 * q + j) (pos 0) (omega arith) ∙ ap (λ (i : ℕ). getD (m .over .refs) i (pos 0)) (omega arith) in
+      let mv₀ : getD (mapsPart w a b m .over .motion) (4 * q) (pos 0) ≡ getD (m .over .motion) (4 * (a * w + q)) (pos 0) =
+      part-at 4 w a b (m .over .motion) (4 * q) (pos 0) (omega arith) ∙ ap (λ (i : ℕ). getD (m .over .motion) i (pos 0)) (omega arith) in
+      let rf₀ : getD (mapsPart w a b m .over .refs) (2 * q) (pos 0) ≡ getD (m .over .refs) (2 * (a * w + q)) (pos 0) =
+      part-at 2 w a b (m .over .refs) (2 * q) (pos 0) (omega arith) ∙ ap (λ (i : ℕ). getD (m .over .refs) i (pos 0)) (omega arith) in
       λ i. record { refi0 = rf₀ i; refi1 = rf 1 (omega arith) i; x0 = mv₀ i; y0 = mv 1 (omega arith) i; x1 = mv 2 (omega arith) i; y1 = mv 3 (omega arith) i }
 
   strength-of : (t : List ℕ) (at : ℕ → ℕ) (q p : ℕ) → q < b * w → p < b * w → strengthOf (mapsPart w a b m) t at q p ≡ strengthOf m t at (a * w + q) (a * w + p)
-  unfolding strengthOf rowAt
+  unfolding strengthOf rowBy
   strength-of t at q p l k = λ i. 4 * getD t (52 * rowOf (word-part q l i) (word-part p k i) (motion-part q l i) (motion-part p k i) + at (qpOf (word-part q l i))) 0
 
   strength-part : (t : List ℕ) (at : ℕ → ℕ) (d : Pass) (e : Edge) → 0 < crossOf d e → e .x < w → e .y < b → strength m t at d w (edgeDown a e) ≡ strength (mapsPart w a b m) t at d w e
   strength-part t at d e o x y =
       let l = flat-within (e .y) (e .x) w b x y in
       (λ i. strengthOf m t at (q-down w a e i) (p-down d w a e o i)) ∙ sym (strength-of t at (unitQ w e) (unitP d w e) l (omega arith))
+
+  kept-part : (q : ℕ) → q < b * w → keptAt m (a * w + q) ≡ keptAt (mapsPart w a b m) q
+  kept-part q l = ap (λ (n : ℕ). eqb n 1) (sym (part-at 1 w a b (m .over .keep) q 0 (omega arith) ∙ ap (λ (i : ℕ). getD (m .over .keep) i 0) (omega arith)))
+
+  mask-part : (d : Pass) (c : Component) (e : Edge) → 0 < crossOf d e → e .x < w → e .y < b → maskAt m d c w (edgeDown a e) ≡ maskAt (mapsPart w a b m) d c w e
+  mask-part d c e o x y =
+      let l = flat-within (e .y) (e .x) w b x y in
+      ap₂ (maskOf c) (ap (keptAt m) (p-down d w a e o) ∙ kept-part (unitP d w e) (omega arith)) (ap (keptAt m) (q-down w a e) ∙ kept-part (unitQ w e) l)
 
 -- ---- edges in a part of a plane
 
@@ -180,8 +188,8 @@ module _ (m : Maps) (t : List ℕ) (at : ℕ → ℕ) (d : Pass) (c : Component)
       let n = unitSide c in
       let first : lineStart d (n * w) (n * crossOf d (edgeDown a e)) (n * alongOf d (edgeDown a e)) ≡ length before + lineStart d (n * w) (n * crossOf d e) (n * alongOf d e) =
       start-down d n w a e (two-samples c) (k .inner) ∙ ap (λ (i : ℕ). i + lineStart d (n * w) (n * crossOf d e) (n * alongOf d e)) (sym start) in
-      (λ i. windowAt (maskOf c) (strength-part m w a b t at d e (k .inner) (k .column) (k .below) i) (stepAcross d (n * w)) (stepAlong d (n * w)) (first i) n (before ++ (xs ++ after)))
-      ∙ window-part before after (maskOf c) (strength (mapsPart w a b m) t at d w e) (stepAcross d (n * w)) (stepAlong d (n * w)) (lineStart d (n * w) (n * crossOf d e) (n * alongOf d e)) n xs
+      (λ i. windowAt (mask-part m w a b d c e (k .inner) (k .column) (k .below) i) (strength-part m w a b t at d e (k .inner) (k .column) (k .below) i) (stepAcross d (n * w)) (stepAlong d (n * w)) (first i) n (before ++ (xs ++ after)))
+      ∙ window-part before after (maskAt (mapsPart w a b m) d c w e) (strength (mapsPart w a b m) t at d w e) (stepAcross d (n * w)) (stepAlong d (n * w)) (lineStart d (n * w) (n * crossOf d e) (n * alongOf d e)) n xs
       (λ j l. subst (λ (z : ℕ). lineStart d (n * w) (n * crossOf d e) (n * alongOf d e) + j * stepAlong d (n * w) + 3 * stepAcross d (n * w) < z) (sym long) (room d k j l)) where
         room : (d : Pass) → Lies d w 0 b e → (j : ℕ) → j < unitSide c
             → lineStart d (unitSide c * w) (unitSide c * crossOf d e) (unitSide c * alongOf d e) + j * stepAlong d (unitSide c * w) + 3 * stepAcross d (unitSide c * w) < placesOf c w b

@@ -5,7 +5,6 @@ use mathlib.Core.Path.{_≡_, refl, sym, ap, ap₂, _∙_, subst}
 use mathlib.Core.List.{List, [], _∷_, _++_, map}
 use Prim.Native.Nat.{ℕ, _+_, _*_}
 use native.Mathlib.Nat.{zero-mul, zero-add, add-zero}
-use lib.IntN.{ℤ}
 use lib.ListN.{length, take, drop}
 use Rattle.def.specs.declared.Format.{Format}
 use Rattle.split.specs.Edges.{Pass, vertical, horizontal, Edge, edgesOf, edgeList}
@@ -13,7 +12,7 @@ use Rattle.split.specs.Picture.{allLeaves}
 use Rattle.split.specs.Walk.{Leaf}
 use Rattle.df_rules.specs.Filter.{Planes, filterAll}
 use Rattle.df_rules.specs.Frame as Frame
-use Rattle.df_rules.specs.Strength.{Maps}
+use Rattle.df_rules.specs.Strength.{Over, Maps}
 use Rattle.split.specs.RootCall.{leafDown}
 use Rattle.bands_rules.specs.Bands.{listFrom, doneFrom, Both}
 
@@ -37,5 +36,5 @@ both-zero {m} {t} {w} short s n {p} b =
       marks = b .marks ∙ ap (λ (k : ℕ). doneFrom k (m .words)) (zero-mul w);
     }
 
-pub frame-zero : {format : Format} {w h : ℕ} {y u v words : List ℕ} {motion refs : List ℤ} {t : List ℕ} → Frame.Frame format w h y u v words motion refs t → Frame.Frame format w (0 + h) y u v words motion refs t
-frame-zero {format} {w} {h} {y} {u} {v} {words} {motion} {refs} {t} f = subst (λ (k : ℕ). Frame.Frame format w k y u v words motion refs t) (sym (zero-add h)) f
+pub frame-zero : {format : Format} {w h : ℕ} {y u v words : List ℕ} {over : Over} {t : List ℕ} → Frame.Frame format w h y u v words over t → Frame.Frame format w (0 + h) y u v words over t
+frame-zero {format} {w} {h} {y} {u} {v} {words} {over} {t} f = subst (λ (k : ℕ). Frame.Frame format w k y u v words over t) (sym (zero-add h)) f

@@ -5,7 +5,6 @@ use mathlib.Core.Bool.{Bool}
 use mathlib.Core.List.{List, [], _++_, map}
 use mathlib.Core.Path.{_≡_}
 use Prim.Native.Nat.{ℕ, zero, suc, _+_, _*_}
-use lib.IntN.{ℤ}
 use lib.ListN.{length, take, drop}
 use Rattle.def.specs.declared.Component.{Component}
 use Rattle.split.specs.Edges.{Pass, vertical, horizontal, Edge, edge, edgesOf, Visit, visit}
@@ -67,7 +66,11 @@ abbrev pub mapPart : {A : Type 0} → (m w a b : ℕ) → List A → List A
 mapPart m w a b l = take (m * (b * w)) (drop (m * (a * w)) l)
 
 abbrev pub mapsPart : (w a b : ℕ) → Maps → Maps
-mapsPart w a b m = record { words = mapPart 1 w a b (m .words); motion = mapPart 4 w a b (m .motion); refs = mapPart 2 w a b (m .refs) }
+mapsPart w a b m =
+    record {
+      words = mapPart 1 w a b (m .words);
+      over = record { motion = mapPart 4 w a b (m .over .motion); refs = mapPart 2 w a b (m .over .refs); keep = mapPart 1 w a b (m .over .keep) };
+    }
 
 abbrev pub placesOf : Component → (w r : ℕ) → ℕ
 placesOf c w r = unitSide c * r * (unitSide c * w)

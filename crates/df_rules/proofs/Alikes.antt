@@ -7,13 +7,12 @@ use mathlib.Core.List.{List, [], _∷_}
 use native.Mathlib.Nat.{le-of-suc-le-suc}
 use native.Mathlib.Decide.{decLt}
 use native.Mathlib.Omega.{arith}
-use lib.IntN.{ℤ}
 use lib.ListN.{length, getD}
 use Rattle.def.proofs.Words.{Alike}
 use Rattle.laws.specs.Index.{pick}
 use Rattle.line.specs.declared.Motion.{Motion}
 use Rattle.line.specs.Row.{motionRow, rowOf}
-use Rattle.df_rules.specs.Strength.{Maps, motionAt, rowAt, strengthOf}
+use Rattle.df_rules.specs.Strength.{Over, Maps, motionAt, rowBy, strengthOf}
 
 pub record Alikes (l m : List ℕ) : Type 0 where
   pub long : length l ≡ length m
@@ -40,10 +39,10 @@ row-alike : {a b a₁ b₁ : ℕ} (m n : Motion) → Alike a a₁ → Alike b b�
 unfolding rowOf
 row-alike m n p q = λ i. pick (p .intra i || q .intra i) 0 (pick (p .coded i || q .coded i) 1 (motionRow m n))
 
-module _ (motion refs : List ℤ) (t : List ℕ) where
+module _ (over : Over) (t : List ℕ) where
   abbrev by : List ℕ → Maps
-  by l = record { words = l; motion = motion; refs = refs }
+  by l = record { words = l; over = over }
 
   pub strength-alike : {l m : List ℕ} → Alikes l m → (at : ℕ → ℕ) (q p : ℕ) → strengthOf (by l) t at q p ≡ strengthOf (by m) t at q p
-  unfolding strengthOf rowAt
-  strength-alike a at q p = λ i. 4 * getD t (52 * row-alike (motionAt motion refs q) (motionAt motion refs p) (a .same q) (a .same p) i + at (a .same q .qp i)) 0
+  unfolding strengthOf rowBy
+  strength-alike a at q p = λ i. 4 * getD t (52 * row-alike (motionAt (over .motion) (over .refs) q) (motionAt (over .motion) (over .refs) p) (a .same q) (a .same p) i + at (a .same q .qp i)) 0

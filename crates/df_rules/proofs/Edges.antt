@@ -8,7 +8,6 @@ use native.Mathlib.Nat.{mul-le-mul-left, mul-le-mul-right, mul-one, add-mul, mul
 use native.Mathlib.Omega.{arith}
 use borrow.Author.Tests.{ltb-false}
 use lib.Dec.{ltb}
-use lib.IntN.{ℤ}
 use lib.ListN.{length, length-append}
 use Rattle.laws.specs.Index.{pick}
 use Rattle.def.specs.declared.Format.{Format}
@@ -17,10 +16,10 @@ use Rattle.laws.proofs.Orders.{run-append}
 use Rattle.laws.proofs.Flat.{flat-within}
 use Rattle.split.specs.Edges.{Pass, vertical, horizontal, Edge, edgeAt, stretch}
 use Rattle.split.specs.Rows.{crossOf, alongOf}
-use Rattle.df_rules.specs.Frame.{Unit, Frame, unitsAcross, unitsAlong, AtUnit}
+use Rattle.df_rules.specs.Frame.{Unit, Marked, Frame, unitsAcross, unitsAlong, AtUnit}
 use Rattle.df_rules.specs.Filter.{Planes, filterOne, filterAll}
 use Rattle.df_rules.specs.Places.{stepAcross, stepAlong, lineStart, unitQ, unitP}
-use Rattle.df_rules.specs.Strength.{Maps}
+use Rattle.df_rules.specs.Strength.{Over}
 
 -- ---- units
 
@@ -34,15 +33,21 @@ module _ (w h : ℕ) where
   p-before vertical c a p = omega arith
   p-before horizontal c a p = omega (arith, mul-le-mul-right {m = 1} {n = c} w p)
 
-  module _ {format : Format} {y u v words : List ℕ} {motion refs : List ℤ} {entries : List ℕ} (f : Frame format w h y u v words motion refs entries) where
-    unit-of : (k : ℕ) → k < h * w → Unit words motion refs k
+  module _ {format : Format} {y u v words : List ℕ} {over : Over} {entries : List ℕ} (f : Frame format w h y u v words over entries) where
+    -- what is known of the picture's units
+    pub unit-of : (k : ℕ) → k < h * w → Unit words (over .motion) (over .refs) k
     unit-of k p = record { word = omega (arith, f .long-words); mv = omega (arith, f .long-motion); refi = omega (arith, f .long-refs); qp = f .qps k }
 
-    pub unit-q : (d : Pass) (c a : ℕ) → c < unitsAcross d w h → a < unitsAlong d w h → Unit words motion refs (unitQ w (edgeAt d c a))
-    unit-q d c a p q = unit-of _ (q-within d c a p q)
+    pub mark-of : (k : ℕ) → k < h * w → Marked (over .keep) k
+    mark-of k p = record { there = omega (arith, f .long-keep); few = f .marks k }
 
-    pub unit-p : (d : Pass) (c a : ℕ) → c < unitsAcross d w h → a < unitsAlong d w h → Unit words motion refs (unitP d w (edgeAt d c a))
-    unit-p d c a p q = let l = q-within d c a p q in unit-of _ (omega arith)
+  -- Q and P are units
+  module _ (U : ℕ → Type 0) (u : (k : ℕ) → k < h * w → U k) where
+    pub unit-q : (d : Pass) (c a : ℕ) → c < unitsAcross d w h → a < unitsAlong d w h → U (unitQ w (edgeAt d c a))
+    unit-q d c a p q = u _ (q-within d c a p q)
+
+    pub unit-p : (d : Pass) (c a : ℕ) → c < unitsAcross d w h → a < unitsAlong d w h → U (unitP d w (edgeAt d c a))
+    unit-p d c a p q = let l = q-within d c a p q in u _ (omega arith)
 
 -- ---- windows, in a plane of m samples a unit's side
 

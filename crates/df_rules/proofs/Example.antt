@@ -23,7 +23,7 @@ use Rattle.split.specs.Tiling.{leafAt, leafOf}
 use Rattle.split.specs.Walk.{onward, inTurn, leafWalk, byByte, walk}
 use Rattle.df_rules.specs.Demand3.{Demand3}
 use Rattle.df_rules.specs.Filter.{filtered, finished}
-use Rattle.df_rules.specs.Strength.{Maps, rowAt, strengthOf}
+use Rattle.df_rules.specs.Strength.{Maps, rowBy, strengthOf}
 use Rattle.df_rules.specs.Window.{lineAt, linesAt, windowAt}
 use Rattle.df_rules.proofs.Finished.{demand-3}
 
@@ -57,7 +57,7 @@ orders-differ e = let n : _≡_ {A = ℕ} 1 2 = sym (ap column by-walk) ∙ ap c
 -- ---- a chroma plane of 8 by 4 samples. No unit is intra or coded and none moves, so each edge is of row 3; every entry is 3
 
 maps : Maps
-maps = record { words = replicate 8 0; motion = replicate 32 (pos 0); refs = replicate 16 (pos 0) }
+maps = record { words = replicate 8 0; over = record { motion = replicate 32 (pos 0); refs = replicate 16 (pos 0); keep = replicate 8 0 } }
 
 strengths : List ℕ
 strengths = replicate 208 3
@@ -79,7 +79,7 @@ in-one-row : (run (filtered maps strengths plain vertical Chroma 4) (edge 1 0 �
     ≡ 100 ∷ 107 ∷ 113 ∷ 126 ∷ 134 ∷ 140 ∷ 160 ∷ 160 ∷ 100 ∷ 107 ∷ 113 ∷ 126 ∷ 134 ∷ 140 ∷ 160 ∷ 160 ∷ [])
     × (run (filtered maps strengths plain vertical Chroma 4) (edge 2 0 ∷ edge 1 0 ∷ []) (upper ++ upper)
     ≡ 100 ∷ 106 ∷ 114 ∷ 127 ∷ 133 ∷ 140 ∷ 160 ∷ 160 ∷ 100 ∷ 106 ∷ 114 ∷ 127 ∷ 133 ∷ 140 ∷ 160 ∷ 160 ∷ [])
-unfolding maps strengths plain upper run windowAt linesAt lineAt strengthOf rowAt strengthRow motionRow sameRefs anyFar far countedAs eqZ flagAt fieldOf lineOf lineZ movedBy sampleZ heldTo farOf limitOf stepOf withSign absZ clipZ minZ maxZ
+unfolding maps strengths plain upper run windowAt linesAt lineAt strengthOf rowBy strengthRow motionRow sameRefs anyFar far countedAs eqZ flagAt fieldOf lineOf lineZ movedBy sampleZ heldTo farOf limitOf stepOf withSign absZ clipZ minZ maxZ
 in-one-row = (refl, refl)
 
 -- the finished plane, by the lists as the passes visit them and row by row
@@ -92,5 +92,5 @@ ended =
 
 planes-agree : (finished maps strengths plain Chroma 4 (edgeList vertical false bytes 4 2) (edgeList horizontal false bytes 4 2) plane ≡ ended)
     × (finished maps strengths plain Chroma 4 (rowList vertical false bytes 4 2) (rowList horizontal false bytes 4 2) plane ≡ ended)
-unfolding bytes walk leafWalk byByte onward inTurn leavesOf each visitOf stretch leafAt leafOf isEdge rowOf rowsOf maps strengths plain upper lower plane ended run windowAt linesAt lineAt strengthOf rowAt strengthRow motionRow sameRefs anyFar far countedAs eqZ flagAt fieldOf lineOf lineZ movedBy sampleZ heldTo farOf limitOf stepOf withSign absZ clipZ minZ maxZ
+unfolding bytes walk leafWalk byByte onward inTurn leavesOf each visitOf stretch leafAt leafOf isEdge rowOf rowsOf maps strengths plain upper lower plane ended run windowAt linesAt lineAt strengthOf rowBy strengthRow motionRow sameRefs anyFar far countedAs eqZ flagAt fieldOf lineOf lineZ movedBy sampleZ heldTo farOf limitOf stepOf withSign absZ clipZ minZ maxZ
 planes-agree = (refl, refl)

@@ -1,4 +1,4 @@
--- How far a pass can move a sample: at most 4 times the largest entry, and each sample is written for one edge only, the nearest.
+-- How far a pass can move a sample: at most 4 times the largest entry, and each sample is written for one edge only, the nearest. No sample of a kept unit is.
 -- Assumes nothing.
 use Prim.Native.Nat.{ℕ, zero, suc, _+_, _-_, _*_, _/_, _%_, _≤_, _<_, min, max}
 use mathlib.Core.Path.{_≡_, refl, sym, ap, _∙_, subst}
@@ -6,7 +6,7 @@ use mathlib.Core.Bool.{Bool, true, false, not, _&&_, true≢false}
 use mathlib.Core.List.{List, [], _∷_, List·Memᴰ, List·Memᴰ·head, List·Memᴰ·tail}
 use native.Mathlib.Nat.{add-mul, mul-comm, mul-one}
 use native.Mathlib.Omega.{arith}
-use borrow.Author.Tests.{eqb-true, eqb-false, eq-eqb, ne-eqb, ltb-true, ltb-false}
+use borrow.Author.Tests.{eqb-true, eqb-false, eq-eqb, ne-eqb, not-true, ltb-true, ltb-false}
 use lib.Arith.{digits-div, digits-mod}
 use lib.Dec.{eqb, ltb}
 use lib.ListN.{length, getD, set}
@@ -27,10 +27,10 @@ use Rattle.split.specs.Rows.{crossOf, alongOf}
 use Rattle.split.proofs.Induct.{test}
 use Rattle.split.proofs.Sides.{and-true}
 use Rattle.df_rules.specs.Lanes.{putLine, putLines, Apart}
-use Rattle.df_rules.specs.Moves.{largest, writtenBy, Spot, Writes, Inner, Once, outerOf, passed, PassMoves, Moves}
-use Rattle.df_rules.specs.Filter.{window, filtered, finished}
+use Rattle.df_rules.specs.Moves.{largest, writtenBy, Spot, Writes, unitOf, Inner, Once, outerOf, passed, PassMoves, Moves}
+use Rattle.df_rules.specs.Filter.{maskAt, window, filtered, finished}
 use Rattle.df_rules.specs.Places.{unitSide, stepAcross, stepAlong, lineStart, unitQ, unitP}
-use Rattle.df_rules.specs.Strength.{Maps, rowAt, qpAt, strengthOf, strength}
+use Rattle.df_rules.specs.Strength.{Maps, keptAt, rowAt, qpAt, strengthOf, strength}
 use Rattle.df_rules.specs.Window.{quadAt, putIf, linesAt, windowAt, Samples}
 use Rattle.df_rules.proofs.Lanes.{at-once, apart-pass}
 use Rattle.df_rules.proofs.Planes.{filtered-small, run-small}
@@ -146,8 +146,24 @@ nearCross Chroma x = (x + 1) / 2
 abbrev nearest : Pass → Component → (w i : ℕ) → Edge
 nearest d c w i = edgeAt d (nearCross c (digitAcross d (unitSide c * w) i)) (digitAlong d (unitSide c * w) i / unitSide c)
 
+-- what an edge writes where nothing is kept; with marks it is no more
+abbrev mayWrite : Component → ℕ → Bool
+mayWrite c j = writtenBy (maskOf c false false) j
+
+may-write : (c : Component) (p q : Bool) (j : ℕ) → writtenBy (maskOf c p q) j ≡ true → mayWrite c j ≡ true
+may-write Luma p q zero e = refl
+may-write Luma p q (suc zero) e = refl
+may-write Luma p q (suc (suc zero)) e = refl
+may-write Luma p q (suc (suc (suc zero))) e = refl
+may-write Luma p q (suc (suc (suc (suc j)))) e = e
+may-write Chroma p q zero e = e
+may-write Chroma p q (suc zero) e = refl
+may-write Chroma p q (suc (suc zero)) e = refl
+may-write Chroma p q (suc (suc (suc zero))) e = e
+may-write Chroma p q (suc (suc (suc (suc j)))) e = e
+
 -- a sample that is written for the edge at x
-near-cross : (c : Component) (x j : ℕ) → 1 ≤ x → writtenBy (maskOf c) j ≡ true → nearCross c (unitSide c * x - 2 + j) ≡ x
+near-cross : (c : Component) (x j : ℕ) → 1 ≤ x → mayWrite c j ≡ true → nearCross c (unitSide c * x - 2 + j) ≡ x
 near-cross Luma x zero p e = omega arith
 near-cross Luma x (suc zero) p e = omega arith
 near-cross Luma x (suc (suc zero)) p e = omega arith
@@ -167,7 +183,7 @@ abbrev outerIn : Component → ℕ → Bool
 outerIn Luma x = outerOf ((x + 2) % 4)
 outerIn Chroma x = false
 
-inner-in : (c : Component) (x j : ℕ) → 1 ≤ x → writtenBy (maskOf c) j ≡ true → outerOf j ≡ false → outerIn c (unitSide c * x - 2 + j) ≡ false
+inner-in : (c : Component) (x j : ℕ) → 1 ≤ x → mayWrite c j ≡ true → outerOf j ≡ false → outerIn c (unitSide c * x - 2 + j) ≡ false
 inner-in Chroma x j p e f = refl
 inner-in Luma x zero p e f = absurd (true≢false f)
 inner-in Luma x (suc zero) p e f = let r : (4 * x - 2 + 1 + 2) % 4 ≡ 1 = omega arith in ap outerOf r
@@ -187,7 +203,50 @@ at-own : (d : Pass) (e : Edge) → edgeAt d (crossOf d e) (alongOf d e) ≡ e
 at-own vertical e = refl
 at-own horizontal e = refl
 
-module _ (d : Pass) (c : Component) (w : ℕ) where
+-- ---- the unit that a sample lies in
+
+-- A and B lie in P, C and D in Q
+across-unit : (c : Component) (x j : ℕ) → 1 ≤ x → j < 4 → (unitSide c * x - 2 + j) / unitSide c ≡ pick (ltb j 2) (x - 1) x
+across-unit Luma x zero p q = omega arith
+across-unit Luma x (suc zero) p q = omega arith
+across-unit Luma x (suc (suc zero)) p q = omega arith
+across-unit Luma x (suc (suc (suc zero))) p q = omega arith
+across-unit Luma x (suc (suc (suc (suc j)))) p q = absurd (omega arith)
+across-unit Chroma x zero p q = omega arith
+across-unit Chroma x (suc zero) p q = omega arith
+across-unit Chroma x (suc (suc zero)) p q = omega arith
+across-unit Chroma x (suc (suc (suc zero))) p q = omega arith
+across-unit Chroma x (suc (suc (suc (suc j)))) p q = absurd (omega arith)
+
+-- a sample that is written lies in a unit that is not kept
+not-kept : (c : Component) (p q : Bool) (j : ℕ) → writtenBy (maskOf c p q) j ≡ true → pick (ltb j 2) p q ≡ false
+not-kept Luma p q zero e = not-true p e
+not-kept Luma p q (suc zero) e = not-true p e
+not-kept Luma p q (suc (suc zero)) e = not-true q e
+not-kept Luma p q (suc (suc (suc zero))) e = not-true q e
+not-kept Luma p q (suc (suc (suc (suc j)))) e = absurd (true≢false (sym e))
+not-kept Chroma p q zero e = absurd (true≢false (sym e))
+not-kept Chroma p q (suc zero) e = not-true p e
+not-kept Chroma p q (suc (suc zero)) e = not-true q e
+not-kept Chroma p q (suc (suc (suc zero))) e = absurd (true≢false (sym e))
+not-kept Chroma p q (suc (suc (suc (suc j)))) e = absurd (true≢false (sym e))
+
+-- P and Q by their places across and along
+unit-by : (d : Pass) (w : ℕ) (e : Edge) → 0 < crossOf d e → (b : Bool) → unitQ w (edgeAt d (pick b (crossOf d e - 1) (crossOf d e)) (alongOf d e)) ≡ pick b (unitP d w e) (unitQ w e)
+unit-by vertical w e p true = omega arith
+unit-by horizontal w e p true =
+    let r : e .y ≡ e .y - 1 + 1 = omega arith in
+    let s = add-mul (e .y - 1) 1 w in
+    let t : e .y * w ≡ (e .y - 1 + 1) * w = ap (λ (k : ℕ). k * w) r in
+    omega arith
+unit-by vertical w e p false = refl
+unit-by horizontal w e p false = refl
+
+unit-digits : (d : Pass) (c : Component) (w i : ℕ) → unitOf c w i ≡ unitQ w (edgeAt d (digitAcross d (unitSide c * w) i / unitSide c) (digitAlong d (unitSide c * w) i / unitSide c))
+unit-digits vertical c w i = refl
+unit-digits horizontal c w i = refl
+
+module _ (mp : Maps) (d : Pass) (c : Component) (w : ℕ) where
   abbrev m : ℕ
   m = unitSide c
 
@@ -205,11 +264,11 @@ module _ (d : Pass) (c : Component) (w : ℕ) where
         along = ap (digitAlong d (m * w)) f ∙ digit-along d (m * w) (m * crossOf d e - 2 + p .sample) (m * alongOf d e + p .line) r;
       }
 
-  nearest-is : (e : Edge) → Inner d w e → (i : ℕ) → Writes d c w e i → nearest d c w i ≡ e
+  nearest-is : (e : Edge) → Inner d w e → (i : ℕ) → Writes mp d c w e i → nearest d c w i ≡ e
   nearest-is e n i p =
       let l = lies e n i (p .spot) in
       (λ t. edgeAt d (nearCross c (l .across t)) (l .along t / m))
-      ∙ (λ t. edgeAt d (near-cross c (crossOf d e) (p .spot .sample) (n .before) (p .written) t) ((ap (λ (k : ℕ). (k + p .spot .line) / m) (mul-comm m (alongOf d e)) ∙ digits-div (alongOf d e) (p .spot .lines)) t))
+      ∙ (λ t. edgeAt d (near-cross c (crossOf d e) (p .spot .sample) (n .before) (may-write c _ _ (p .spot .sample) (p .written)) t) ((ap (λ (k : ℕ). (k + p .spot .line) / m) (mul-comm m (alongOf d e)) ∙ digits-div (alongOf d e) (p .spot .lines)) t))
       ∙ at-own d e
 
   -- two writes of one place in a window are the same line and sample
@@ -221,7 +280,7 @@ module _ (d : Pass) (c : Component) (w : ℕ) where
       let y = sym (a .along) ∙ b .along in
       (omega (arith, y), omega (arith, x))
 
-  pub one-write : (i : ℕ) (e f : Edge) → Inner d w e → Inner d w f → (p : Writes d c w e i) (q : Writes d c w f i)
+  pub one-write : (i : ℕ) (e f : Edge) → Inner d w e → Inner d w f → (p : Writes mp d c w e i) (q : Writes mp d c w f i)
       → (e ≡ f) × (p .spot .line ≡ q .spot .line) × (p .spot .sample ≡ q .spot .sample)
   one-write i e f n o p q =
       let g = sym (nearest-is e n i p) ∙ nearest-is f o i q in
@@ -232,6 +291,21 @@ module _ (d : Pass) (c : Component) (w : ℕ) where
       let x = sym (a .across) ∙ b .across ∙ ap (λ (k : ℕ). m * k - 2 + q .spot .sample) (sym cross) in
       let y = sym (a .along) ∙ b .along ∙ ap (λ (k : ℕ). m * k + q .spot .line) (sym along) in
       (g, omega (arith, y), omega (arith, x))
+
+  -- the unit of a sample that is written is not kept
+  free-unit : (e : Edge) → Inner d w e → (i : ℕ) → Writes mp d c w e i → keptAt mp (unitOf c w i) ≡ false
+  free-unit e n i p =
+      let j = p .spot .sample in
+      let l = lies e n i (p .spot) in
+      let home : unitOf c w i ≡ pick (ltb j 2) (unitP d w e) (unitQ w e) =
+      unit-digits d c w i
+      ∙ (λ t. unitQ w (edgeAt d ((ap (λ (k : ℕ). k / m) (l .across) ∙ across-unit c (crossOf d e) j (n .before) (p .spot .four)) t)
+      ((ap (λ (k : ℕ). k / m) (l .along) ∙ ap (λ (k : ℕ). (k + p .spot .line) / m) (mul-comm m (alongOf d e)) ∙ digits-div (alongOf d e) (p .spot .lines)) t)))
+      ∙ unit-by d w e (n .before) (ltb j 2) in
+      ap (keptAt mp) home ∙ either (ltb j 2) ∙ not-kept c (keptAt mp (unitP d w e)) (keptAt mp (unitQ w e)) j (p .written) where
+        either : (b : Bool) → keptAt mp (pick b (unitP d w e) (unitQ w e)) ≡ pick b (keptAt mp (unitP d w e)) (keptAt mp (unitQ w e))
+        either true = refl
+        either false = refl
 
   -- ---- how far a window moves a sample: not at all where it is another edge's, and an outer one of luma half as far
 
@@ -266,24 +340,24 @@ module _ (d : Pass) (c : Component) (w : ℕ) where
     start = lineStart d (m * w) (m * crossOf d e) (m * alongOf d e)
 
     -- sample j of line k, if it is written
-    spot : (k j i : ℕ) → k < m → j < 4 → writtenBy (maskOf c) j ≡ true → i ≡ start + k * stepAlong d (m * w) + j * stepAcross d (m * w) → Writes d c w e i
+    spot : (k j i : ℕ) → k < m → j < 4 → writtenBy (maskAt mp d c w e) j ≡ true → i ≡ start + k * stepAlong d (m * w) + j * stepAcross d (m * w) → Writes mp d c w e i
     spot k j i p q t g = record { spot = record { line = k; sample = j; lines = p; four = q; is = g }; written = t }
 
-    own : (i : ℕ) → Writes d c w e i → most e st i ≡ reach st i
+    own : (i : ℕ) → Writes mp d c w e i → most e st i ≡ reach st i
     own i p = ap (λ (b : Bool). pick b (reach st i) 0) (same-true _ _ (nearest-is e n i p))
 
-    inner-reach : (i : ℕ) (p : Writes d c w e i) → outerOf (p .spot .sample) ≡ false → reach st i ≡ st
-    inner-reach i p g = ap (λ (b : Bool). pick b (st / 2) st) (ap (outerIn c) (lies e n i (p .spot) .across) ∙ inner-in c (crossOf d e) (p .spot .sample) (n .before) (p .written) g)
+    inner-reach : (i : ℕ) (p : Writes mp d c w e i) → outerOf (p .spot .sample) ≡ false → reach st i ≡ st
+    inner-reach i p g = ap (λ (b : Bool). pick b (st / 2) st) (ap (outerIn c) (lies e n i (p .spot) .across) ∙ inner-in c (crossOf d e) (p .spot .sample) (n .before) (may-write c _ _ (p .spot .sample) (p .written)) g)
 
-    allows : (k : ℕ) → k < m → Allows (most e st) (maskOf c) st (stepAcross d (m * w)) (start + k * stepAlong d (m * w))
+    allows : (k : ℕ) → k < m → Allows (most e st) (maskAt mp d c w e) st (stepAcross d (m * w)) (start + k * stepAlong d (m * w))
     unfolding spot
     allows k h =
         let at = start + k * stepAlong d (m * w) in
         let step = stepAcross d (m * w) in
         record {
           a = λ t. let i = spot k 0 at h (omega arith) t (omega arith) in rw (own at i) (half-reach (outerAt at) st);
-          b = λ t. let i = spot k 1 (at + step) h (omega arith) t (omega arith) in rw (own (at + step) i, inner-reach (at + step) i refl) (omega arith);
-          c = λ t. let i = spot k 2 (at + 2 * step) h (omega arith) t (omega arith) in rw (own (at + 2 * step) i, inner-reach (at + 2 * step) i refl) (omega arith);
+          b = λ t. let i = spot k 1 (at + step) h (omega arith) t (omega arith) in rw (own (at + step) i, inner-reach (at + step) i (refl {a = false})) (omega arith);
+          c = λ t. let i = spot k 2 (at + 2 * step) h (omega arith) t (omega arith) in rw (own (at + 2 * step) i, inner-reach (at + 2 * step) i (refl {a = false})) (omega arith);
           d = λ t. let i = spot k 3 (at + 3 * step) h (omega arith) t (omega arith) in rw (own (at + 3 * step) i) (half-reach (outerAt (at + 3 * step)) st);
         }
 
@@ -293,14 +367,14 @@ module _ (d : Pass) (c : Component) (w : ℕ) where
       by-pass vertical i = apart-pass m w (suc (e .y)) (two-samples c) vertical (e .x) (e .y) (i .before) (i .column) (omega arith)
       by-pass horizontal i = apart-pass m w (suc (e .y)) (two-samples c) horizontal (e .y) (e .x) (i .before) (omega arith) (i .column)
 
-    edge-near : (xs : List ℕ) → Samples xs → Near (most e st) xs (window d c w st e xs)
-    edge-near xs small = window-near (most e st) xs (maskOf c) st (stepAcross d (m * w)) small (stepAlong d (m * w)) start m apart allows
+    edge-near : (xs : List ℕ) → Samples xs → Near (most e st) xs (window (maskAt mp d c w e) d c w st e xs)
+    edge-near xs small = window-near (most e st) xs (maskAt mp d c w e) st (stepAcross d (m * w)) small (stepAlong d (m * w)) start m apart allows
 
     -- the same with nothing at a place that is not written
-    spared : (xs : List ℕ) → Samples xs → (i : ℕ) → (Writes d c w e i → ⊥) → getD (window d c w st e xs) i 0 ≡ getD xs i 0
+    spared : (xs : List ℕ) → Samples xs → (i : ℕ) → (Writes mp d c w e i → ⊥) → getD (window (maskAt mp d c w e) d c w st e xs) i 0 ≡ getD xs i 0
     unfolding spot
     spared xs small i g =
-        let b = window-near (λ k. pick (eqb k i) 0 st) xs (maskOf c) st (stepAcross d (m * w)) small (stepAlong d (m * w)) start m apart (λ k h.
+        let b = window-near (λ k. pick (eqb k i) 0 st) xs (maskAt mp d c w e) st (stepAcross d (m * w)) small (stepAlong d (m * w)) start m apart (λ k h.
         let at = start + k * stepAlong d (m * w) in
         let step = stepAcross d (m * w) in
         record {
@@ -309,7 +383,7 @@ module _ (d : Pass) (c : Component) (w : ℕ) where
           c = λ t. free′ (at + 2 * step) (λ z. g (spot k 2 i h (omega arith) t (omega arith)));
           d = λ t. free (at + 3 * step) (λ z. g (spot k 3 i h (omega arith) t (omega arith)));
         }) i in
-        let z : gapN (getD (window d c w st e xs) i 0) (getD xs i 0) ≤ 0 = subst (λ (b : Bool). gapN (getD (window d c w st e xs) i 0) (getD xs i 0) ≤ pick b 0 st) (eq-eqb i i refl) b in
+        let z : gapN (getD (window (maskAt mp d c w e) d c w st e xs) i 0) (getD xs i 0) ≤ 0 = subst (λ (b : Bool). gapN (getD (window (maskAt mp d c w e) d c w st e xs) i 0) (getD xs i 0) ≤ pick b 0 st) (eq-eqb i i refl) b in
         omega arith
       where
         free′ : (k : ℕ) → (k ≡ i → ⊥) → st ≤ pick (eqb k i) 0 st
@@ -329,7 +403,7 @@ module _ (d : Pass) (c : Component) (w : ℕ) where
 
   -- ---- a pass
 
-  module _ (mp : Maps) (t : List ℕ) (at : ℕ → ℕ) where
+  module _ (t : List ℕ) (at : ℕ → ℕ) where
     abbrev step : Edge → List ℕ → List ℕ
     step = filtered mp t at d c w
 
@@ -376,7 +450,7 @@ module _ (d : Pass) (c : Component) (w : ℕ) where
         (λ u. subst (λ (z : ℕ). gapN (getD (run step l (step e xs)) i 0) z ≤ reach (4 * largest t) i) (elsewhere e n xs small i u) (moves l (record { inner = k; apart = o .apart .1 }) (step e xs) s i))
 
     -- a sample that no edge of the list writes: its nearest edge is none of them, or does not write it
-    unwritten : (l : List Edge) → ((e : Edge) → List·Memᴰ e l → Inner d w e) → (xs : List ℕ) → Samples xs → (i : ℕ) → ((e : Edge) → List·Memᴰ e l → Writes d c w e i → ⊥) → getD (run step l xs) i 0 ≡ getD xs i 0
+    unwritten : (l : List Edge) → ((e : Edge) → List·Memᴰ e l → Inner d w e) → (xs : List ℕ) → Samples xs → (i : ℕ) → ((e : Edge) → List·Memᴰ e l → Writes mp d c w e i → ⊥) → getD (run step l xs) i 0 ≡ getD xs i 0
     unfolding run
     unwritten [] n xs small i g = refl
     unwritten (e ∷ l) n xs small i g =
@@ -389,10 +463,11 @@ module _ (d : Pass) (c : Component) (w : ℕ) where
       most = λ i. via (moves l o xs small i) (whole-reach (outerAt i) (4 * largest t));
       outer = λ r i e a p g. via (moves l o xs small i) (outer-reach r e (o .inner e a) i p g (largest t));
       still = unwritten l (o .inner) xs small;
+      kept = λ i g. unwritten l (o .inner) xs small i (λ e a p. true≢false (sym g ∙ free-unit e (o .inner e a) i p));
     }
 
 pub pass-moves : (mp : Maps) (t : List ℕ) (at : ℕ → ℕ) (d : Pass) (c : Component) (w : ℕ) (l : List Edge) → Once d w l → (xs : List ℕ) → Samples xs → PassMoves mp t at d c w l xs
-pass-moves mp t at d c w l o xs small = least d c w mp t at l o xs small
+pass-moves mp t at d c w l o xs small = least mp d c w t at l o xs small
 
 apart-more : (x y z a b : ℕ) → gapN y x ≤ a → gapN z y ≤ b → gapN z x ≤ a + b
 apart-more x y z a b p q = omega arith
@@ -406,7 +481,8 @@ both-move mp t at c w ups levels o p xs small =
       ver = v;
       hor = h;
       both = λ i. omega (arith, apart-more _ _ _ _ _ (v .most i) (h .most i));
-      kept = λ i f g. h .still i g ∙ v .still i f;
+      still = λ i f g. h .still i g ∙ v .still i f;
+      kept = λ i g. h .kept i g ∙ v .kept i g;
     }
 
 -- ---- the lists of a picture whose walk is accepted

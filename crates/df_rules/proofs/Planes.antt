@@ -3,10 +3,11 @@
 --     window-long, filtered-long, run-long, finished-long, filter-long    lengths stay
 --     window-small, filtered-small, run-small, finished-small, filter-small    samples stay at most 1023
 --     no-samples, run-none, finished-none    a plane without samples stays without
---     run-same    edges of the same strengths filter alike; planes-finished    so do both passes, in all three planes
+--     run-same    edges of the same marks and strengths filter alike; planes-finished    so do both passes, in all three planes
+--     run-unmarked, finished-unmarked    where no unit is kept the marks are not looked at; zeros-unkept    a map of zeros keeps none
 -- Assumes nothing.
 use Prim.Native.Nat.{ℕ, zero, suc, _+_, _*_, _≤_}
-use mathlib.Core.Path.{_≡_, refl, sym, ap, _∙_, subst}
+use mathlib.Core.Path.{_≡_, refl, sym, ap, ap₂, _∙_, subst}
 use mathlib.Core.Bool.{Bool, true, false}
 use mathlib.Core.List.{List, [], _∷_, List·Memᴰ, List·Memᴰ·head, List·Memᴰ·tail}
 use native.Mathlib.Omega.{arith}
@@ -20,10 +21,12 @@ use Rattle.laws.specs.Index.{pick}
 use Rattle.laws.specs.Orders.{run}
 use Rattle.line.proofs.Lines.{line-samples}
 use Rattle.line.specs.declared.Mask.{Mask}
+use Rattle.line.specs.Line.{maskOf}
 use Rattle.split.proofs.Induct.{test}
 use Rattle.split.specs.Edges.{Pass, vertical, horizontal, Edge}
-use Rattle.df_rules.specs.Filter.{window, filtered, inY, inU, inV, Planes, filterAll, finished}
-use Rattle.df_rules.specs.Strength.{Maps, strength}
+use Rattle.df_rules.specs.Filter.{maskAt, window, filtered, inY, inU, inV, Planes, filterAll, finished, unmarked, finishedUnmarked}
+use Rattle.df_rules.specs.Places.{unitQ, unitP}
+use Rattle.df_rules.specs.Strength.{Maps, keptAt, strength}
 use Rattle.df_rules.specs.Window.{putIf, lineAt, linesAt, windowAt, Samples}
 
 -- ---- three planes together
@@ -114,14 +117,22 @@ module _ (m : Maps) (t : List ℕ) (at : ℕ → ℕ) (d : Pass) (c : Component)
   pub run-none : (l : List Edge) → run (filtered m t at d c w) l [] ≡ []
   run-none l = no-samples _ (run-long l [])
 
-  -- by other strengths that are the same
-  pub run-same : (m₁ : Maps) (t₁ : List ℕ) (at₁ : ℕ → ℕ) (l : List Edge) → ((e : Edge) → List·Memᴰ e l → strength m t at d w e ≡ strength m₁ t₁ at₁ d w e)
-      → (xs : List ℕ) → run (filtered m t at d c w) l xs ≡ run (filtered m₁ t₁ at₁ d c w) l xs
+  -- by other words and strengths, where these are the same; the marks are the same map's
+  pub run-same : (words : List ℕ) (t₁ : List ℕ) (at₁ : ℕ → ℕ) (l : List Edge) → ((e : Edge) → List·Memᴰ e l → strength m t at d w e ≡ strength (record { words = words; over = m .over }) t₁ at₁ d w e)
+      → (xs : List ℕ) → run (filtered m t at d c w) l xs ≡ run (filtered (record { words = words; over = m .over }) t₁ at₁ d c w) l xs
   unfolding run
-  run-same m₁ t₁ at₁ [] h xs = refl
-  run-same m₁ t₁ at₁ (e ∷ l) h xs =
-      run-same m₁ t₁ at₁ l (λ f i. h f (List·Memᴰ·tail i)) (filtered m t at d c w e xs)
-      ∙ ap (λ (st : ℕ). run (filtered m₁ t₁ at₁ d c w) l (window d c w st e xs)) (h e (List·Memᴰ·head refl))
+  run-same words t₁ at₁ [] h xs = refl
+  run-same words t₁ at₁ (e ∷ l) h xs =
+      run-same words t₁ at₁ l (λ f i. h f (List·Memᴰ·tail i)) (filtered m t at d c w e xs)
+      ∙ ap (λ (st : ℕ). run (filtered (record { words = words; over = m .over }) t₁ at₁ d c w) l (window (maskAt m d c w e) d c w st e xs)) (h e (List·Memᴰ·head refl))
+
+  -- where no unit is kept
+  pub run-unmarked : ((k : ℕ) → keptAt m k ≡ false) → (l : List Edge) (xs : List ℕ) → run (filtered m t at d c w) l xs ≡ run (unmarked m t at d c w) l xs
+  unfolding run
+  run-unmarked h [] xs = refl
+  run-unmarked h (e ∷ l) xs =
+      run-unmarked h l (filtered m t at d c w e xs)
+      ∙ ap₂ (λ (p q : Bool). run (unmarked m t at d c w) l (window (maskOf c p q) d c w (strength m t at d w e) e xs)) (h (unitP d w e)) (h (unitQ w e))
 
 -- both passes
 module _ (m : Maps) (t : List ℕ) (at : ℕ → ℕ) (c : Component) (w : ℕ) (ups levels : List Edge) (xs : List ℕ) where
@@ -130,6 +141,13 @@ module _ (m : Maps) (t : List ℕ) (at : ℕ → ℕ) (c : Component) (w : ℕ) 
 
   pub finished-small : Samples xs → Samples (finished m t at c w ups levels xs)
   finished-small g = run-small m t at horizontal c w levels _ (run-small m t at vertical c w ups xs g)
+
+  pub finished-unmarked : ((k : ℕ) → keptAt m k ≡ false) → finished m t at c w ups levels xs ≡ finishedUnmarked m t at c w ups levels xs
+  finished-unmarked h = run-unmarked m t at horizontal c w h levels _ ∙ ap (run (unmarked m t at horizontal c w) levels) (run-unmarked m t at vertical c w h ups xs)
+
+-- a map of zeros
+pub zeros-unkept : (m : Maps) → ((k : ℕ) → getD (m .over .keep) k 0 ≡ 0) → (k : ℕ) → keptAt m k ≡ false
+zeros-unkept m h k = ap (λ (n : ℕ). eqb n 1) (h k)
 
 pub finished-none : (m : Maps) (t : List ℕ) (at : ℕ → ℕ) (c : Component) (w : ℕ) (ups levels : List Edge) → finished m t at c w ups levels [] ≡ []
 finished-none m t at c w ups levels = no-samples _ (finished-long m t at c w ups levels [])
@@ -165,8 +183,8 @@ module _ (m : Maps) (entries : List ℕ) (w : ℕ) (lists : Pass → List Edge) 
   plane-finished : (c : Component) (place at : ℕ → ℕ) → SameStrengths place at → (xs : List ℕ)
       → finished m entries place c w (lists vertical) (lists horizontal) xs ≡ finished m t at c w (lists vertical) (lists horizontal) xs
   plane-finished c place at h xs =
-      run-same m entries place horizontal c w m t at (lists horizontal) (h horizontal) _
-      ∙ ap (run (filtered m t at horizontal c w) (lists horizontal)) (run-same m entries place vertical c w m t at (lists vertical) (h vertical) xs)
+      run-same m entries place horizontal c w (m .words) t at (lists horizontal) (h horizontal) _
+      ∙ ap (run (filtered m t at horizontal c w) (lists horizontal)) (run-same m entries place vertical c w (m .words) t at (lists vertical) (h vertical) xs)
 
   pub planes-finished : (atY atU atV : ℕ → ℕ) → SameStrengths inY atY → SameStrengths inU atU → SameStrengths inV atV → (p : Planes)
       → filterAll m entries horizontal w (lists horizontal) (filterAll m entries vertical w (lists vertical) p)

@@ -14,7 +14,7 @@ use Rattle.def.specs.declared.Component.{Component}
 use Rattle.def.specs.declared.Component.the-variants.{Luma, Chroma}
 use Rattle.laws.specs.Orders.{Pairwise, run}
 use Rattle.laws.proofs.Orders.{pairwise-imp, same-run}
-use Rattle.line.specs.Line.{maskOf}
+use Rattle.line.specs.declared.Mask.{Mask}
 use Rattle.split.specs.Edges.{Pass, vertical, horizontal, Edge, edgeAt, edgeList}
 use Rattle.split.specs.Picture.{pictureWalk}
 use Rattle.split.specs.Rows.{crossOf, alongOf, EdgeOf, rowList}
@@ -63,8 +63,8 @@ pub two-samples : (c : Component) → 2 ≤ unitSide c
 two-samples Luma = omega arith
 two-samples Chroma = omega arith
 
-windowed : (d : Pass) (c : Component) (w st : ℕ) (e : Edge) → 0 < crossOf d e → e .x < w → Local (Keyed (unitAlong d (unitSide c) w) (alongOf d e)) (window d c w st e)
-windowed d c w st e o p = window-local _ (maskOf c) st _ _ _ _ (unit-along (unitSide c) w (two-samples c) d e o p)
+windowed : (k : Mask) (d : Pass) (c : Component) (w st : ℕ) (e : Edge) → 0 < crossOf d e → e .x < w → Local (Keyed (unitAlong d (unitSide c) w) (alongOf d e)) (window k d c w st e)
+windowed k d c w st e o p = window-local _ k st _ _ _ _ (unit-along (unitSide c) w (two-samples c) d e o p)
 
 -- ---- the two lists
 
@@ -103,4 +103,4 @@ module _ (short : Bool) (s : List ℕ) (w h : ℕ) (pos : 1 ≤ w) (accepted : p
 
   pub filtered-rows : (m : Maps) (t : List ℕ) (at : ℕ → ℕ) (c : Component) (xs : List ℕ)
       → run (filtered m t at d c w) (edgeList d short s w h) xs ≡ run (filtered m t at d c w) (rowList d short s w h) xs
-  filtered-rows m t at c = steps-rows (unitAlong d (unitSide c) w) (filtered m t at d c w) (λ e o. windowed d c w _ e (o .sure .inner) (o .column))
+  filtered-rows m t at c = steps-rows (unitAlong d (unitSide c) w) (filtered m t at d c w) (λ e o. windowed _ d c w _ e (o .sure .inner) (o .column))

@@ -8,7 +8,7 @@ use Rattle.def.specs.Word.{intraOf, codedOf}
 use Rattle.laws.specs.Index.{pick}
 use Rattle.line.specs.declared.Motion.{Motion}
 use Rattle.line.specs.Row.{sameRefs, anyFar, crosswise, motionRow, rowOf}
-use Rattle.df_rules.specs.Strength.{Maps, motionAt, rowAt}
+use Rattle.df_rules.specs.Strength.{Maps, motionAt, rowBy, rowAt}
 
 either : (b : Bool) (m n : ℕ) → m ≤ 3 → n ≤ 3 → pick b m n ≤ 3
 either true m n h g = h
@@ -31,5 +31,5 @@ few q p m n =
     (either (codedOf q || codedOf p) 1 (motionRow m n) (omega arith) (motion-few m n))
 
 pub row-few : (m : Maps) (q p : ℕ) → rowAt m q p ≤ 3
-unfolding rowAt
-row-few m q p = few (getD (m .words) q 0) (getD (m .words) p 0) (motionAt (m .motion) (m .refs) q) (motionAt (m .motion) (m .refs) p)
+unfolding rowBy
+row-few m q p = few (getD (m .words) q 0) (getD (m .words) p 0) (motionAt (m .over .motion) (m .over .refs) q) (motionAt (m .over .motion) (m .over .refs) p)

@@ -10,7 +10,7 @@ use Rattle.def.specs.Word.{qpOf}
 use Rattle.def.specs.declared.Format.{Format}
 use Rattle.split.specs.Edges.{Pass, vertical, horizontal, Edge}
 use Rattle.df_rules.specs.Filter.{Planes, filterAll}
-use Rattle.df_rules.specs.Strength.{Maps}
+use Rattle.df_rules.specs.Strength.{Over, Maps}
 use Rattle.df_rules.specs.Visit.{allDone}
 use Rattle.df_rules.specs.Window.{Samples}
 
@@ -21,18 +21,25 @@ pub record Unit (words : List ℕ) (motion refs : List ℤ) (k : ℕ) : Type 0 w
   pub refi : 2 * k + 2 ≤ length refs
   pub qp : qpOf (getD words k 0) ≤ 51
 
+-- k is a unit of the keep marks, and its mark is 0 or 1
+pub record Marked (keep : List ℕ) (k : ℕ) : Type 0 where
+  pub there : k < length keep
+  pub few : getD keep k 0 ≤ 1
+
 -- a picture of w by h units and of a format, with its maps, and the strength entries
-pub record Frame (f : Format) (w h : ℕ) (y u v words : List ℕ) (motion refs : List ℤ) (entries : List ℕ) : Type 0 where
+pub record Frame (f : Format) (w h : ℕ) (y u v words : List ℕ) (over : Over) (entries : List ℕ) : Type 0 where
   pub wide : w ≤ 1024
   pub high : h ≤ 1024
   pub long-y : length y ≡ 4 * h * (4 * w)
   pub long-u : length u ≡ inFormat f (2 * h * (2 * w))
   pub long-v : length v ≡ inFormat f (2 * h * (2 * w))
   pub long-words : length words ≡ h * w
-  pub long-motion : length motion ≡ 4 * (h * w)
-  pub long-refs : length refs ≡ 2 * (h * w)
+  pub long-motion : length (over .motion) ≡ 4 * (h * w)
+  pub long-refs : length (over .refs) ≡ 2 * (h * w)
+  pub long-keep : length (over .keep) ≡ h * w
   pub long-entries : length entries ≡ 624
   pub qps : (k : ℕ) → qpOf (getD words k 0) ≤ 51
+  pub marks : (k : ℕ) → getD (over .keep) k 0 ≤ 1
   pub all-y : Samples y
   pub all-u : Samples u
   pub all-v : Samples v

@@ -1,7 +1,9 @@
--- The strength of a unit's edge in a plane: a row by the two units, the entry at Q's QP, mapped for chroma, four times.
+-- The maps of a picture, and the strength of a unit's edge in a plane: a row by the two units, the entry at Q's QP, mapped for chroma, four times.
 -- Assumes nothing: these are definitions.
 use Prim.Native.Nat.{ℕ, _+_, _*_}
+use mathlib.Core.Bool.{Bool}
 use mathlib.Core.List.{List}
+use lib.Dec.{eqb}
 use lib.IntN.{ℤ, pos}
 use lib.ListN.{getD}
 use Rattle.def.specs.Word.{qpOf}
@@ -10,11 +12,20 @@ use Rattle.line.specs.Row.{rowOf}
 use Rattle.split.specs.Edges.{Pass, Edge}
 use Rattle.df_rules.specs.Places.{unitQ, unitP}
 
--- what the row and the QP are read from: a word, four numbers of motion and two references a unit
-pub record Maps : Type 0 where
-  pub words : List ℕ
+-- what lies over a picture beside its words, and no call changes: four numbers of motion, two references and a keep mark a unit
+pub record Over : Type 0 where
   pub motion : List ℤ
   pub refs : List ℤ
+  pub keep : List ℕ
+
+-- what the row, the QP and the marks are read from: the words, one a unit, and what lies over them
+pub record Maps : Type 0 where
+  pub words : List ℕ
+  pub over : Over
+
+-- a unit is kept where its mark is 1. The calls refuse a mark that is neither 0 nor 1
+abbrev pub keptAt : Maps → ℕ → Bool
+keptAt m k = eqb (getD (m .over .keep) k 0) 1
 
 abbrev pub motionAt : (motion refs : List ℤ) → ℕ → Motion
 motionAt m r k =
@@ -27,9 +38,12 @@ motionAt m r k =
       y1 = getD m (4 * k + 3) (pos 0);
     }
 
--- of the units q and p
-unfoldable pub rowAt : Maps → (q p : ℕ) → ℕ
-rowAt m q p = rowOf (getD (m .words) q 0) (getD (m .words) p 0) (motionAt (m .motion) (m .refs) q) (motionAt (m .motion) (m .refs) p)
+-- of the units q and p, by words, motion and references alone
+unfoldable pub rowBy : (words : List ℕ) → (motion refs : List ℤ) → (q p : ℕ) → ℕ
+rowBy words motion refs q p = rowOf (getD words q 0) (getD words p 0) (motionAt motion refs q) (motionAt motion refs p)
+
+abbrev pub rowAt : Maps → (q p : ℕ) → ℕ
+rowAt m q p = rowBy (m .words) (m .over .motion) (m .over .refs) q p
 
 abbrev pub qpAt : Maps → ℕ → ℕ
 qpAt m q = qpOf (getD (m .words) q 0)

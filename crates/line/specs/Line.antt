@@ -2,7 +2,7 @@
 -- clipped to 0..1023. What a strength of 0 means is said of a window.
 -- Assumes nothing: these are definitions.
 use Prim.Native.Nat.{ℕ}
-use mathlib.Core.Bool.{true, false}
+use mathlib.Core.Bool.{Bool, false, not}
 use lib.IntN.{ℤ, pos, negℤ, _+ℤ_, _-ℤ_, _*ℤ_}
 use lib.Signed.{quotZ}
 use Rattle.laws.specs.Clip.{maxZ, clipZ, absZ, withSign, sampleZ}
@@ -37,7 +37,7 @@ lineZ A B C D st =
 unfoldable pub lineOf : (a b c d st : ℕ) → Quad
 lineOf a b c d st = lineZ (pos a) (pos b) (pos c) (pos d) (pos st)
 
--- luma writes all four, chroma B and C only
-abbrev pub maskOf : Component → Mask
-maskOf Luma = record { a = true; b = true; c = true; d = true }
-maskOf Chroma = record { a = false; b = true; c = true; d = false }
+-- luma writes all four, chroma B and C only; and nothing on a kept side. A and B are P's, C and D are Q's; p and q: whether P is kept, and Q
+abbrev pub maskOf : Component → (p q : Bool) → Mask
+maskOf Luma p q = record { a = not p; b = not p; c = not q; d = not q }
+maskOf Chroma p q = record { a = false; b = not p; c = not q; d = false }

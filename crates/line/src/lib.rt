@@ -25,21 +25,21 @@ pub struct Mask {
     pub d: bool,
 }
 
-// Luma writes all four, chroma B and C only.
-pub fn mask_of(component: Component) -> Mask
-    ensures { λ r. ⌜ r ≡ maskOf component ⌝ }
+// Luma writes all four, chroma B and C only; and nothing on a kept side: A and B are P's, C and D are Q's.
+pub fn mask_of(component: Component, keep_p: bool, keep_q: bool) -> Mask
+    ensures { λ r. ⌜ r ≡ maskOf component «keep_p» «keep_q» ⌝ }
 {
     match component {
         Component::Luma => Mask {
-            a: true,
-            b: true,
-            c: true,
-            d: true,
+            a: !keep_p,
+            b: !keep_p,
+            c: !keep_q,
+            d: !keep_q,
         },
         Component::Chroma => Mask {
             a: false,
-            b: true,
-            c: true,
+            b: !keep_p,
+            c: !keep_q,
             d: false,
         },
     }
