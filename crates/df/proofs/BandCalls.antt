@@ -31,7 +31,7 @@ use Rattle.split.specs.Picture.{pictureWalk}
 use Rattle.strength.specs.Entries.{entriesOf}
 use Rattle.strength.proofs.Strengths.{luma-entry, u-entry, v-entry}
 use Rattle.df_check.proofs.Bands.{band-size, few-above, few-rows}
-use Rattle.df_check.proofs.Passed.{word-any}
+use Rattle.df_check.proofs.Passed.{word-any, mark-any}
 use Rattle.df_rules.specs.Filter.{Planes, inY, inU, inV, filterAll, finished}
 use Rattle.df_rules.specs.Frame.{Frame}
 use Rattle.df_rules.specs.Leaves.{Accepted}
@@ -130,7 +130,7 @@ module _ (j : band.Input) (fine : band.check j ≡ Done) (pos : 1 ≤ band.wide 
 
   -- the maps from the first row that is handed to the passes on
   abbrev m : Maps
-  m = record { words = band.checkedWords j; motion = drop (4 * (skip * w)) (j .motion); refs = drop (2 * (skip * w)) (j .refs) }
+  m = record { words = band.checkedWords j; over = record { motion = drop (4 * (skip * w)) (j .motion); refs = drop (2 * (skip * w)) (j .refs); keep = band.checkedMarks j } }
 
   lies : (d : Pass) (e : Edge) → List·Memᴰ e (list d) → Lies d w 0 (top + n) e
   lies d e i =
@@ -203,15 +203,19 @@ module _ (j : band.Input) (fine : band.check j ≡ Done) (pos : 1 ≤ band.wide 
   plane-whole k at p z e l same =
       ap (λ (x : ℕ). take x p ++ finished m (j .strengths) at k w (list vertical) (list horizontal) (drop x p)) e ∙ part-whole k at p (long-by k l) same
 
-  maps-same : length (j .words) ≡ (rowsAbove (j .band) + n) * w → length (j .motion) ≡ 4 * ((rowsAbove (j .band) + n) * w) → length (j .refs) ≡ 2 * ((rowsAbove (j .band) + n) * w) → mapsPart w skip (top + n) (band.mapsOf j) ≡ m
-  maps-same lw lm lr =
+  maps-same : length (j .words) ≡ (rowsAbove (j .band) + n) * w → length (j .motion) ≡ 4 * ((rowsAbove (j .band) + n) * w) → length (j .refs) ≡ 2 * ((rowsAbove (j .band) + n) * w)
+      → length (j .keep) ≡ (rowsAbove (j .band) + n) * w → mapsPart w skip (top + n) (band.mapsOf j) ≡ m
+  maps-same lw lm lr lk =
       let e = add-mul skip (top + n) w ∙ refl in
       let f : (skip + (top + n)) * w ≡ (rowsAbove (j .band) + n) * w = ap (λ (z : ℕ). z * w) rows-sum in
       let one : 1 * (skip * w) ≡ skip * w = omega arith in
-      let a = end-of (1 * (skip * w)) (1 * ((top + n) * w)) (j .words) (omega arith) ∙ ap (λ (k : ℕ). drop k (j .words)) one in
+      let part : (l : List ℕ) → length l ≡ (rowsAbove (j .band) + n) * w → mapPart 1 w skip (top + n) l ≡ drop (skip * w) l =
+      λ l p. end-of (1 * (skip * w)) (1 * ((top + n) * w)) l (omega arith) ∙ ap (λ (k : ℕ). drop k l) one in
+      let a = part (j .words) lw in
       let b = end-of (4 * (skip * w)) (4 * ((top + n) * w)) (j .motion) (omega arith) in
       let c = end-of (2 * (skip * w)) (2 * ((top + n) * w)) (j .refs) (omega arith) in
-      λ i. record { words = a i; motion = b i; refs = c i }
+      let d = part (j .keep) lk in
+      λ i. record { words = a i; over = record { motion = b i; refs = c i; keep = d i } }
 
   -- a plane of colour, by the format
   colour-whole : (g : Format) (at : ℕ → ℕ) (p : List ℕ) (z : ℕ) → z ≡ inFormat g (placesOf Chroma w skip) → length p ≡ inFormat g (placesOf Chroma w (rowsAbove (j .band) + n))
@@ -230,7 +234,7 @@ module _ (j : band.Input) (fine : band.check j ≡ Done) (pos : 1 ≤ band.wide 
       (record { y = drop a (j .y); u = drop c (j .u); v = drop c (j .v) }) (record { y = drop a y; u = drop c u; v = drop c v }) (drop (skip * w) words) ver hor
       → (record { reading = record { number = 0; vertical = ver; horizontal = hor; next = j .next + 1 }; y = y; u = u; v = v; words = words }) ≡ band.outcome j
   band-done a c ea ec y u v words ver hor ty tu tv tw b =
-      let same = maps-same (t .long-words) (t .long-motion) (t .long-refs) in
+      let same = maps-same (t .long-words) (t .long-motion) (t .long-refs) (t .long-keep) in
       let done = parts-done _ _ _ _ _ b in
       let split : (a : ℕ) (l : List ℕ) → l ≡ take a l ++ drop a l = λ a l. sym (take-append-drop a l) in
       let ey = split a y ∙ ap₂ _++_ ty (ap (λ (q : Planes). q .y) done) ∙ plane-whole Luma (band.qpY j) (j .y) a ea (t .long-y) same in
@@ -274,6 +278,7 @@ module _ (j : band.Input) (fine : band.check j ≡ Done) (pos : 1 ≤ band.wide 
     pub words : skip * w + (top + n) * w ≡ length (j .words)
     pub motion : 4 * (skip * w) + 4 * ((top + n) * w) ≡ length (j .motion)
     pub refs : 2 * (skip * w) + 2 * ((top + n) * w) ≡ length (j .refs)
+    pub keep : skip * w + (top + n) * w ≡ length (j .keep)
     pub few : skip * w ≤ 16384
     pub high : top + n ≤ 17
 
@@ -291,6 +296,7 @@ module _ (j : band.Input) (fine : band.check j ≡ Done) (pos : 1 ≤ band.wide 
         words = units ∙ sym (t .long-words);
         motion = omega (arith, units, t .long-motion);
         refs = omega (arith, units, t .long-refs);
+        keep = units ∙ sym (t .long-keep);
         few = mul-le-mul {n₁ = skip} {m₁ = w} {n₂ = 16} {m₂ = 1024} (omega arith) wide;
         high = omega (arith, few-rows (j .h / 4) (j .band), near-few (j .band));
       }
@@ -301,7 +307,7 @@ module _ (j : band.Input) (fine : band.check j ≡ Done) (pos : 1 ≤ band.wide 
 
   pub framed : (es : List ℕ) → length es ≡ 624
       → Frame f w (top + n) (drop (16 * (skip * w)) (j .y)) (drop (inFormat f (4 * (skip * w))) (j .u)) (drop (inFormat f (4 * (skip * w))) (j .v)) (drop (skip * w) (j .words))
-      (drop (4 * (skip * w)) (j .motion)) (drop (2 * (skip * w)) (j .refs)) es
+      (m .over) es
   framed es e =
       let k = skipped in
       let small : (c : Component) (a : ℕ) (p : List ℕ) → a ≡ placesOf c w skip → samplesOk (drop (placesOf c w skip) p) ≡ true → Samples (drop a p) =
@@ -315,8 +321,10 @@ module _ (j : band.Input) (fine : band.check j ≡ Done) (pos : 1 ≤ band.wide 
         long-words = left-over _ _ (j .words) (k .words);
         long-motion = left-over _ _ (j .motion) (k .motion);
         long-refs = left-over _ _ (j .refs) (k .refs);
+        long-keep = left-over _ _ (j .keep) (k .keep);
         long-entries = e;
         qps = few;
+        marks = mark-any (band.checkedMarks j) (t .marks);
         all-y = small Luma (16 * (skip * w)) (j .y) (luma-rows skip w) (t .y);
         all-u = colour-any f (4 * (skip * w)) _ _ (j .u) (t .long-u) (chroma-rows skip w) (t .u);
         all-v = colour-any f (4 * (skip * w)) _ _ (j .v) (t .long-v) (chroma-rows skip w) (t .v);

@@ -45,7 +45,7 @@ module _ (i : Input) (fine : check i ≡ Fine) where
 
   -- ---- the picture, by any entries
 
-  pub framed : (t : List ℕ) → length t ≡ 624 → Frame (i .settings .format) (i .w / 4) (i .h / 4) (i .y) (i .u) (i .v) (i .words) (i .motion) (i .refs) t
+  pub framed : (t : List ℕ) → length t ≡ 624 → Frame (i .settings .format) (i .w / 4) (i .h / 4) (i .y) (i .u) (i .v) (i .words) (mapsOf i .over) t
   framed t e =
       let n = told .lengths in
       let z = size in
@@ -63,8 +63,10 @@ module _ (i : Input) (fine : check i ≡ Fine) where
         long-words = n .words ∙ units;
         long-motion = n .motion ∙ ap (λ (k : ℕ). 4 * k) units;
         long-refs = n .refs ∙ ap (λ (k : ℕ). 2 * k) units;
+        long-keep = n .keep ∙ units;
         long-entries = e;
         qps = told .qp;
+        marks = told .mark;
         all-y = told .y;
         all-u = told .u;
         all-v = told .v;

@@ -45,7 +45,7 @@ use Rattle.def.specs.declared.Answer.{Answer}
 use Rattle.def.specs.declared.Answer.the-variants.{Done, Refused}
 use Rattle.def.proofs.Answers.{number-some}
 use Rattle.def.proofs.Ladders.{passes}
-use Rattle.df_check.specs.Checks.{settingsOk, qpsOk, planesOk}
+use Rattle.df_check.specs.Checks.{settingsOk, keepOk, qpsOk, planesOk}
 use Rattle.samples.specs.Samples.{samplesOk}
 use Rattle.samples.proofs.Samples.{sample-at, samples-pass}
 use Rattle.laws.proofs.Calls.{all-at}
@@ -83,7 +83,9 @@ pub record Told (j : band.Input) : Type 0 where
   pub long-splits : length (j .splits) ≡ 1024 * rootCount (j .w) (4 * band.rows j)
   pub long-motion : length (j .motion) ≡ 4 * ((band.top j + band.rows j) * band.wide j)
   pub long-refs : length (j .refs) ≡ 2 * ((band.top j + band.rows j) * band.wide j)
+  pub long-keep : length (j .keep) ≡ (band.top j + band.rows j) * band.wide j
   pub walk : pictureWalk (j .splits) (band.wide j) (band.rows j) .answer ≡ Done
+  pub marks : keepOk (band.checkedMarks j) ≡ true
   pub qps : qpsOk (band.checkedWords j) ≡ true
   pub y : samplesOk (band.checkedPlane j Luma (j .y)) ≡ true
   pub u : samplesOk (band.checkedPlane j Chroma (j .u)) ≡ true
@@ -118,7 +120,9 @@ told j e =
       long-splits = n .splits;
       long-motion = n .motion ∙ ap (λ (k : ℕ). 4 * k) (unit-places (j .w) r whole);
       long-refs = n .refs ∙ ap (λ (k : ℕ). 2 * k) (unit-places (j .w) r whole);
+      long-keep = n .keep ∙ unit-places (j .w) r whole;
       walk = ap (λ (k : ℕ). pictureWalk (j .splits) (band.wide j) k .answer) (sym units) ∙ rest .walk;
+      marks = ap (λ (k : ℕ). keepOk (drop k (j .keep))) (sym (unit-places (j .w) (band.unchecked j) whole)) ∙ rest .marks;
       qps = ap (λ (k : ℕ). qpsOk (drop k (j .words))) (sym (unit-places (j .w) (band.unchecked j) whole)) ∙ rest .qps;
       y = small Luma (j .y) _ (luma-places (j .w) (band.unchecked j) whole) (rest .y);
       u = colour-small f _ _ (chromaLength (j .w) (4 * r)) (j .u) (chroma-places (j .w) (band.unchecked j) whole) (n .u) (rest .u);
@@ -330,7 +334,7 @@ module _ (i : Input) (sides : sizeOk (i .w) (i .h) ≡ true) (long : length (i .
       let W = i .w / 4 in
       let c = componentOf x in
       let same = part-alikes (marked-alikes i sides k (stateAfter i k .words) (words-marked k (omega arith))) (1 * (rowsBefore k * W)) (1 * (lent i k * W)) in
-      ap (λ (q : List ℕ). planeBack i k c q p) (finished-alike (j .motion) (j .refs) same (i .strengths) (mappedAs x i) c W (band.passEdges vertical j) (band.passEdges horizontal j) (planePart i k c p))
+      ap (λ (q : List ℕ). planeBack i k c q p) (finished-alike (band.mapsOf j .over) same (i .strengths) (mappedAs x i) c W (band.passEdges vertical j) (band.passEdges horizontal j) (planePart i k c p))
 
   -- a band's call, in one plane
   after-one : (k : ℕ) → k < n → (x : Plane) → let s = stateAfter i k in
@@ -395,6 +399,9 @@ module _ (i : Input) (sides : sizeOk (i .w) (i .h) ≡ true) (lengths : checks.l
   pub long-words : length (i .words) ≡ i .h / 4 * (i .w / 4)
   long-words = lengths-of .words ∙ mul-comm (i .w / 4) (i .h / 4)
 
+  long-keep : length (i .keep) ≡ i .h / 4 * (i .w / 4)
+  long-keep = lengths-of .keep ∙ mul-comm (i .w / 4) (i .h / 4)
+
 -- ---- a picture all of whose bands were accepted
 
 module _ (i : Input) (sides : sizeOk (i .w) (i .h) ≡ true) (lengths : checks.lengthsOk (i .settings .format) (i .w) (i .h) (i .h) (checks.lengthsOf (checked i)) ≡ true) (acc : Accepted i) where
@@ -453,6 +460,16 @@ module _ (i : Input) (sides : sizeOk (i .w) (i .h) ≡ true) (lengths : checks.l
       let same : getD q j 0 ≡ getD p j 0 = calls-below (mapsOf i) (i .strengths) at c short (i .splits) W rows (pos i sides) walked k (omega arith) p held j (omega (arith, places-step c W (16 * k))) in
       omega (arith, d .is, same))
 
+  marks-fine : keepOk (i .keep) ≡ true
+  unfolding keepOk
+  marks-fine = scan-pass _ (length (i .keep)) (λ j e.
+      let W = i .w / 4 in
+      let long = long-keep i sides lengths in
+      let b = in-band W (i .h / 4) j (pos i sides) (omega arith) in
+      let k = b .k in
+      let d = in-checked W (i .h / 4) (i .keep) long j b (1 * (rowsBefore k * W)) (1 * (lent i k * W)) ((rowsAbove k - 1) * W) (omega arith) (omega arith) refl in
+      ap (λ (x : ℕ). leb x 1) (sym (d .is)) ∙ scan-at _ _ (d .q) (d .inside) (each-told k (b .less) .marks))
+
   qps-fine : qpsOk (i .words) ≡ true
   unfolding qpsOk
   qps-fine = scan-pass _ (length (i .words)) (λ j e.
@@ -481,6 +498,7 @@ module _ (i : Input) (sides : sizeOk (i .w) (i .h) ≡ true) (lengths : checks.l
         lengths,
         each-told 0 some-band .settings,
         walks-joined (i .splits) (i .w / 4) (i .h / 4) (pos i sides) walked,
+        marks-fine,
         qps-fine,
         plane-fine luma-plane,
         plane-fine u-plane,

@@ -1,18 +1,19 @@
 -- The lanes of a unit's edge.
 --     line-inside    a line lies no further than the last
 --     gather-none, gather-more    lines of a plane become lanes, one after the other
---     luma-done, chroma-done    a unit's edge by its lanes, filtered and written back
+--     luma-done, chroma-done    a unit's edge by its lanes, filtered and written back; kept-done    the same by any mask
 -- Assumes nothing.
 use Prim.Native.Nat.{ℕ, zero, suc, _+_, _-_, _*_, _≤_, _<_}
 use mathlib.Core.Path.{_≡_, refl, sym, ap, _∙_}
+use mathlib.Core.Bool.{false}
 use mathlib.Core.List.{List, [], _∷_}
-use Rattle.def.specs.declared.Component.{Component}
 use Rattle.def.specs.declared.Component.the-variants.{Luma, Chroma}
 use Rattle.line.specs.Line.{maskOf}
 use native.Mathlib.Decide.{decLt}
 use native.Mathlib.Nat.{mul-le-mul-right}
 use native.Mathlib.Omega.{arith}
 use lib.ListN.{length, getD}
+use Rattle.line.specs.declared.Mask.{Mask}
 use Rattle.line.specs.declared.Quad.{Quad}
 use Rattle.lanes.specs.Lanes.{laneOf, heldLine, lanesOf}
 use Rattle.lanes.proofs.ByLane.{laid, own-lane, other-lane, lane-of, on-samples}
@@ -57,13 +58,13 @@ became p st first n xs t sts r g h held strong e k l =
 -- ---- a unit's edge
 
 -- and were written back
-written : (c : Component) (p : Place) (st first n : ℕ) (xs xs₁ t sts r : List ℕ) → Lying p n xs → first + n ≤ 8
+written : (m : Mask) (p : Place) (st first n : ℕ) (xs xs₁ t sts r : List ℕ) → Lying p n xs → first + n ≤ 8
     → ((k : ℕ) → k < n → laneOf t (first + k) ≡ samplesAt (p .step) (p .at + k * p .next) xs)
     → ((k : ℕ) → k < n → getD sts (first + k) 0 ≡ st) → r ≡ lanesOf t sts
-    → xs₁ ≡ putLines (maskOf c) (λ (k : ℕ). laneOf r (first + k)) (p .step) (p .next) (p .at) n xs
-    → xs₁ ≡ windowAt (maskOf c) st (p .step) (p .next) (p .at) n xs
-written c p st first n xs xs₁ t sts r g h held strong e w =
-    w ∙ window-put (maskOf c) (λ (k : ℕ). laneOf r (first + k)) st (p .step) (p .next) (p .at) n xs (g .apart) (g .all) (became p st first n xs t sts r g h held strong e)
+    → xs₁ ≡ putLines m (λ (k : ℕ). laneOf r (first + k)) (p .step) (p .next) (p .at) n xs
+    → xs₁ ≡ windowAt m st (p .step) (p .next) (p .at) n xs
+written m p st first n xs xs₁ t sts r g h held strong e w =
+    w ∙ window-put m (λ (k : ℕ). laneOf r (first + k)) st (p .step) (p .next) (p .at) n xs (g .apart) (g .all) (became p st first n xs t sts r g h held strong e)
 
 -- the strengths of the lanes: luma's, and those of U and V
 abbrev lumaSts : ℕ → List ℕ
@@ -89,15 +90,19 @@ each-v su sv zero h = refl
 each-v su sv (suc zero) h = refl
 each-v su sv (suc (suc k)) h = absurd (omega arith)
 
+pub kept-done : (m : Mask) (p : Place) (st n : ℕ) (o t r xs xs₁ : List ℕ) → n ≤ 4 → Lying p n xs → Gathered p xs o 0 n t → r ≡ lanesOf t (lumaSts st)
+    → xs₁ ≡ putLines m (λ (k : ℕ). laneOf r (0 + k)) (p .step) (p .next) (p .at) n xs → xs₁ ≡ windowAt m st (p .step) (p .next) (p .at) n xs
+kept-done m p st n o t r xs xs₁ h l g e w = written m p st 0 n xs xs₁ t (lumaSts st) r l (omega arith) (g .lines) (λ k i. each-y st k (omega arith)) e w
+
 pub luma-done : (p : Place) (st : ℕ) (o t r y y₁ : List ℕ) → Lying p 4 y → Gathered p y o 0 4 t → r ≡ lanesOf t (lumaSts st)
-    → y₁ ≡ putLines (maskOf Luma) (λ (k : ℕ). laneOf r (0 + k)) (p .step) (p .next) (p .at) 4 y → y₁ ≡ windowAt (maskOf Luma) st (p .step) (p .next) (p .at) 4 y
-luma-done p st o t r y y₁ l g e w = written Luma p st 0 4 y y₁ t (lumaSts st) r l (omega arith) (g .lines) (each-y st) e w
+    → y₁ ≡ putLines (maskOf Luma false false) (λ (k : ℕ). laneOf r (0 + k)) (p .step) (p .next) (p .at) 4 y → y₁ ≡ windowAt (maskOf Luma false false) st (p .step) (p .next) (p .at) 4 y
+luma-done p st o t r y y₁ l g e w = written (maskOf Luma false false) p st 0 4 y y₁ t (lumaSts st) r l (omega arith) (g .lines) (each-y st) e w
 
 pub chroma-done : (p : Place) (su sv : ℕ) (o tu t r u v u₁ v₁ : List ℕ) → Lying p 2 u → Lying p 2 v → Gathered p u o 0 2 tu → Gathered p v tu 2 2 t → r ≡ lanesOf t (chromaSts su sv)
-    → u₁ ≡ putLines (maskOf Chroma) (λ (k : ℕ). laneOf r (0 + k)) (p .step) (p .next) (p .at) 2 u
-    → v₁ ≡ putLines (maskOf Chroma) (λ (k : ℕ). laneOf r (2 + k)) (p .step) (p .next) (p .at) 2 v
-    → (u₁ ≡ windowAt (maskOf Chroma) su (p .step) (p .next) (p .at) 2 u) × (v₁ ≡ windowAt (maskOf Chroma) sv (p .step) (p .next) (p .at) 2 v)
+    → u₁ ≡ putLines (maskOf Chroma false false) (λ (k : ℕ). laneOf r (0 + k)) (p .step) (p .next) (p .at) 2 u
+    → v₁ ≡ putLines (maskOf Chroma false false) (λ (k : ℕ). laneOf r (2 + k)) (p .step) (p .next) (p .at) 2 v
+    → (u₁ ≡ windowAt (maskOf Chroma false false) su (p .step) (p .next) (p .at) 2 u) × (v₁ ≡ windowAt (maskOf Chroma false false) sv (p .step) (p .next) (p .at) 2 v)
 chroma-done p su sv o tu t r u v u₁ v₁ lu lv gu gv e wu wv = (
-  written Chroma p su 0 2 u u₁ t (chromaSts su sv) r lu (omega arith) (λ k h. gv .before (0 + k) (omega arith) ∙ gu .lines k h) (each-u su sv) e wu,
-  written Chroma p sv 2 2 v v₁ t (chromaSts su sv) r lv (omega arith) (gv .lines) (each-v su sv) e wv,
+  written (maskOf Chroma false false) p su 0 2 u u₁ t (chromaSts su sv) r lu (omega arith) (λ k h. gv .before (0 + k) (omega arith) ∙ gu .lines k h) (each-u su sv) e wu,
+  written (maskOf Chroma false false) p sv 2 2 v v₁ t (chromaSts su sv) r lv (omega arith) (gv .lines) (each-v su sv) e wv,
 )

@@ -15,3 +15,4 @@ pub mod Plans
 pub mod Room
 pub mod Rows
 pub mod Turns
+pub mod Unmarked

@@ -51,6 +51,7 @@ module _ {i j : Input} (s : SameLuma i j) where
         splits = s .splits t;
         motion = s .motion t;
         refs = s .refs t;
+        keep = s .keep t;
         table0 = [];
         table1 = [];
         strengths = s .strengths t;
@@ -104,7 +105,7 @@ module _ (i : Input) (ok : check i ≡ Done) where
   unfolding lengthsOk
   grey-lengths =
       let n = told .lengths in
-      rw (eq-eqb _ _ (n .y), eq-eqb _ _ (n .words), eq-eqb _ _ (n .splits), eq-eqb _ _ (n .motion), eq-eqb _ _ (n .refs), eq-eqb _ _ (n .strengths)) refl
+      rw (eq-eqb _ _ (n .y), eq-eqb _ _ (n .words), eq-eqb _ _ (n .splits), eq-eqb _ _ (n .motion), eq-eqb _ _ (n .refs), eq-eqb _ _ (n .keep), eq-eqb _ _ (n .strengths)) refl
 
   grey-settings : settingsOk (withoutColour i .settings) ≡ true
   unfolding settingsOk offsetOk
@@ -115,8 +116,8 @@ module _ (i : Input) (ok : check i ≡ Done) where
 
   pub stays-accepted : check (withoutColour i) ≡ Done
   unfolding checks.checkOf checks.fromLengths planesOk
-  stays-accepted = rw (size i ok, grey-lengths, grey-settings, left .walk, left .qps, left .y, no-sample) refl
+  stays-accepted = rw (size i ok, grey-lengths, grey-settings, left .walk, left .marks, left .qps, left .y, no-sample) refl
 
 -- a grey picture agrees in luma with the picture in colour
 pub grey-luma : (i : Input) → SameLuma i (withoutColour i)
-grey-luma i = record { w = refl; h = refl; y = refl; words = refl; splits = refl; motion = refl; refs = refl; strengths = refl; limit = refl }
+grey-luma i = record { w = refl; h = refl; y = refl; words = refl; splits = refl; motion = refl; refs = refl; keep = refl; strengths = refl; limit = refl }

@@ -60,7 +60,7 @@ module _ (i : Input) (fine : check i ≡ Done) where
   moves : (x : Plane) → MovesIn i x (passEdges vertical i) (passEdges horizontal i)
   moves x = both-move (mapsOf i) (i .strengths) (mappedAs x i) (componentOf x) (i .w / 4) (passEdges vertical i) (passEdges horizontal i) (once vertical) (once horizontal) (planeIn x i) (samples x)
 
-  after : (x : Plane) → planeAfter x (outcome i) ≡ deblocked i (componentOf x) (mappedAs x i) (planeIn x i)
+  pub after : (x : Plane) → planeAfter x (outcome i) ≡ deblocked i (componentOf x) (mappedAs x i) (planeIn x i)
   after x = ap (planeAfter x) (is-done i fine) ∙ plane-done i x
 
   pub moved : Moved i
@@ -68,7 +68,8 @@ module _ (i : Input) (fine : check i ≡ Done) where
       record {
         passes = moves;
         most = λ x k. subst (λ (p : List ℕ). gapN (getD p k 0) (getD (planeIn x i) k 0) ≤ 8 * largest (i .strengths)) (sym (after x)) (moves x .both k);
-        still = λ x k u l. ap (λ (p : List ℕ). getD p k 0) (after x) ∙ moves x .kept k u l;
+        still = λ x k u l. ap (λ (p : List ℕ). getD p k 0) (after x) ∙ moves x .still k u l;
+        kept = λ x k g. ap (λ (p : List ℕ). getD p k 0) (after x) ∙ moves x .kept k g;
       }
 
   -- ---- band by band
@@ -88,5 +89,6 @@ module _ (i : Input) (fine : check i ≡ Done) where
         record {
           passes = moves-first;
           most = λ x k. subst (λ (p : List ℕ). gapN (getD p k 0) (getD (planeIn x i) k 0) ≤ 8 * largest (i .strengths)) (sym (e x)) (moves-first x .both k);
-          still = λ x k u l. ap (λ (p : List ℕ). getD p k 0) (e x) ∙ moves-first x .kept k u l;
+          still = λ x k u l. ap (λ (p : List ℕ). getD p k 0) (e x) ∙ moves-first x .still k u l;
+          kept = λ x k g. ap (λ (p : List ℕ). getD p k 0) (e x) ∙ moves-first x .kept k g;
         }

@@ -32,10 +32,10 @@ use Rattle.split.specs.Picture.{across, pictureWalk}
 use Rattle.df_check.specs.BandCheck as band-check
 use Rattle.df_check.specs.BandCheck.{bandOk}
 use Rattle.df_check.specs.Checks as checks
-use Rattle.df_check.specs.Checks.{colourLength, lengthsOk, settingsOk, qpsOk, planesOk}
+use Rattle.df_check.specs.Checks.{colourLength, lengthsOk, settingsOk, keepOk, qpsOk, planesOk}
 use Rattle.df_check.specs.Rows.{bandRows, rowsAbove, rowsBefore}
 use Rattle.df_check.proofs.Formats.{none-before}
-use Rattle.df_check.proofs.Passed.{LengthsTold, lengths-told, Rest, rest-passed, word-any}
+use Rattle.df_check.proofs.Passed.{LengthsTold, lengths-told, Rest, rest-passed, word-any, mark-any}
 use Rattle.df_rules.specs.Window.{Samples}
 use Rattle.bands_rules.specs.Bands.{mapPart, bandBytes, placesOf, calledAll}
 use Rattle.bands_rules.proofs.Called.{above-before, calls-long, calls-small}
@@ -120,6 +120,9 @@ module _ (i : Input) (ok : check i ≡ Done) where
   abbrev pub walked : (k : ℕ) → k < bands i → BandDone (i .splits) W rows (pos i size) k
   walked = walks-apart (i .splits) W rows (pos i size) (rest .walk)
 
+  marks-ok : (k : ℕ) → getD (i .keep) k 0 ≤ 1
+  marks-ok = mark-any (i .keep) (subst (λ (n : ℕ). keepOk (drop n (i .keep)) ≡ true) (mul-zero (i .w / 4)) (rest .marks))
+
   words-fine : (k : ℕ) → qpOf (getD (i .words) k 0) ≤ 51
   words-fine = word-any (i .words) (subst (λ (n : ℕ). qpsOk (drop n (i .words)) ≡ true) (mul-zero (i .w / 4)) (rest .qps))
 
@@ -168,6 +171,10 @@ module _ (i : Input) (ok : check i ≡ Done) where
         (calls-small (mapsOf i) (i .strengths) (mappedAs x i) c short (i .splits) W rows (pos i size) walked n few (planeIn x i) (held-plane i size lengths x) (samples-fine x)) in
         samples-pass _ (λ k h. part-all (λ (v : ℕ). v ≤ 1023) (planeOf x (stateAfter i n)) small a (placesOf c W (lent i n)) (placesOf c W (rowsBefore n)) k h)
 
+    marks-small : (a : ℕ) → keepOk (drop a (j .keep)) ≡ true
+    unfolding keepOk
+    marks-small a = scan-pass _ _ (λ k h. le-leb _ 1 (part-all (λ (v : ℕ). v ≤ 1) (i .keep) marks-ok a (1 * (lent i n * W)) (1 * (rowsBefore n * W)) k h))
+
     words-small : (a : ℕ) → qpsOk (drop a (j .words)) ≡ true
     unfolding qpsOk
     words-small a =
@@ -190,6 +197,7 @@ module _ (i : Input) (ok : check i ≡ Done) where
         let t = rest .lengths in
         let units = unit-places (i .w) (lent i n) four in
         let one : length (i .words) ≡ 1 * (rows * W) = words-long ∙ omega arith in
+        let keep : length (j .keep) ≡ unitCount (i .w) (4 * lent i n) = map-long 1 (i .keep) (t .keep ∙ mul-comm W rows ∙ omega arith) ∙ omega (arith, units) in
         let words : length (j .words) ≡ unitCount (i .w) (4 * lent i n) = map-long 1 (stateAfter i n .words) (marked .long ∙ one) ∙ omega (arith, units) in
         rw (
           eq-eqb _ _ (plane-long luma-plane ∙ sym (luma-places (i .w) (lent i n) four)),
@@ -199,6 +207,7 @@ module _ (i : Input) (ok : check i ≡ Done) where
           eq-eqb _ _ splits-long,
           eq-eqb _ _ (map-long 4 (i .motion) (t .motion ∙ ap (λ (z : ℕ). 4 * z) (mul-comm W rows)) ∙ ap (λ (z : ℕ). 4 * z) (sym units)),
           eq-eqb _ _ (map-long 2 (i .refs) (t .refs ∙ ap (λ (z : ℕ). 2 * z) (mul-comm W rows)) ∙ ap (λ (z : ℕ). 2 * z) (sym units)),
+          eq-eqb _ _ keep,
           eq-eqb _ _ (t .table0),
           eq-eqb _ _ (t .table1),
           eq-eqb _ _ (t .strengths),
@@ -222,6 +231,7 @@ module _ (i : Input) (ok : check i ≡ Done) where
           lengths-fine,
           rest .settings,
           walk-fine,
+          marks-small (unitCount (i .w) (4 * (rowsAbove n - 1))),
           words-small (unitCount (i .w) (4 * (rowsAbove n - 1))),
           plane-small luma-plane (lumaLength (i .w) (4 * (rowsAbove n - 1))),
           plane-small u-plane (colourLength (i .settings .format) (i .w) (4 * (rowsAbove n - 1))),

@@ -1,6 +1,6 @@
 -- Plans: a list of edges read back, places that are its strengths, and that filtering by a plan is filtering its edges.
 --     read-back, read-units    a written list holds its edges, at their luma samples
---     plan-filters    filtering a plane by a plan is filtering its edges there, where its places are those of the maps
+--     plan-filters    filtering a plane by a plan is filtering its edges there, where its places and marks are those of the maps
 --     plan-stays    a plane stays a plane
 --     plan-empty    and one without samples stays so
 -- Assumes nothing.
@@ -11,25 +11,27 @@ use mathlib.Core.List.{List, [], _∷_, _++_, List·Memᴰ, List·Memᴰ·head, 
 use native.Mathlib.Nat.{zero-add, le-of-suc-le-suc, not-suc-le-zero, mul-le-mul-right}
 use native.Mathlib.Numerals.{add-one}
 use native.Mathlib.Omega.{arith}
-use lib.IntN.{ℤ}
+use lib.Dec.{eqb}
 use lib.ListN.{length, getD, take, List·getD-append}
 use lib.Seq.{sets, sets-eq, length-sets, take-suc, take-all}
 use Rattle.def.specs.declared.Component.{Component}
 use Rattle.def.specs.declared.Format.{Format}
+use Rattle.line.specs.declared.Mask.{Mask}
+use Rattle.line.specs.Line.{maskOf}
 use Rattle.laws.specs.Orders.{run, each}
 use Rattle.laws.proofs.Orders.{run-append}
 use Rattle.split.specs.Edges.{Pass, vertical, horizontal, Edge, edge, edgeAt, edgeNumbers}
 use Rattle.split.specs.Rows.{crossOf, alongOf}
 use Rattle.split.proofs.Demand3.{edges-twice}
-use Rattle.df_rules.specs.Filter.{window, filtered}
-use Rattle.df_rules.specs.Frame.{Frame, Unit, AtUnit}
+use Rattle.df_rules.specs.Filter.{maskAt, window, filtered}
+use Rattle.df_rules.specs.Frame.{Frame, Unit, Marked, AtUnit}
 use Rattle.df_rules.specs.Places.{stepAcross, unitQ, unitP}
-use Rattle.df_rules.specs.Strength.{Maps, rowAt, qpAt, strengthOf, strength}
-use Rattle.df_rules.proofs.Edges.{Spot, spot, unit-q, unit-p, p-before}
+use Rattle.df_rules.specs.Strength.{Over, Maps, rowAt, qpAt, strengthOf, strength}
+use Rattle.df_rules.proofs.Edges.{Spot, spot, unit-of, mark-of, unit-q, unit-p, p-before}
 use Rattle.df_rules.proofs.Planes.{window-long, window-small, no-samples}
 use Rattle.df_rules.proofs.Strengths.{row-few}
 use Rattle.bands_rules.proofs.Lists.{Lies}
-use Rattle.df.specs.Plan.{edgeFrom, edgesFrom, placeAt, Placed, filterIn, Known, PlaneOf, At}
+use Rattle.df.specs.Plan.{edgeFrom, edgesFrom, placeAt, marksAt, maskBy, Planned, filterIn, Known, PlaneOf, At}
 use Rattle.edges.specs.Put.{Put}
 
 -- ---- a list read back
@@ -96,13 +98,29 @@ module _ (l : List Edge) (few : length l ≤ 256) {out list : List ℕ} {r : ℕ
 
 -- ---- an edge's units lie in the maps
 
-pub known : (d : Pass) {format : Format} {w h : ℕ} {y u v words : List ℕ} {motion refs : List ℤ} {t : List ℕ} (a b : ℕ) → Frame format w h y u v words motion refs t → At d w h a b → Known d w words motion refs a b
+pub known : (d : Pass) {format : Format} {w h : ℕ} {y u v words : List ℕ} {over : Over} {t : List ℕ} (a b : ℕ) → Frame format w h y u v words over t → At d w h a b → Known d w words over a b
 known vertical {w} {h} a b f g =
     let k = spot vertical w h a b (f .wide) (f .high) g in
-    record { wide = f .wide; few-x = k .few-x; few-y = k .few-z; before = p-before w h vertical (a / 4) (b / 4) (k .inner); q = unit-q w h f vertical (a / 4) (b / 4) (k .across) (k .along); p = unit-p w h f vertical (a / 4) (b / 4) (k .across) (k .along) }
+    record {
+      few-x = k .few-x;
+      few-y = k .few-z;
+      before = p-before w h vertical (a / 4) (b / 4) (k .inner);
+      q = unit-q w h _ (unit-of w h f) vertical (a / 4) (b / 4) (k .across) (k .along);
+      p = unit-p w h _ (unit-of w h f) vertical (a / 4) (b / 4) (k .across) (k .along);
+      q-mark = unit-q w h _ (mark-of w h f) vertical (a / 4) (b / 4) (k .across) (k .along);
+      p-mark = unit-p w h _ (mark-of w h f) vertical (a / 4) (b / 4) (k .across) (k .along);
+    }
 known horizontal {w} {h} a b f g =
     let k = spot horizontal w h b a (f .wide) (f .high) g in
-    record { wide = f .wide; few-x = k .few-z; few-y = k .few-x; before = p-before w h horizontal (b / 4) (a / 4) (k .inner); q = unit-q w h f horizontal (b / 4) (a / 4) (k .across) (k .along); p = unit-p w h f horizontal (b / 4) (a / 4) (k .across) (k .along) }
+    record {
+      few-x = k .few-z;
+      few-y = k .few-x;
+      before = p-before w h horizontal (b / 4) (a / 4) (k .inner);
+      q = unit-q w h _ (unit-of w h f) horizontal (b / 4) (a / 4) (k .across) (k .along);
+      p = unit-p w h _ (unit-of w h f) horizontal (b / 4) (a / 4) (k .across) (k .along);
+      q-mark = unit-q w h _ (mark-of w h f) horizontal (b / 4) (a / 4) (k .across) (k .along);
+      p-mark = unit-p w h _ (mark-of w h f) horizontal (b / 4) (a / 4) (k .across) (k .along);
+    }
 
 -- a place is one of 208
 pub place-few : (m : Maps) (d : Pass) (w : ℕ) (e : Edge) → qpAt m (unitQ w e) ≤ 51 → placeAt m d w e ≤ 207
@@ -113,6 +131,13 @@ pub at-cross : (d : Pass) (x y : ℕ) → edgeAt d (crossOf d (edge x y) / 4) (a
 at-cross vertical x y = refl
 at-cross horizontal x y = refl
 
+-- the mask by an edge's marks is that by its units
+mask-given : (m : Maps) → ((k : ℕ) → getD (m .over .keep) k 0 ≤ 1) → (c : Component) (d : Pass) (w : ℕ) (e : Edge) (k : ℕ) → k ≡ marksAt m d w e → maskBy c k ≡ maskAt m d c w e
+mask-given m few c d w e k g =
+    let p : k % 2 ≡ getD (m .over .keep) (unitP d w e) 0 = omega (arith, g, few (unitP d w e)) in
+    let q : k / 2 ≡ getD (m .over .keep) (unitQ w e) 0 = omega (arith, g, few (unitP d w e)) in
+    λ i. maskOf c (eqb (p i) 1) (eqb (q i) 1)
+
 -- ---- a plane, filtered by a plan
 
 module _ (t : List ℕ) (first : ℕ) (c : Component) (d : Pass) (w : ℕ) where
@@ -122,45 +147,52 @@ module _ (t : List ℕ) (first : ℕ) (c : Component) (d : Pass) (w : ℕ) where
   strong m at f e k q = ap (λ (j : ℕ). 4 * getD t j 0) (ap (λ (j : ℕ). first + j) q ∙ f _ _)
 
   -- so filtering by a plan is filtering its edges
-  pub plan-filters : (m : Maps) (at : ℕ → ℕ) → ((r q : ℕ) → first + (r + q) ≡ r + at q) → (l places : List ℕ) (n : ℕ) (xs : List ℕ) → Placed m d w l n places
-      → filterIn t first c d w l places n xs ≡ run (filtered m t at d c w) (edgesFrom l n) xs
+  pub plan-filters : (m : Maps) (at : ℕ → ℕ) → ((r q : ℕ) → first + (r + q) ≡ r + at q) → ((k : ℕ) → getD (m .over .keep) k 0 ≤ 1)
+      → (l places marks : List ℕ) (n : ℕ) (xs : List ℕ) → Planned m d w l n places marks
+      → filterIn t first c d w l places marks n xs ≡ run (filtered m t at d c w) (edgesFrom l n) xs
   unfolding filterIn edgesFrom run
-  plan-filters m at f l places zero xs g = refl
-  plan-filters m at f l places (suc n) xs g =
+  plan-filters m at f few l places marks zero xs g = refl
+  plan-filters m at f few l places marks (suc n) xs g =
       let e = edgeFrom l n in
-      ap (window d c w (4 * getD t (first + getD places n 0) 0) e) (plan-filters m at f l places n xs (record { at = λ k h. g .at k (omega arith) }))
-      ∙ ap (λ (st : ℕ). window d c w st e (run (filtered m t at d c w) (edgesFrom l n) xs)) (strong m at f e (getD places n 0) (g .at n (omega arith)))
+      let h : n < suc n = omega arith in
+      ap (window (maskBy c (getD marks n 0)) d c w (4 * getD t (first + getD places n 0) 0) e)
+      (plan-filters m at f few l places marks n xs (record { at = λ k i. g .at k (omega arith); kept = λ k i. g .kept k (omega arith) }))
+      ∙ ap₂ (λ (k : Mask) (st : ℕ). window k d c w st e (run (filtered m t at d c w) (edgesFrom l n) xs)) (mask-given m few c d w e (getD marks n 0) (g .kept n h)) (strong m at f e (getD places n 0) (g .at n h))
       ∙ sym (run-append (filtered m t at d c w) (edgesFrom l n) (e ∷ []) xs)
 
-  pub plan-none : (l places xs : List ℕ) → xs ≡ filterIn t first c d w l places 0 xs
-  unfolding filterIn
-  plan-none l places xs = refl
+  module _ (l places marks : List ℕ) where
+    abbrev by : ℕ → List ℕ → List ℕ
+    by n xs = filterIn t first c d w l places marks n xs
 
-  pub plan-more : (l places : List ℕ) (n j : ℕ) (e : Edge) (xs ys zs : List ℕ) → ys ≡ filterIn t first c d w l places n xs → j ≡ first + getD places n 0 → e ≡ edgeFrom l n
-      → zs ≡ window d c w (4 * getD t j 0) e ys → zs ≡ filterIn t first c d w l places (n + 1) xs
-  unfolding filterIn
-  plan-more l places n j e xs ys zs a b g f =
-      f ∙ (λ i. window d c w (4 * getD t (b i) 0) (g i) (a i)) ∙ ap (λ (k : ℕ). filterIn t first c d w l places k xs) (sym (add-one n))
+    pub plan-none : (xs : List ℕ) → xs ≡ by 0 xs
+    unfolding filterIn
+    plan-none xs = refl
 
-  -- a plane stays a plane
-  stays : (m h : ℕ) (l places : List ℕ) (n : ℕ) (xs : List ℕ) → PlaneOf m w h xs → PlaneOf m w h (filterIn t first c d w l places n xs)
-  unfolding filterIn
-  stays m h l places zero xs f = f
-  stays m h l places (suc n) xs f =
-      let g = stays m h l places n xs f in
-      record { wide = g .wide; high = g .high; long = window-long _ _ _ _ _ _ _ ∙ g .long; all = window-small _ _ _ _ _ _ _ (g .all) }
+    pub plan-more : (n j : ℕ) (e : Edge) (xs ys zs : List ℕ) → ys ≡ by n xs → j ≡ first + getD places n 0 → e ≡ edgeFrom l n
+        → zs ≡ window (maskBy c (getD marks n 0)) d c w (4 * getD t j 0) e ys → zs ≡ by (n + 1) xs
+    unfolding filterIn
+    plan-more n j e xs ys zs a b g f =
+        f ∙ (λ i. window (maskBy c (getD marks n 0)) d c w (4 * getD t (b i) 0) (g i) (a i)) ∙ ap (λ (k : ℕ). by k xs) (sym (add-one n))
 
-  pub plan-stays : {m h : ℕ} (l places : List ℕ) (n : ℕ) (xs ys : List ℕ) → ys ≡ filterIn t first c d w l places n xs → PlaneOf m w h xs → PlaneOf m w h ys
-  plan-stays {m} {h} l places n xs ys e f = subst (PlaneOf m w h) (sym e) (stays m h l places n xs f)
+    -- a plane stays a plane
+    stays : (m h n : ℕ) (xs : List ℕ) → PlaneOf m w h xs → PlaneOf m w h (by n xs)
+    unfolding filterIn
+    stays m h zero xs f = f
+    stays m h (suc n) xs f =
+        let g = stays m h n xs f in
+        record { wide = g .wide; high = g .high; long = window-long _ _ _ _ _ _ _ ∙ g .long; all = window-small _ _ _ _ _ _ _ (g .all) }
 
-  pub plan-empty : (l places : List ℕ) (n : ℕ) (xs : List ℕ) → length xs ≡ 0 → xs ≡ filterIn t first c d w l places n xs
-  unfolding filterIn
-  plan-empty l places zero xs e = refl
-  plan-empty l places (suc n) xs e = no-samples xs e ∙ sym (no-samples _ (window-long _ _ _ _ _ _ _ ∙ ap length (sym (plan-empty l places n xs e)) ∙ e))
+    pub plan-stays : {m h : ℕ} (n : ℕ) (xs ys : List ℕ) → ys ≡ by n xs → PlaneOf m w h xs → PlaneOf m w h ys
+    plan-stays {m} {h} n xs ys e f = subst (PlaneOf m w h) (sym e) (stays m h n xs f)
+
+    pub plan-empty : (n : ℕ) (xs : List ℕ) → length xs ≡ 0 → xs ≡ by n xs
+    unfolding filterIn
+    plan-empty zero xs e = refl
+    plan-empty (suc n) xs e = no-samples xs e ∙ sym (no-samples _ (window-long _ _ _ _ _ _ _ ∙ ap length (sym (plan-empty n xs e)) ∙ e))
 
 -- ---- by numbers that were read
 
-pub known-given : {d : Pass} {w : ℕ} {words : List ℕ} {motion refs : List ℤ} {x y a b : ℕ} → x ≡ a → y ≡ b → Known d w words motion refs a b → Known d w words motion refs x y
+pub known-given : {d : Pass} {w : ℕ} {words : List ℕ} {over : Over} {x y a b : ℕ} → x ≡ a → y ≡ b → Known d w words over a b → Known d w words over x y
 known-given e f k = rw (e, f) k
 
 module _ (d : Pass) {x y a b c e : ℕ} (p : x ≡ a) (q : y ≡ b) (r : c ≡ crossOf d (edge x y)) (s : e ≡ alongOf d (edge x y)) where
@@ -171,5 +203,5 @@ module _ (d : Pass) {x y a b c e : ℕ} (p : x ≡ a) (q : y ≡ b) (r : c ≡ c
   edge-given = rw (r, s, p, q) (at-cross d a b)
 
 -- the places that the maps give are places
-pub plan-few : (m : Maps) (d : Pass) (w : ℕ) (l : List ℕ) (n : ℕ) (places : List ℕ) → Placed m d w l n places → ((k : ℕ) → qpAt m k ≤ 51) → (k : ℕ) → k < n → getD places k 0 ≤ 207
-plan-few m d w l n places z q k g = omega (arith, z .at k g, place-few m d w (edgeFrom l k) (q _))
+pub plan-few : (m : Maps) (d : Pass) (w : ℕ) (l : List ℕ) (n : ℕ) (places marks : List ℕ) → Planned m d w l n places marks → ((k : ℕ) → qpAt m k ≤ 51) → (k : ℕ) → k < n → getD places k 0 ≤ 207
+plan-few m d w l n places marks z q k g = omega (arith, z .at k g, place-few m d w (edgeFrom l k) (q _))

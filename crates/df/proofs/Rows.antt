@@ -118,11 +118,11 @@ lines-long m q step next at (suc n) xs = simp put-long (lines-long m q step next
 
 -- lanes lie 8 apart, side by side
 lanes-put : (p : Place) (xs t : List ℕ) (first n : ℕ) → p .next ≡ 1 → first + n ≤ 8 → length t ≡ 32
-    → Gathered p xs t first n (putLines (maskOf Luma) (λ (k : ℕ). samplesAt (p .step) (p .at + k) xs) 8 1 first n t)
+    → Gathered p xs t first n (putLines (maskOf Luma false false) (λ (k : ℕ). samplesAt (p .step) (p .at + k) xs) 8 1 first n t)
 unfolding putLines
 lanes-put p xs t first zero e h l = gather-none p xs t first
 lanes-put p xs t first (suc n) e h l =
-    let r = putLines (maskOf Luma) (λ (k : ℕ). samplesAt (p .step) (p .at + k) xs) 8 1 first n t in
+    let r = putLines (maskOf Luma false false) (λ (k : ℕ). samplesAt (p .step) (p .at + k) xs) 8 1 first n t in
     let i : p .at + n ≡ p .at + n * p .next = rw (e, mul-one n) in
     rw (mul-one n, ← add-one n)
     (gather-more p xs t r first n (samplesAt (p .step) (p .at + n) xs) (omega arith) (lines-long _ _ _ _ _ n t ∙ l) (ap (λ (j : ℕ). samplesAt (p .step) j xs) i) (lanes-put p xs t first n e (omega arith) l))
@@ -145,7 +145,7 @@ rows-copied m to apart from step n s xs x₁ x₂ x₃ x₄ h ea eb ec ed =
 
 -- ---- a unit's edge, by rows
 
-pub gathered : (all : Mask) (p : Place) (xs t r : List ℕ) (first n : ℕ) → all ≡ maskOf Luma → p .next ≡ 1 → first + n ≤ 8 → length t ≡ 32
+pub gathered : (all : Mask) (p : Place) (xs t r : List ℕ) (first n : ℕ) → all ≡ maskOf Luma false false → p .next ≡ 1 → first + n ≤ 8 → length t ≡ 32
     → r ≡ putLines all (λ (k : ℕ). samplesAt (p .step) (p .at + k) xs) 8 1 first n t → Gathered p xs t first n r
 gathered all p xs t r first n m e h l w =
     subst (Gathered p xs t first n) (sym (w ∙ ap (λ (a : Mask). putLines a (λ (k : ℕ). samplesAt (p .step) (p .at + k) xs) 8 1 first n t) m)) (lanes-put p xs t first n e h l)

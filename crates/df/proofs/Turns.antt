@@ -6,8 +6,7 @@ use mathlib.Core.Path.{_≡_, refl, sym, ap, _∙_}
 use mathlib.Core.List.{List, [], _∷_, _++_, map}
 use native.Mathlib.Numerals.{add-one}
 use native.Mathlib.Omega.{arith}
-use lib.IntN.{ℤ}
-use lib.ListN.{length, length-append}
+use lib.ListN.{length, getD, length-append}
 use Rattle.def.specs.declared.Component.the-variants.{Luma, Chroma}
 use Rattle.def.specs.declared.Format.{Format}
 use Rattle.laws.specs.Orders.{run, each}
@@ -17,13 +16,13 @@ use Rattle.split.specs.Picture.{roots, rootLeaves, leavesOf}
 use Rattle.split.specs.Walk.{Leaf}
 use Rattle.df_rules.specs.Filter.{Planes, filterOne, filterAll, inY, inU, inV}
 use Rattle.df_rules.specs.Frame.{Frame}
-use Rattle.df_rules.specs.Strength.{Maps}
+use Rattle.df_rules.specs.Strength.{Over, Maps}
 use Rattle.df_rules.proofs.Planes.{filter-planes}
 use Rattle.df_rules.proofs.Frames.{Framed, frame-filtered}
 use Rattle.split.specs.RootCall.{leafDown}
 use Rattle.bands_rules.specs.Bands.{listFrom, doneFrom, Both}
 use Rattle.bands_rules.proofs.Down.{map-append}
-use Rattle.df.specs.Plan.{edgeFrom, edgesFrom, Placed, filterIn, PlaneOf, ColourOf, PassDone}
+use Rattle.df.specs.Plan.{edgeFrom, edgesFrom, Planned, filterIn, PlaneOf, ColourOf, PassDone}
 use Rattle.df.proofs.Plans.{plan-filters}
 
 from-long : (l : List ℕ) (n : ℕ) → length (edgesFrom l n) ≡ n
@@ -53,23 +52,29 @@ module _ (m : Maps) (t : List ℕ) (d : Pass) (short : Bool) (top : ℕ) (s : Li
   unfolding leavesOf
   next i = rw (add-one i) (ap (edgesOf d short) (map-append (leafDown top) (leavesOf s w h i) (rootLeaves s w h i)) ∙ edges-append d short (map (leafDown top) (leavesOf s w h i)) (map (leafDown top) (rootLeaves s w h i)))
 
-  pub roots-more : (i n : ℕ) (l places : List ℕ) (p q : Planes) (y u v : List ℕ) (count : ℕ) → n ≤ 256 → edgesFrom l n ≡ down (rootLeaves s w h i) → Placed m d w l n places
-      → Roots i p q count → y ≡ filterIn t 0 Luma d w l places n (q .y) → u ≡ filterIn t 208 Chroma d w l places n (q .u) → v ≡ filterIn t 416 Chroma d w l places n (q .v)
+  pub roots-more : (i n : ℕ) (l places marks : List ℕ) (p q : Planes) (y u v : List ℕ) (count : ℕ) → n ≤ 256 → edgesFrom l n ≡ down (rootLeaves s w h i)
+      → ((k : ℕ) → getD (m .over .keep) k 0 ≤ 1) → Planned m d w l n places marks → Roots i p q count
+      → y ≡ filterIn t 0 Luma d w l places marks n (q .y) → u ≡ filterIn t 208 Chroma d w l places marks n (q .u) → v ≡ filterIn t 416 Chroma d w l places marks n (q .v)
       → Roots (i + 1) p (record { y = y; u = u; v = v }) (count + n)
-  roots-more i n l places p q y u v count few e z g fy fu fv =
+  roots-more i n l places marks p q y u v count few e kept z g fy fu fv =
       let old = down (leavesOf s w h i) in
       let new = down (rootLeaves s w h i) in
       record {
         planes = (λ k. record {
-          y = (fy ∙ plan-filters t 0 Luma d w m inY (λ r o. omega arith) l places n (q .y) z) k;
-          u = (fu ∙ plan-filters t 208 Chroma d w m inU (λ r o. omega arith) l places n (q .u) z) k;
-          v = (fv ∙ plan-filters t 416 Chroma d w m inV (λ r o. omega arith) l places n (q .v) z) k;
+          y = (fy ∙ plan-filters t 0 Luma d w m inY (λ r o. omega arith) kept l places marks n (q .y) z) k;
+          u = (fu ∙ plan-filters t 208 Chroma d w m inU (λ r o. omega arith) kept l places marks n (q .u) z) k;
+          v = (fv ∙ plan-filters t 416 Chroma d w m inV (λ r o. omega arith) kept l places marks n (q .v) z) k;
         })
             ∙ sym (filter-planes m t d w (edgesFrom l n) q) ∙ ap (λ (k : List Edge). filterAll m t d w k q) e ∙ ap (filterAll m t d w new) (g .planes)
             ∙ sym (run-append (filterOne m t d w) old new p) ∙ ap (λ (k : List Edge). filterAll m t d w k p) (sym (next i));
         counted = omega (arith, g .counted, length-append old new, ap length (next i), ap length e, from-long l n);
         few = omega (arith, g .few);
       }
+
+  -- the picture after them
+  pub roots-frame : (i : ℕ) (p q : Planes) (count : ℕ) {format : Format} {h₁ : ℕ} {over : Over} {entries words : List ℕ}
+      → Roots i p q count → Framed format w h₁ over entries p words → Framed format w h₁ over entries q words
+  roots-frame i p q count g f = frame-filtered m t d w (down (leavesOf s w h i)) (g .planes) f
 
   pub roots-all : (i : ℕ) (p q : Planes) (count : ℕ) → i ≡ roots w h → Roots i p q count → PassDone m t d w (listFrom d short top s w h) p q count
   roots-all i p q count e g = record {
@@ -78,13 +83,13 @@ module _ (m : Maps) (t : List ℕ) (d : Pass) (short : Bool) (top : ℕ) (s : Li
   }
 
 -- a picture's planes
-pub luma-plane : {format : Format} {w h : ℕ} {y u v words : List ℕ} {motion refs : List ℤ} {t : List ℕ} → Frame format w h y u v words motion refs t → PlaneOf 4 w h y
+pub luma-plane : {format : Format} {w h : ℕ} {y u v words : List ℕ} {over : Over} {t : List ℕ} → Frame format w h y u v words over t → PlaneOf 4 w h y
 luma-plane f = record { wide = f .wide; high = f .high; long = f .long-y; all = f .all-y }
 
-pub u-plane : {format : Format} {w h : ℕ} {y u v words : List ℕ} {motion refs : List ℤ} {t : List ℕ} → Frame format w h y u v words motion refs t → ColourOf format w h u
+pub u-plane : {format : Format} {w h : ℕ} {y u v words : List ℕ} {over : Over} {t : List ℕ} → Frame format w h y u v words over t → ColourOf format w h u
 u-plane f = record { wide = f .wide; high = f .high; long = f .long-u; all = f .all-u }
 
-pub v-plane : {format : Format} {w h : ℕ} {y u v words : List ℕ} {motion refs : List ℤ} {t : List ℕ} → Frame format w h y u v words motion refs t → ColourOf format w h v
+pub v-plane : {format : Format} {w h : ℕ} {y u v words : List ℕ} {over : Over} {t : List ℕ} → Frame format w h y u v words over t → ColourOf format w h v
 v-plane f = record { wide = f .wide; high = f .high; long = f .long-v; all = f .all-v }
 
 -- ---- the two passes
@@ -99,6 +104,6 @@ both-done {m} {t = t} {w = w} {levels = levels} g k e = record {
 }
 
 -- the picture after a pass
-pub frame-done : {m : Maps} {t : List ℕ} {d : Pass} {w₁ : ℕ} {l : List Edge} {p q : Planes} {r w h : ℕ} {format : Format} {motion refs : List ℤ} {entries words : List ℕ}
-    → PassDone m t d w₁ l p q r → Framed format w h motion refs entries p words → Framed format w h motion refs entries q words
+pub frame-done : {m : Maps} {t : List ℕ} {d : Pass} {w₁ : ℕ} {l : List Edge} {p q : Planes} {r w h : ℕ} {format : Format} {over : Over} {entries words : List ℕ}
+    → PassDone m t d w₁ l p q r → Framed format w h over entries p words → Framed format w h over entries q words
 frame-done {m} {t} {d} {w₁} {l} g f = frame-filtered m t d w₁ l (g .planes) f

@@ -36,6 +36,7 @@ pub record Input : Type 0 where
   pub splits : List ℕ
   pub motion : List ℤ
   pub refs : List ℤ
+  pub keep : List ℕ
   pub table0 : List ℤ
   pub table1 : List ℤ
   pub strengths : List ℕ
@@ -69,17 +70,20 @@ rows i = bandRows (i .h / 4) (i .band)
 abbrev pub top : Input → ℕ
 top i = rowsAbove (i .band)
 
--- 6 and 7 judge the band and the row of units above it: what lies before that row is not looked at
+-- 15, 6 and 7 judge the band and the row of units above it: what lies before that row is not looked at
 abbrev pub unchecked : Input → ℕ
 unchecked i = top i - 1
 
 abbrev pub checkedWords : Input → List ℕ
 checkedWords i = drop (unchecked i * wide i) (i .words)
 
+abbrev pub checkedMarks : Input → List ℕ
+checkedMarks i = drop (unchecked i * wide i) (i .keep)
+
 abbrev pub checkedPlane : Input → Component → List ℕ → List ℕ
 checkedPlane i c p = drop (placesOf c (wide i) (unchecked i)) p
 
--- 1, 14, 2, 3, 4 or 5 of the band's own walk, 6, 7
+-- 1, 14, 2, 3, 4 or 5 of the band's own walk, 15, 6, 7
 abbrev pub checked : Input → bands.Input
 checked i =
     record {
@@ -95,6 +99,7 @@ checked i =
         splits = i .splits;
         motion = length (i .motion);
         refs = length (i .refs);
+        keep = i .keep;
         table0 = length (i .table0);
         table1 = length (i .table1);
         strengths = length (i .strengths);
@@ -118,7 +123,7 @@ abbrev pub qpV : Input → ℕ → ℕ
 qpV i qp = mapped (i .table1) (i .settings .«v_offset») qp
 
 abbrev pub mapsOf : Input → Maps
-mapsOf i = record { words = i .words; motion = i .motion; refs = i .refs }
+mapsOf i = record { words = i .words; over = record { motion = i .motion; refs = i .refs; keep = i .keep } }
 
 abbrev pub deblocked : Input → Component → (ℕ → ℕ) → List ℕ → List ℕ
 deblocked i c at p = finished (mapsOf i) (i .strengths) at c (wide i) (passEdges vertical i) (passEdges horizontal i) p

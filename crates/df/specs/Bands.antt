@@ -60,6 +60,7 @@ inputOf i k s =
       splits = bandBytes (i .splits) (i .w / 4) k;
       motion = mapPart 4 (i .w / 4) (rowsBefore k) (lent i k) (i .motion);
       refs = mapPart 2 (i .w / 4) (rowsBefore k) (lent i k) (i .refs);
+      keep = mapPart 1 (i .w / 4) (rowsBefore k) (lent i k) (i .keep);
       table0 = i .table0;
       table1 = i .table1;
       strengths = i .strengths;

@@ -32,6 +32,7 @@ pub record Input : Type 0 where
   pub splits : List ℕ
   pub motion : List ℤ
   pub refs : List ℤ
+  pub keep : List ℕ
   pub table0 : List ℤ
   pub table1 : List ℤ
   pub strengths : List ℕ
@@ -54,7 +55,7 @@ pub record Outcome : Type 0 where
   pub v : List ℕ
   pub words : List ℕ
 
--- 1, 2, 3, 4 or 5, 6, 7
+-- 1, 2, 3, 4 or 5, 15, 6, 7
 abbrev pub checked : Input → checks.Input
 checked i =
     record {
@@ -67,6 +68,7 @@ checked i =
       splits = i .splits;
       motion = length (i .motion);
       refs = length (i .refs);
+      keep = i .keep;
       table0 = length (i .table0);
       table1 = length (i .table1);
       strengths = length (i .strengths);
@@ -91,7 +93,7 @@ abbrev pub qpV : Input → ℕ → ℕ
 qpV i qp = mapped (i .table1) (i .settings .«v_offset») qp
 
 abbrev pub mapsOf : Input → Maps
-mapsOf i = record { words = i .words; motion = i .motion; refs = i .refs }
+mapsOf i = record { words = i .words; over = record { motion = i .motion; refs = i .refs; keep = i .keep } }
 
 -- a plane after both passes
 abbrev pub deblocked : Input → Component → (ℕ → ℕ) → List ℕ → List ℕ

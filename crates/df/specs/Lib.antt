@@ -8,3 +8,4 @@ pub mod Luma
 pub mod Moved
 pub mod Plan
 pub mod Rows
+pub mod Unmarked

@@ -20,6 +20,7 @@ pub record SameLuma (i j : Input) : Type 0 where
   pub splits : i .splits ≡ j .splits
   pub motion : i .motion ≡ j .motion
   pub refs : i .refs ≡ j .refs
+  pub keep : i .keep ≡ j .keep
   pub strengths : i .strengths ≡ j .strengths
   pub limit : i .settings .limit ≡ j .settings .limit
 
@@ -53,6 +54,7 @@ withoutColour i =
       splits = i .splits;
       motion = i .motion;
       refs = i .refs;
+      keep = i .keep;
       table0 = [];
       table1 = [];
       strengths = i .strengths;

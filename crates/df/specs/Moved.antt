@@ -2,20 +2,26 @@
 -- What one pass and both passes do over any lists of edges is `PassMoves` and `Moves` of `df_rules`.
 -- Assumes nothing: these are definitions.
 use Prim.Native.Nat.{ℕ, _*_, _/_, _≤_}
+use mathlib.Core.Bool.{true}
 use mathlib.Core.List.{List, List·Memᴰ}
 use mathlib.Core.Path.{_≡_}
 use lib.Dec.{eqb}
 use lib.ListN.{getD}
 use Rattle.laws.specs.Sign.{gapN}
 use Rattle.split.specs.Edges.{Pass, vertical, horizontal, Edge}
-use Rattle.df_rules.specs.Moves.{largest, Writes, Moves}
+use Rattle.df_rules.specs.Moves.{largest, Writes, unitOf, Moves}
+use Rattle.df_rules.specs.Strength.{keptAt}
 use Rattle.bands_rules.specs.Bands.{bandList, joined}
 use Rattle.df.specs.Bands.{State, stateAfter, bands, Plane, componentOf, mappedAs, planeIn, planeOf, planeAfter}
 use Rattle.df.specs.Deblock.{Input, passEdges, mapsOf, outcome}
 
 -- no edge of a list writes place k of a plane
 abbrev pub Untouched : Input → Plane → Pass → List Edge → ℕ → Type 0
-Untouched i x d l k = (e : Edge) → List·Memᴰ e l → Writes d (componentOf x) (i .w / 4) e k → ⊥
+Untouched i x d l k = (e : Edge) → List·Memᴰ e l → Writes (mapsOf i) d (componentOf x) (i .w / 4) e k → ⊥
+
+-- place k of a plane lies in a kept unit
+abbrev pub InKept : Input → Plane → ℕ → Type 0
+InKept i x k = keptAt (mapsOf i) (unitOf (componentOf x) (i .w / 4) k) ≡ true
 
 -- what filtering two lists of edges, one after the other, does to a plane
 abbrev pub MovesIn : Input → Plane → (ups levels : List Edge) → Type 0
@@ -30,6 +36,8 @@ pub record Moved (i : Input) : Type 0 where
   -- a sample that no visited edge writes is as it was: one outside all windows, and one of chroma that is outer in every window that holds it
   pub still : (x : Plane) (k : ℕ) → Untouched i x vertical (passEdges vertical i) k → Untouched i x horizontal (passEdges horizontal i) k
       → getD (planeAfter x (outcome i)) k 0 ≡ getD (planeIn x i) k 0
+  -- and so is every sample of a kept unit
+  pub kept : (x : Plane) (k : ℕ) → InKept i x k → getD (planeAfter x (outcome i)) k 0 ≡ getD (planeIn x i) k 0
 
 -- a pass's edges of the first n bands
 abbrev pub firstEdges : Input → Pass → ℕ → List Edge
@@ -41,3 +49,4 @@ pub record MovedBands (i : Input) (n : ℕ) : Type 0 where
   pub most : (x : Plane) (k : ℕ) → gapN (getD (planeOf x (stateAfter i n)) k 0) (getD (planeIn x i) k 0) ≤ 8 * largest (i .strengths)
   pub still : (x : Plane) (k : ℕ) → Untouched i x vertical (firstEdges i vertical n) k → Untouched i x horizontal (firstEdges i horizontal n) k
       → getD (planeOf x (stateAfter i n)) k 0 ≡ getD (planeIn x i) k 0
+  pub kept : (x : Plane) (k : ℕ) → InKept i x k → getD (planeOf x (stateAfter i n)) k 0 ≡ getD (planeIn x i) k 0

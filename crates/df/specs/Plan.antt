@@ -1,21 +1,25 @@
--- A root's plan: its edges as listing writes them, and the place of each one's strength; and what filtering by a plan leaves of the planes.
+-- A root's plan: its edges as listing writes them, and for each the place of its strength and its keep marks; and what filtering by a plan leaves of the planes.
 -- Assumes nothing: these are definitions.
-use Prim.Native.Nat.{ℕ, zero, suc, _+_, _*_, _/_, _≤_, _<_}
+use Prim.Native.Nat.{ℕ, zero, suc, _+_, _*_, _/_, _%_, _≤_, _<_}
 use mathlib.Core.Bool.{Bool}
 use mathlib.Core.List.{List, [], _∷_, _++_, map}
 use mathlib.Core.Path.{_≡_}
+use lib.Dec.{eqb}
 use lib.IntN.{ℤ}
 use lib.ListN.{length, getD}
 use Rattle.def.specs.Formats.{inFormat}
+use Rattle.def.specs.Word.{qpOf}
 use Rattle.def.specs.declared.Component.{Component}
 use Rattle.def.specs.declared.Format.{Format}
+use Rattle.line.specs.declared.Mask.{Mask}
+use Rattle.line.specs.Line.{maskOf}
 use Rattle.split.specs.Edges.{Pass, Edge, edge, edgesOf}
 use Rattle.split.specs.Picture.{rootLeaves}
 use Rattle.split.specs.Rows.{crossOf, alongOf}
 use Rattle.df_rules.specs.Filter.{window, Planes, filterAll}
-use Rattle.df_rules.specs.Frame.{Unit, AtUnit}
+use Rattle.df_rules.specs.Frame.{Unit, Marked, AtUnit}
 use Rattle.df_rules.specs.Places.{stepAcross, unitQ, unitP}
-use Rattle.df_rules.specs.Strength.{Maps, rowAt, qpAt}
+use Rattle.df_rules.specs.Strength.{Over, Maps, rowBy}
 use Rattle.df_rules.specs.Window.{Samples}
 use Rattle.split.specs.RootCall.{leafDown}
 
@@ -30,37 +34,57 @@ edgesFrom l (suc n) = edgesFrom l n ++ (edgeFrom l n ∷ [])
 
 -- ---- the place of an edge's strength, by the maps
 
--- in a plane's 208 entries
-abbrev pub placeAt : Maps → Pass → (w : ℕ) → Edge → ℕ
-placeAt m d w e = 52 * rowAt m (unitQ w e) (unitP d w e) + qpAt m (unitQ w e)
+-- in a plane's 208 entries, of the units q and p
+abbrev pub placeBy : (words : List ℕ) (motion refs : List ℤ) → (q p : ℕ) → ℕ
+placeBy words motion refs q p = 52 * rowBy words motion refs q p + qpOf (getD words q 0)
 
--- the places of a list's first n
-pub record Placed (m : Maps) (d : Pass) (w : ℕ) (l : List ℕ) (n : ℕ) (places : List ℕ) : Type 0 where
+abbrev pub placeAt : Maps → Pass → (w : ℕ) → Edge → ℕ
+placeAt m d w e = placeBy (m .words) (m .over .motion) (m .over .refs) (unitQ w e) (unitP d w e)
+
+-- ---- its keep marks, as one number: P's, and twice Q's
+
+abbrev pub marksBy : (keep : List ℕ) → (q p : ℕ) → ℕ
+marksBy keep q p = getD keep p 0 + 2 * getD keep q 0
+
+abbrev pub marksAt : Maps → Pass → (w : ℕ) → Edge → ℕ
+marksAt m d w e = marksBy (m .over .keep) (unitQ w e) (unitP d w e)
+
+-- and what is written of an edge that has them
+abbrev pub maskBy : Component → (marks : ℕ) → Mask
+maskBy c k = maskOf c (eqb (k % 2) 1) (eqb (k / 2) 1)
+
+-- a list's first n, by the maps
+pub record Planned (m : Maps) (d : Pass) (w : ℕ) (l : List ℕ) (n : ℕ) (places marks : List ℕ) : Type 0 where
   pub at : (k : ℕ) → k < n → getD places k 0 ≡ placeAt m d w (edgeFrom l k)
+  pub kept : (k : ℕ) → k < n → getD marks k 0 ≡ marksAt m d w (edgeFrom l k)
 
 -- ---- a plane filtered by a plan
 
 -- the first n edges of a plan, one after the other. first: where the plane's entries start
-unfoldable pub filterIn : (t : List ℕ) → (first : ℕ) → Component → Pass → (w : ℕ) → (l places : List ℕ) → ℕ → List ℕ → List ℕ
-filterIn t first c d w l places zero xs = xs
-filterIn t first c d w l places (suc n) xs = window d c w (4 * getD t (first + getD places n 0) 0) (edgeFrom l n) (filterIn t first c d w l places n xs)
+unfoldable pub filterIn : (t : List ℕ) → (first : ℕ) → Component → Pass → (w : ℕ) → (l places marks : List ℕ) → ℕ → List ℕ → List ℕ
+filterIn t first c d w l places marks zero xs = xs
+filterIn t first c d w l places marks (suc n) xs =
+    window (maskBy c (getD marks n 0)) d c w (4 * getD t (first + getD places n 0) 0) (edgeFrom l n) (filterIn t first c d w l places marks n xs)
 
 -- ---- what the functions ask for and give
 
 -- the two units of an edge lie in the maps
-pub record Known (d : Pass) (w : ℕ) (words : List ℕ) (motion refs : List ℤ) (x y : ℕ) : Type 0 where
-  pub wide : w ≤ 1024
+pub record Known (d : Pass) (w : ℕ) (words : List ℕ) (over : Over) (x y : ℕ) : Type 0 where
   pub few-x : x ≤ 4096
   pub few-y : y ≤ 4096
   pub before : stepAcross d w ≤ unitQ w (edge (x / 4) (y / 4))
-  pub q : Unit words motion refs (unitQ w (edge (x / 4) (y / 4)))
-  pub p : Unit words motion refs (unitP d w (edge (x / 4) (y / 4)))
+  pub q : Unit words (over .motion) (over .refs) (unitQ w (edge (x / 4) (y / 4)))
+  pub p : Unit words (over .motion) (over .refs) (unitP d w (edge (x / 4) (y / 4)))
+  pub q-mark : Marked (over .keep) (unitQ w (edge (x / 4) (y / 4)))
+  pub p-mark : Marked (over .keep) (unitP d w (edge (x / 4) (y / 4)))
 
--- those of a list's first n edges, and there is room for their places
-pub record Knowns (d : Pass) (w : ℕ) (words : List ℕ) (motion refs : List ℤ) (l : List ℕ) (n room : ℕ) : Type 0 where
+-- those of a list's first n edges, and there is room for their plan
+pub record Knowns (d : Pass) (w : ℕ) (words : List ℕ) (over : Over) (l : List ℕ) (n : ℕ) (places marks : List ℕ) : Type 0 where
+  pub wide : w ≤ 1024
   pub long : 2 * n ≤ length l
-  pub fits : n ≤ room
-  pub edges : (k : ℕ) → k < n → Known d w words motion refs (getD l (2 * k) 0) (getD l (2 * k + 1) 0)
+  pub fits : n ≤ length places
+  pub fits-marks : n ≤ length marks
+  pub edges : (k : ℕ) → k < n → Known d w words over (getD l (2 * k) 0) (getD l (2 * k + 1) 0)
 
 -- a plane of a picture of w by h units, m samples a unit's side
 pub record PlaneOf (m w h : ℕ) (xs : List ℕ) : Type 0 where
@@ -81,9 +105,10 @@ abbrev pub At : Pass → (w h x y : ℕ) → Type 0
 At d w h x y = AtUnit d w h (crossOf d (edge x y)) (alongOf d (edge x y))
 
 -- a plan of n edges, in such a picture
-pub record Plan (d : Pass) (w h : ℕ) (l places : List ℕ) (n : ℕ) : Type 0 where
+pub record Plan (d : Pass) (w h : ℕ) (l places marks : List ℕ) (n : ℕ) : Type 0 where
   pub long : 2 * n ≤ length l
   pub fits : n ≤ length places
+  pub fits-marks : n ≤ length marks
   pub units : (k : ℕ) → k < n → At d w h (getD l (2 * k) 0) (getD l (2 * k + 1) 0)
   pub few : (k : ℕ) → k < n → getD places k 0 ≤ 207
 

@@ -51,16 +51,17 @@ pub(crate) fn band_passes(
     splits: &[u8],
     motion: &[i16],
     refs: &[i8],
+    keep: &[u8],
     entries: &[u8],
 ) -> Counts
-    requires { ⌜ Frame format (w / 4) (top + h / 4) (drop (16 * (skip * (w / 4))) (now y)) (drop (inFormat format (4 * (skip * (w / 4)))) (now u)) (drop (inFormat format (4 * (skip * (w / 4)))) (now v)) (drop (skip * (w / 4)) (now words)) (drop (4 * (skip * (w / 4))) (now motion)) (drop (2 * (skip * (w / 4))) (now refs)) (now entries)
+    requires { ⌜ Frame format (w / 4) (top + h / 4) (drop (16 * (skip * (w / 4))) (now y)) (drop (inFormat format (4 * (skip * (w / 4)))) (now u)) (drop (inFormat format (4 * (skip * (w / 4)))) (now v)) (drop (skip * (w / 4)) (now words)) (record { motion = drop (4 * (skip * (w / 4))) (now motion); refs = drop (2 * (skip * (w / 4))) (now refs); keep = drop (skip * (w / 4)) (now keep) }) (now entries)
         × Accepted w h (now splits) ⌝ }
-    requires { ⌜ (16 * (skip * (w / 4)) ≤ length (now y)) × (inFormat format (4 * (skip * (w / 4))) ≤ length (now u)) × (inFormat format (4 * (skip * (w / 4))) ≤ length (now v)) × (skip * (w / 4) ≤ length (now words)) × (4 * (skip * (w / 4)) ≤ length (now motion)) × (2 * (skip * (w / 4)) ≤ length (now refs)) × (skip * (w / 4) ≤ 16384) ⌝ }
+    requires { ⌜ (16 * (skip * (w / 4)) ≤ length (now y)) × (inFormat format (4 * (skip * (w / 4))) ≤ length (now u)) × (inFormat format (4 * (skip * (w / 4))) ≤ length (now v)) × (skip * (w / 4) ≤ length (now words)) × (4 * (skip * (w / 4)) ≤ length (now motion)) × (2 * (skip * (w / 4)) ≤ length (now refs)) × (skip * (w / 4) ≤ length (now keep)) × (skip * (w / 4) ≤ 16384) ⌝ }
     ensures { λ r. ⌜ (take (16 * (skip * (w / 4))) (now (y .exit)) ≡ take (16 * (skip * (w / 4))) (now (y .entry)))
         × (take (inFormat format (4 * (skip * (w / 4)))) (now (u .exit)) ≡ take (inFormat format (4 * (skip * (w / 4)))) (now (u .entry)))
         × (take (inFormat format (4 * (skip * (w / 4)))) (now (v .exit)) ≡ take (inFormat format (4 * (skip * (w / 4)))) (now (v .entry)))
         × (take (skip * (w / 4)) (now (words .exit)) ≡ take (skip * (w / 4)) (now (words .entry)))
-        × Both (record { words = drop (skip * (w / 4)) (now (words .entry)); motion = drop (4 * (skip * (w / 4))) (now (motion .entry)); refs = drop (2 * (skip * (w / 4))) (now (refs .entry)) }) (now (entries .entry))
+        × Both (record { words = drop (skip * (w / 4)) (now (words .entry)); over = record { motion = drop (4 * (skip * (w / 4))) (now (motion .entry)); refs = drop (2 * (skip * (w / 4))) (now (refs .entry)); keep = drop (skip * (w / 4)) (now (keep .entry)) } }) (now (entries .entry))
         (w / 4) top (listFrom vertical short top (now (splits .entry)) (w / 4) (h / 4)) (listFrom horizontal short top (now (splits .entry)) (w / 4) (h / 4))
         (record { y = drop (16 * (skip * (w / 4))) (now (y .entry)); u = drop (inFormat format (4 * (skip * (w / 4)))) (now (u .entry)); v = drop (inFormat format (4 * (skip * (w / 4)))) (now (v .entry)) })
         (record { y = drop (16 * (skip * (w / 4))) (now (y .exit)); u = drop (inFormat format (4 * (skip * (w / 4)))) (now (u .exit)); v = drop (inFormat format (4 * (skip * (w / 4)))) (now (v .exit)) })
@@ -84,6 +85,7 @@ pub(crate) fn band_passes(
         splits,
         &motion[motion_from..],
         &refs[refs_from..],
+        &keep[from..],
         entries,
     )
 }
@@ -109,6 +111,7 @@ impl Bands {
         splits: &[u8],
         motion: &[i16],
         refs: &[i8],
+        keep: &[u8],
         table0: &[i8],
         table1: &[i8],
         strengths: &[u8],
@@ -127,6 +130,7 @@ impl Bands {
               splits = now (splits .entry);
               motion = now (motion .entry);
               refs = now (refs .entry);
+              keep = now (keep .entry);
               table0 = now (table0 .entry);
               table1 = now (table1 .entry);
               strengths = now (strengths .entry);
@@ -147,6 +151,7 @@ impl Bands {
             splits,
             motion.len(),
             refs.len(),
+            keep,
             table0.len(),
             table1.len(),
             strengths.len(),
@@ -176,6 +181,7 @@ impl Bands {
             splits,
             motion,
             refs,
+            keep,
             &table,
         );
         let after = next + 1;

@@ -1,4 +1,5 @@
-// A list's edges, filtered by the places of their strengths: in luma, and in both chroma planes of a picture in colour. No map is looked at.
+// A list's edges, filtered by the places of their strengths and by their keep marks: in luma, and in both chroma planes of a picture in
+// colour. No map is looked at.
 // The Rust beside it: df.rs, the loops of evc_deblock_cu_hor and evc_deblock_cu_ver.
 ghost use mathlib.Core.Path.{_≡_};
 ghost use Prim.Native.Nat.{_+_, _*_, _/_, _≤_, _<_};
@@ -8,15 +9,18 @@ ghost use Rattle.def.specs.declared.Component.the-variants.{Luma, Chroma};
 ghost use Rattle.df_rules.specs.Filter.{window};
 ghost use Rattle.df_rules.specs.Frame.{AtUnit};
 ghost use Rattle.df.specs.Edges.{passOf};
-ghost use Rattle.df.specs.Plan.{filterIn, PlaneOf, ColourOf, Plan};
+ghost use Rattle.df.specs.Plan.{maskBy, filterIn, PlaneOf, ColourOf, Plan};
 use crate::place::Pass;
 use crate::place::along_of;
 use crate::place::cross_of;
 use crate::place::place;
 use crate::plan::number_at;
 use crate::window::chroma;
+use crate::window::kept_lines;
 use crate::window::luma;
+use def::Component;
 use def::Format;
+use line::Mask;
 
 fn strength_at(entries: &[u8], i: usize) -> u16
     requires { ⌜ i < length (now entries) ⌝ }
@@ -25,24 +29,44 @@ fn strength_at(entries: &[u8], i: usize) -> u16
     4 * entries[i] as u16
 }
 
+// What is written of an edge with these marks: P's, and twice Q's.
+fn mask_by(component: Component, marks: u8) -> Mask
+    ensures { λ r. ⌜ r ≡ maskBy component marks ⌝ }
+{
+    line::mask_of(component, marks % 2 == 1, marks / 2 == 1)
+}
+
 // The picture's sides in units.
 pub(crate) struct Size {
     pub(crate) columns: usize,
     pub(crate) rows: usize,
 }
 
-// One unit's edge in luma, by the place of its strength: x and z are where Q's first luma sample lies across the edge and along it. Strength 0 leaves a
-// window untouched. In the horizontal pass the lines lie side by side.
-fn edge_luma(pass: Pass, size: Size, y: &mut [u16], entries: &[u8], k: usize, x: usize, z: usize)
+// One unit's edge in luma, by the place of its strength and its marks: x and z are where Q's first luma sample lies across the edge and along it. Strength 0
+// leaves a window untouched. In the horizontal pass the lines lie side by side.
+fn edge_luma(
+    pass: Pass,
+    size: Size,
+    y: &mut [u16],
+    entries: &[u8],
+    k: usize,
+    marks: u8,
+    x: usize,
+    z: usize,
+)
     requires { ⌜ PlaneOf 4 (size .columns) (size .rows) (now y) × AtUnit (passOf pass) (size .columns) (size .rows) x z × (k ≤ 207) × (length (now entries) ≡ 624) ⌝ }
-    ensures { λ _. ⌜ now (y .exit) ≡ window (passOf pass) Luma (size .columns) (4 * getD (now (entries .entry)) k 0) (edgeAt (passOf pass) (x / 4) (z / 4)) (now (y .entry)) ⌝ }
+    ensures { λ _. ⌜ now (y .exit) ≡ window (maskBy Luma marks) (passOf pass) Luma (size .columns) (4 * getD (now (entries .entry)) k 0) (edgeAt (passOf pass) (x / 4) (z / 4)) (now (y .entry)) ⌝ }
 {
     let st = strength_at(entries, k);
     if st == 0 {
         return;
     }
     let p = place(pass, 4 * size.columns, x, z);
-    luma(p.next == 1, y, p, st);
+    if marks == 0 {
+        luma(p.next == 1, y, p, st);
+        return;
+    }
+    kept_lines(y, mask_by(Component::Luma, marks), 4, p, st);
 }
 
 // And in both chroma planes: a plane has 208 entries; luma's come first, then U's and V's. Filtering samples at 0 leaves them as they were, too.
@@ -53,12 +77,13 @@ fn edge_chroma(
     v: &mut [u16],
     entries: &[u8],
     k: usize,
+    marks: u8,
     x: usize,
     z: usize,
 )
     requires { ⌜ PlaneOf 2 (size .columns) (size .rows) (now u) × PlaneOf 2 (size .columns) (size .rows) (now v) × AtUnit (passOf pass) (size .columns) (size .rows) x z × (k ≤ 207) × (length (now entries) ≡ 624) ⌝ }
-    ensures { λ _. ⌜ (now (u .exit) ≡ window (passOf pass) Chroma (size .columns) (4 * getD (now (entries .entry)) (208 + k) 0) (edgeAt (passOf pass) (x / 4) (z / 4)) (now (u .entry)))
-        × (now (v .exit) ≡ window (passOf pass) Chroma (size .columns) (4 * getD (now (entries .entry)) (416 + k) 0) (edgeAt (passOf pass) (x / 4) (z / 4)) (now (v .entry))) ⌝ }
+    ensures { λ _. ⌜ (now (u .exit) ≡ window (maskBy Chroma marks) (passOf pass) Chroma (size .columns) (4 * getD (now (entries .entry)) (208 + k) 0) (edgeAt (passOf pass) (x / 4) (z / 4)) (now (u .entry)))
+        × (now (v .exit) ≡ window (maskBy Chroma marks) (passOf pass) Chroma (size .columns) (4 * getD (now (entries .entry)) (416 + k) 0) (edgeAt (passOf pass) (x / 4) (z / 4)) (now (v .entry))) ⌝ }
 {
     let su = strength_at(entries, 208 + k);
     let sv = strength_at(entries, 416 + k);
@@ -66,7 +91,13 @@ fn edge_chroma(
         return;
     }
     let p = place(pass, 2 * size.columns, x / 2, z / 2);
-    chroma(p.next == 1, u, v, p, su, sv);
+    if marks == 0 {
+        chroma(p.next == 1, u, v, p, su, sv);
+        return;
+    }
+    let inner = mask_by(Component::Chroma, marks);
+    kept_lines(u, inner, 2, p, su);
+    kept_lines(v, inner, 2, p, sv);
 }
 
 // The first n edges of a list in luma, one after the other.
@@ -77,10 +108,11 @@ pub(crate) fn filter_luma(
     entries: &[u8],
     list: &[u16],
     places: &[u8],
+    marks: &[u8],
     n: usize,
 )
-    requires { ⌜ PlaneOf 4 (size .columns) (size .rows) (now y) × Plan (passOf pass) (size .columns) (size .rows) (now list) (now places) n × (length (now entries) ≡ 624) ⌝ }
-    ensures { λ _. ⌜ now (y .exit) ≡ filterIn (now (entries .entry)) 0 Luma (passOf pass) (size .columns) (now (list .entry)) (now (places .entry)) n (now (y .entry)) ⌝ }
+    requires { ⌜ PlaneOf 4 (size .columns) (size .rows) (now y) × Plan (passOf pass) (size .columns) (size .rows) (now list) (now places) (now marks) n × (length (now entries) ≡ 624) ⌝ }
+    ensures { λ _. ⌜ now (y .exit) ≡ filterIn (now (entries .entry)) 0 Luma (passOf pass) (size .columns) (now (list .entry)) (now (places .entry)) (now (marks .entry)) n (now (y .entry)) ⌝ }
 {
     for i in 0..n {
         let k = places[i] as usize;
@@ -88,7 +120,7 @@ pub(crate) fn filter_luma(
         let b = number_at(list, 2 * i + 1);
         let x = cross_of(pass, a, b);
         let z = along_of(pass, a, b);
-        edge_luma(pass, size, &mut *y, entries, k, x, z);
+        edge_luma(pass, size, &mut *y, entries, k, marks[i], x, z);
     }
 }
 
@@ -101,11 +133,12 @@ fn filter_chroma(
     entries: &[u8],
     list: &[u16],
     places: &[u8],
+    marks: &[u8],
     n: usize,
 )
-    requires { ⌜ PlaneOf 2 (size .columns) (size .rows) (now u) × PlaneOf 2 (size .columns) (size .rows) (now v) × Plan (passOf pass) (size .columns) (size .rows) (now list) (now places) n × (length (now entries) ≡ 624) ⌝ }
-    ensures { λ _. ⌜ (now (u .exit) ≡ filterIn (now (entries .entry)) 208 Chroma (passOf pass) (size .columns) (now (list .entry)) (now (places .entry)) n (now (u .entry)))
-        × (now (v .exit) ≡ filterIn (now (entries .entry)) 416 Chroma (passOf pass) (size .columns) (now (list .entry)) (now (places .entry)) n (now (v .entry))) ⌝ }
+    requires { ⌜ PlaneOf 2 (size .columns) (size .rows) (now u) × PlaneOf 2 (size .columns) (size .rows) (now v) × Plan (passOf pass) (size .columns) (size .rows) (now list) (now places) (now marks) n × (length (now entries) ≡ 624) ⌝ }
+    ensures { λ _. ⌜ (now (u .exit) ≡ filterIn (now (entries .entry)) 208 Chroma (passOf pass) (size .columns) (now (list .entry)) (now (places .entry)) (now (marks .entry)) n (now (u .entry)))
+        × (now (v .exit) ≡ filterIn (now (entries .entry)) 416 Chroma (passOf pass) (size .columns) (now (list .entry)) (now (places .entry)) (now (marks .entry)) n (now (v .entry))) ⌝ }
 {
     for i in 0..n {
         let k = places[i] as usize;
@@ -113,7 +146,7 @@ fn filter_chroma(
         let b = number_at(list, 2 * i + 1);
         let x = cross_of(pass, a, b);
         let z = along_of(pass, a, b);
-        edge_chroma(pass, size, &mut *u, &mut *v, entries, k, x, z);
+        edge_chroma(pass, size, &mut *u, &mut *v, entries, k, marks[i], x, z);
     }
 }
 
@@ -127,14 +160,15 @@ pub(crate) fn filter_colour(
     entries: &[u8],
     list: &[u16],
     places: &[u8],
+    marks: &[u8],
     n: usize,
 )
-    requires { ⌜ ColourOf format (size .columns) (size .rows) (now u) × ColourOf format (size .columns) (size .rows) (now v) × Plan (passOf pass) (size .columns) (size .rows) (now list) (now places) n × (length (now entries) ≡ 624) ⌝ }
-    ensures { λ _. ⌜ (now (u .exit) ≡ filterIn (now (entries .entry)) 208 Chroma (passOf pass) (size .columns) (now (list .entry)) (now (places .entry)) n (now (u .entry)))
-        × (now (v .exit) ≡ filterIn (now (entries .entry)) 416 Chroma (passOf pass) (size .columns) (now (list .entry)) (now (places .entry)) n (now (v .entry))) ⌝ }
+    requires { ⌜ ColourOf format (size .columns) (size .rows) (now u) × ColourOf format (size .columns) (size .rows) (now v) × Plan (passOf pass) (size .columns) (size .rows) (now list) (now places) (now marks) n × (length (now entries) ≡ 624) ⌝ }
+    ensures { λ _. ⌜ (now (u .exit) ≡ filterIn (now (entries .entry)) 208 Chroma (passOf pass) (size .columns) (now (list .entry)) (now (places .entry)) (now (marks .entry)) n (now (u .entry)))
+        × (now (v .exit) ≡ filterIn (now (entries .entry)) 416 Chroma (passOf pass) (size .columns) (now (list .entry)) (now (places .entry)) (now (marks .entry)) n (now (v .entry))) ⌝ }
 {
     match format {
         Format::Grey => {}
-        Format::Colour => filter_chroma(pass, size, u, v, entries, list, places, n),
+        Format::Colour => filter_chroma(pass, size, u, v, entries, list, places, marks, n),
     }
 }

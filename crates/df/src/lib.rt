@@ -75,10 +75,11 @@ pub(crate) fn both_passes(
     splits: &[u8],
     motion: &[i16],
     refs: &[i8],
+    keep: &[u8],
     entries: &[u8],
 ) -> Counts
-    requires { ⌜ Frame format (w / 4) (top + h / 4) (now y) (now u) (now v) (now words) (now motion) (now refs) (now entries) × Accepted w h (now splits) ⌝ }
-    ensures { λ r. ⌜ Both (record { words = now (words .entry); motion = now (motion .entry); refs = now (refs .entry) }) (now (entries .entry))
+    requires { ⌜ Frame format (w / 4) (top + h / 4) (now y) (now u) (now v) (now words) (record { motion = now motion; refs = now refs; keep = now keep }) (now entries) × Accepted w h (now splits) ⌝ }
+    ensures { λ r. ⌜ Both (record { words = now (words .entry); over = record { motion = now (motion .entry); refs = now (refs .entry); keep = now (keep .entry) } }) (now (entries .entry))
         (w / 4) top (listFrom vertical short top (now (splits .entry)) (w / 4) (h / 4)) (listFrom horizontal short top (now (splits .entry)) (w / 4) (h / 4))
         (record { y = now (y .entry); u = now (u .entry); v = now (v .entry) }) (record { y = now (y .exit); u = now (u .exit); v = now (v .exit) })
         (now (words .exit)) (r .vertical) (r .horizontal) ⌝ }
@@ -97,6 +98,7 @@ pub(crate) fn both_passes(
         splits,
         motion,
         refs,
+        keep,
         entries,
     );
     let n = deblock_pass(
@@ -113,6 +115,7 @@ pub(crate) fn both_passes(
         splits,
         motion,
         refs,
+        keep,
         entries,
     );
     let from = top * (w / 4);
@@ -134,6 +137,7 @@ pub fn deblock(
     splits: &[u8],
     motion: &[i16],
     refs: &[i8],
+    keep: &[u8],
     table0: &[i8],
     table1: &[i8],
     strengths: &[u8],
@@ -150,6 +154,7 @@ pub fn deblock(
           splits = now (splits .entry);
           motion = now (motion .entry);
           refs = now (refs .entry);
+          keep = now (keep .entry);
           table0 = now (table0 .entry);
           table1 = now (table1 .entry);
           strengths = now (strengths .entry);
@@ -167,6 +172,7 @@ pub fn deblock(
         splits,
         motion.len(),
         refs.len(),
+        keep,
         table0.len(),
         table1.len(),
         strengths.len(),
@@ -190,6 +196,7 @@ pub fn deblock(
         splits,
         motion,
         refs,
+        keep,
         &table,
     );
     Deblocked::Done {

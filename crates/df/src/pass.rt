@@ -1,4 +1,4 @@
-// A pass over a picture: a root's edges are listed, their strengths looked up, and then they are filtered.
+// A pass over a picture: a root's edges are listed, their strengths and marks looked up, and then they are filtered.
 // The Rust beside it: df.rs, evc_deblock_tree, evc_deblock. Its vertical pass asks which units are done; `left-done` and `right-not` of `split` have the answers.
 ghost use mathlib.Core.Path.{_≡_};
 ghost use Prim.Native.Nat.{_+_, _*_, _/_, _%_, _≤_, _<_};
@@ -14,7 +14,7 @@ use crate::filter::filter_colour;
 use crate::filter::filter_luma;
 use crate::place::Pass;
 use crate::place::is_horizontal;
-use crate::plan::places;
+use crate::plan::plan;
 use def::Format;
 use def::Pel;
 use split::Walked;
@@ -58,10 +58,11 @@ pub(crate) fn deblock_pass(
     splits: &[u8],
     motion: &[i16],
     refs: &[i8],
+    keep: &[u8],
     entries: &[u8],
 ) -> usize
-    requires { ⌜ Frame format (w / 4) (top + h / 4) (now y) (now u) (now v) (now words) (now motion) (now refs) (now entries) × Accepted w h (now splits) ⌝ }
-    ensures { λ r. ⌜ PassDone (record { words = now (words .entry); motion = now (motion .entry); refs = now (refs .entry) }) (now (entries .entry))
+    requires { ⌜ Frame format (w / 4) (top + h / 4) (now y) (now u) (now v) (now words) (record { motion = now motion; refs = now refs; keep = now keep }) (now entries) × Accepted w h (now splits) ⌝ }
+    ensures { λ r. ⌜ PassDone (record { words = now (words .entry); over = record { motion = now (motion .entry); refs = now (refs .entry); keep = now (keep .entry) } }) (now (entries .entry))
         (passOf pass) (w / 4) (listFrom (passOf pass) short top (now (splits .entry)) (w / 4) (h / 4))
         (record { y = now (y .entry); u = now (u .entry); v = now (v .entry) }) (record { y = now (y .exit); u = now (u .exit); v = now (v .exit) }) r ⌝ }
 {
@@ -71,13 +72,36 @@ pub(crate) fn deblock_pass(
     };
     let roots = (w + 63) / 64 * ((h + 63) / 64);
     let mut list = [0u16; 512];
-    let mut at = [0u8; 256];
+    let mut places = [0u8; 256];
+    let mut marks = [0u8; 256];
     let mut count = 0;
     for i in 0..roots {
         let n = root_edges(pass, short, w, h, top, splits, i, &mut list);
-        places(pass, size.columns, words, motion, refs, &list, n, &mut at);
-        filter_luma(pass, size, &mut *y, entries, &list, &at, n);
-        filter_colour(format, pass, size, &mut *u, &mut *v, entries, &list, &at, n);
+        plan(
+            pass,
+            size.columns,
+            words,
+            motion,
+            refs,
+            keep,
+            &list,
+            n,
+            &mut places,
+            &mut marks,
+        );
+        filter_luma(pass, size, &mut *y, entries, &list, &places, &marks, n);
+        filter_colour(
+            format,
+            pass,
+            size,
+            &mut *u,
+            &mut *v,
+            entries,
+            &list,
+            &places,
+            &marks,
+            n,
+        );
         count += n;
     }
     count

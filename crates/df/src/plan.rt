@@ -1,13 +1,14 @@
-// What the maps say of each edge of a list: the place of its strength. No plane is looked at.
+// What the maps say of each edge of a list: the place of its strength, and its keep marks. No plane is looked at.
 // The Rust beside it: df.rs, evc_get_tbl_qp_to_st.
 ghost use mathlib.Core.Path.{_≡_};
 ghost use Prim.Native.Nat.{_+_, _*_, _/_, _≤_, _<_};
 ghost use lib.ListN.{length, getD};
 ghost use Rattle.split.specs.Edges.{edge};
-ghost use Rattle.df_rules.specs.Strength.{motionAt, rowAt};
-ghost use Rattle.df_rules.specs.Frame.{Unit};
+ghost use Rattle.df_rules.specs.Strength.{motionAt, rowBy};
+ghost use Rattle.df_rules.specs.Frame.{Unit, Marked};
+ghost use Rattle.df_rules.specs.Places.{stepAcross, unitQ, unitP};
 ghost use Rattle.df.specs.Edges.{passOf};
-ghost use Rattle.df.specs.Plan.{placeAt, Known, Knowns, Placed};
+ghost use Rattle.df.specs.Plan.{placeBy, marksBy, Knowns, Planned};
 use crate::place::Pass;
 use crate::place::step_across;
 use def::Pel;
@@ -45,7 +46,7 @@ fn motion_at(motion: &[i16], refs: &[i8], k: usize) -> Motion
 // evc_get_tbl_qp_to_st: the strength row of the edge between the units q and p.
 fn row_at(words: &[u32], motion: &[i16], refs: &[i8], q: usize, p: usize) -> usize
     requires { ⌜ Unit (now words) (now motion) (now refs) q × Unit (now words) (now motion) (now refs) p ⌝ }
-    ensures { λ r. ⌜ (r ≡ rowAt (record { words = now (words .entry); motion = now (motion .entry); refs = now (refs .entry) }) q p) × (r ≤ 3) ⌝ }
+    ensures { λ r. ⌜ (r ≡ rowBy (now (words .entry)) (now (motion .entry)) (now (refs .entry)) q p) × (r ≤ 3) ⌝ }
 {
     let a = words[q];
     let b = words[p];
@@ -58,41 +59,59 @@ fn row_at(words: &[u32], motion: &[i16], refs: &[i8], q: usize, p: usize) -> usi
     motion_row(motion_at(motion, refs, q), motion_at(motion, refs, p))
 }
 
-// The place of an edge's strength in a plane's 208 entries, 52 * row + QP: (x, y) is Q's first luma sample.
-fn place_at(
-    pass: Pass,
-    columns: usize,
-    words: &[u32],
-    motion: &[i16],
-    refs: &[i8],
-    x: Pel,
-    y: Pel,
-) -> u8
-    requires { ⌜ Known (passOf pass) columns (now words) (now motion) (now refs) (x .0) (y .0) ⌝ }
-    ensures { λ r. ⌜ r ≡ placeAt (record { words = now (words .entry); motion = now (motion .entry); refs = now (refs .entry) }) (passOf pass) columns (edge (x .0 / 4) (y .0 / 4)) ⌝ }
+// The place of an edge's strength in a plane's 208 entries, 52 * row + QP.
+fn place_at(words: &[u32], motion: &[i16], refs: &[i8], q: usize, p: usize) -> u8
+    requires { ⌜ Unit (now words) (now motion) (now refs) q × Unit (now words) (now motion) (now refs) p ⌝ }
+    ensures { λ r. ⌜ r ≡ placeBy (now (words .entry)) (now (motion .entry)) (now (refs .entry)) q p ⌝ }
 {
-    let q = pel2scu(y).0 * columns + pel2scu(x).0;
-    let p = q - step_across(pass, columns);
     (52 * row_at(words, motion, refs, q, p) + get_qp(words[q])) as u8
 }
 
-// Those of a list's first n edges.
-pub(crate) fn places(
+// The keep marks of an edge's units as one number: P's, and twice Q's.
+fn marks_at(keep: &[u8], q: usize, p: usize) -> u8
+    requires { ⌜ Marked (now keep) q × Marked (now keep) p ⌝ }
+    ensures { λ r. ⌜ r ≡ marksBy (now (keep .entry)) q p ⌝ }
+{
+    keep[p] + 2 * keep[q]
+}
+
+// An edge's units in the maps: Q, and P before it.
+struct Units {
+    q: usize,
+    p: usize,
+}
+
+// (x, y) is Q's first luma sample.
+fn units_at(pass: Pass, columns: usize, x: Pel, y: Pel) -> Units
+    requires { ⌜ (columns ≤ 1024) × (x .0 ≤ 4096) × (y .0 ≤ 4096) × (stepAcross (passOf pass) columns ≤ unitQ columns (edge (x .0 / 4) (y .0 / 4))) ⌝ }
+    ensures { λ r. ⌜ (r .q ≡ unitQ columns (edge (x .0 / 4) (y .0 / 4))) × (r .p ≡ unitP (passOf pass) columns (edge (x .0 / 4) (y .0 / 4))) ⌝ }
+{
+    let q = pel2scu(y).0 * columns + pel2scu(x).0;
+    let p = q - step_across(pass, columns);
+    Units { q, p }
+}
+
+// The plan of a list's first n edges: for each the place of its strength, and its marks.
+pub(crate) fn plan(
     pass: Pass,
     columns: usize,
     words: &[u32],
     motion: &[i16],
     refs: &[i8],
+    keep: &[u8],
     list: &[u16],
     n: usize,
-    out: &mut [u8],
+    places: &mut [u8],
+    marks: &mut [u8],
 )
-    requires { ⌜ Knowns (passOf pass) columns (now words) (now motion) (now refs) (now list) n (length (now out)) ⌝ }
-    ensures { λ _. ⌜ Placed (record { words = now (words .entry); motion = now (motion .entry); refs = now (refs .entry) }) (passOf pass) columns (now (list .entry)) n (now (out .exit)) ⌝ }
+    requires { ⌜ Knowns (passOf pass) columns (now words) (record { motion = now motion; refs = now refs; keep = now keep }) (now list) n (now places) (now marks) ⌝ }
+    ensures { λ _. ⌜ Planned (record { words = now (words .entry); over = record { motion = now (motion .entry); refs = now (refs .entry); keep = now (keep .entry) } }) (passOf pass) columns (now (list .entry)) n (now (places .exit)) (now (marks .exit)) ⌝ }
 {
     for k in 0..n {
         let x = Pel(number_at(list, 2 * k));
         let y = Pel(number_at(list, 2 * k + 1));
-        out[k] = place_at(pass, columns, words, motion, refs, x, y);
+        let u = units_at(pass, columns, x, y);
+        places[k] = place_at(words, motion, refs, u.q, u.p);
+        marks[k] = marks_at(keep, u.q, u.p);
     }
 }

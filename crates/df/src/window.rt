@@ -2,7 +2,7 @@
 // line by line, or row by row where the lines lie side by side.
 // The Rust beside it: df.rs, deblock_scu_hor_luma, deblock_scu_hor_chroma, deblock_scu_ver_luma, deblock_scu_ver_chroma.
 ghost use mathlib.Core.Path.{_≡_};
-ghost use mathlib.Core.Bool.{true};
+ghost use mathlib.Core.Bool.{true, false};
 ghost use Prim.Native.Nat.{_+_, _-_, _*_, _≤_, _<_};
 ghost use lib.ListN.{length, getD};
 ghost use Rattle.def.specs.declared.Component.the-variants.{Luma, Chroma};
@@ -150,13 +150,13 @@ fn copy_rows(
 
 // ---- a unit's edge
 
-// Four lines of luma: gathered, filtered side by side and written back. Where they lie side by side a row has 4 samples, and in chroma 2, numbers that
+// Four lines of luma, neither unit kept: gathered, filtered side by side and written back. Where they lie side by side a row has 4 samples, and in chroma 2, numbers that
 // stand here for the compiler to see: it copies such a row at once.
 pub(crate) fn luma(rows: bool, y: &mut [u16], p: Place, st: u16)
     requires { ⌜ (rows ≡ true → Beside p 4) × Lying p 4 (now y) ⌝ }
-    ensures { λ _. ⌜ now (y .exit) ≡ windowAt (maskOf Luma) st (p .step) (p .next) (p .at) 4 (now (y .entry)) ⌝ }
+    ensures { λ _. ⌜ now (y .exit) ≡ windowAt (maskOf Luma false false) st (p .step) (p .next) (p .at) 4 (now (y .entry)) ⌝ }
 {
-    let all = line::mask_of(Component::Luma);
+    let all = line::mask_of(Component::Luma, false, false);
     if rows {
         let mut t = [0u16; 32];
         copy_rows(&mut t, all, 0, 8, &*y, p.at, p.step, 4);
@@ -169,13 +169,23 @@ pub(crate) fn luma(rows: bool, y: &mut [u16], p: Place, st: u16)
     scatter(y, all, &r, 0, 4, p);
 }
 
+// n lines of a plane beside a kept unit: what the mask says of them is written.
+pub(crate) fn kept_lines(s: &mut [u16], mask: Mask, n: usize, p: Place, st: u16)
+    requires { ⌜ (n ≤ 4) × Lying p n (now s) ⌝ }
+    ensures { λ _. ⌜ now (s .exit) ≡ windowAt mask st (p .step) (p .next) (p .at) n (now (s .entry)) ⌝ }
+{
+    let t = gather([0; 32], &*s, 0, n, p);
+    let r = lanes::lanes(t, [st, st, st, st, 0, 0, 0, 0]);
+    scatter(s, mask, &r, 0, n, p);
+}
+
 // Two lines of each chroma plane.
 pub(crate) fn chroma(rows: bool, u: &mut [u16], v: &mut [u16], p: Place, su: u16, sv: u16)
     requires { ⌜ (rows ≡ true → Beside p 2) × Lying p 2 (now u) × Lying p 2 (now v) ⌝ }
-    ensures { λ _. ⌜ (now (u .exit) ≡ windowAt (maskOf Chroma) su (p .step) (p .next) (p .at) 2 (now (u .entry))) × (now (v .exit) ≡ windowAt (maskOf Chroma) sv (p .step) (p .next) (p .at) 2 (now (v .entry))) ⌝ }
+    ensures { λ _. ⌜ (now (u .exit) ≡ windowAt (maskOf Chroma false false) su (p .step) (p .next) (p .at) 2 (now (u .entry))) × (now (v .exit) ≡ windowAt (maskOf Chroma false false) sv (p .step) (p .next) (p .at) 2 (now (v .entry))) ⌝ }
 {
-    let all = line::mask_of(Component::Luma);
-    let inner = line::mask_of(Component::Chroma);
+    let all = line::mask_of(Component::Luma, false, false);
+    let inner = line::mask_of(Component::Chroma, false, false);
     if rows {
         let mut t = [0u16; 32];
         copy_rows(&mut t, all, 0, 8, &*u, p.at, p.step, 2);

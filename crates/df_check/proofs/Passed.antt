@@ -2,21 +2,22 @@
 --     lengths-told    the lengths, one by one
 --     rest-passed    what comes from the lengths on, from `fromLengths .. i ≡ Done`
 --     passed    everything, from `checkOf i ≡ Done`
---     word-any    a QP read at any place, since past the words there is 0
+--     word-any, mark-any    a QP and a keep mark read at any place, since past the map there is 0
 -- Assumes nothing.
 use Prim.Native.Nat.{ℕ, _*_, _/_, _≤_, _<_}
 use mathlib.Core.Path.{_≡_, refl, subst}
-use mathlib.Core.Bool.{true}
+use mathlib.Core.Bool.{Bool, true}
 use mathlib.Core.List.{List, [], _∷_}
 use native.Mathlib.Nat.{mul-zero}
 use native.Mathlib.Decide.{decLt}
 use native.Mathlib.Omega.{arith}
-use borrow.Author.Tests.{eqb-true, leb-true}
+use borrow.Author.Tests.{eqb-true, leb-true, le-leb}
 use lib.Dec.{leb}
 use lib.IntN.{ℤ}
 use lib.ListN.{length, getD, drop, List·getD-eq-default}
 use lib.Signed.{leZ}
 use Rattle.laws.specs.Bits.{fieldOf}
+use Rattle.laws.specs.Scan.{allIn}
 use Rattle.laws.proofs.Calls.{all-at}
 use Rattle.laws.proofs.Scans.{scan-at}
 use Rattle.def.specs.Answers.{afterChecks}
@@ -30,7 +31,7 @@ use Rattle.samples.specs.Samples.{samplesOk}
 use Rattle.samples.proofs.Samples.{sample-any}
 use Rattle.split.specs.ListCall.{limitOk}
 use Rattle.split.specs.Picture.{pictureWalk}
-use Rattle.df_check.specs.Checks.{Input, colourLength, tableLength, lengthTests, lengthsOf, lengthsOk, leastOffset, mostOffset, offsetOk, settingsOk, qpsOk, planesOk, fromLengths, checkOf}
+use Rattle.df_check.specs.Checks.{Input, colourLength, tableLength, lengthTests, lengthsOf, lengthsOk, leastOffset, mostOffset, offsetOk, settingsOk, keepOk, qpsOk, planesOk, fromLengths, checkOf}
 use Rattle.df_check.specs.declared.check.Lengths.{Lengths}
 use Rattle.df_check.proofs.Formats.{none-before}
 
@@ -44,6 +45,7 @@ pub record LengthsTold (f : Format) (w lent own : ℕ) (n : Lengths) : Type 0 wh
   pub splits : n .splits ≡ 1024 * rootCount w own
   pub motion : n .motion ≡ 4 * unitCount w lent
   pub refs : n .refs ≡ 2 * unitCount w lent
+  pub keep : n .keep ≡ unitCount w lent
   pub table0 : n .table0 ≡ tableLength f
   pub table1 : n .table1 ≡ tableLength f
   pub strengths : n .strengths ≡ 208
@@ -59,9 +61,10 @@ lengths-told f w lent own n e =
       splits = eqb-true _ _ (all-at (lengthTests f w lent own n) 4 e);
       motion = eqb-true _ _ (all-at (lengthTests f w lent own n) 5 e);
       refs = eqb-true _ _ (all-at (lengthTests f w lent own n) 6 e);
-      table0 = eqb-true _ _ (all-at (lengthTests f w lent own n) 7 e);
-      table1 = eqb-true _ _ (all-at (lengthTests f w lent own n) 8 e);
-      strengths = eqb-true _ _ (all-at (lengthTests f w lent own n) 9 e);
+      keep = eqb-true _ _ (all-at (lengthTests f w lent own n) 7 e);
+      table0 = eqb-true _ _ (all-at (lengthTests f w lent own n) 8 e);
+      table1 = eqb-true _ _ (all-at (lengthTests f w lent own n) 9 e);
+      strengths = eqb-true _ _ (all-at (lengthTests f w lent own n) 10 e);
     }
 
 -- ---- all of them
@@ -91,6 +94,7 @@ pub record Rest (lent own before : ℕ) (i : Input) : Type 0 where
   pub lengths : LengthsTold (i .settings .format) (i .w) lent own (lengthsOf i)
   pub settings : settingsOk (i .settings) ≡ true
   pub walk : pictureWalk (i .splits) (i .w / 4) (own / 4) .answer ≡ Done
+  pub marks : keepOk (drop (unitCount (i .w) before) (i .keep)) ≡ true
   pub qps : qpsOk (drop (unitCount (i .w) before) (i .words)) ≡ true
   pub y : samplesOk (drop (lumaLength (i .w) before) (i .y)) ≡ true
   pub u : samplesOk (drop (colourLength (i .settings .format) (i .w) before) (i .u)) ≡ true
@@ -102,7 +106,8 @@ rest-passed lent own before i e =
     let lengths = passes _ _ _ e in
     let settings = passes _ _ _ (lengths .rest) in
     let walk = onward _ _ (settings .rest) in
-    let qps = passes _ _ _ (walk .rest) in
+    let marks = passes _ _ _ (walk .rest) in
+    let qps = passes _ _ _ (marks .rest) in
     let planes = passes _ _ _ (qps .rest) .holds in
     let c = colourLength (i .settings .format) (i .w) before in
     let samples = samplesOk (drop (lumaLength (i .w) before) (i .y)) ∷ samplesOk (drop c (i .u)) ∷ samplesOk (drop c (i .v)) ∷ [] in
@@ -110,6 +115,7 @@ rest-passed lent own before i e =
       lengths = lengths-told (i .settings .format) (i .w) lent own (lengthsOf i) (lengths .holds);
       settings = settings .holds;
       walk = walk .accepted;
+      marks = marks .holds;
       qps = qps .holds;
       y = all-at samples 0 planes;
       u = all-at samples 1 planes;
@@ -121,13 +127,20 @@ no-word : qpOf 0 ≤ 51
 unfolding fieldOf
 no-word = omega arith
 
--- a QP at any place: past the words there is 0
+-- at any place: past a map there is 0
+any-in : (f : ℕ → Bool) (l : List ℕ) → f 0 ≡ true → allIn 0 f l ≡ true → (k : ℕ) → f (getD l k 0) ≡ true
+any-in f l z e k = go (decLt k (length l)) where
+  go : Dec (k < length l) → f (getD l k 0) ≡ true
+  go (yes h) = scan-at (λ (j : ℕ). f (getD l j 0)) (length l) k h e
+  go (no h) = let out : length l ≤ k = omega arith in rw (List·getD-eq-default l 0 out) z
+
 pub word-any : (l : List ℕ) → qpsOk l ≡ true → (k : ℕ) → qpOf (getD l k 0) ≤ 51
 unfolding qpsOk
-word-any l e k = go (decLt k (length l)) where
-  go : Dec (k < length l) → qpOf (getD l k 0) ≤ 51
-  go (yes h) = leb-true _ _ (scan-at (λ (j : ℕ). leb (qpOf (getD l j 0)) 51) (length l) k h e)
-  go (no h) = let out : length l ≤ k = omega arith in rw (List·getD-eq-default l 0 out) no-word
+word-any l e k = leb-true _ _ (any-in (λ (v : ℕ). leb (qpOf v) 51) l (le-leb (qpOf 0) 51 no-word) e k)
+
+pub mark-any : (l : List ℕ) → keepOk l ≡ true → (k : ℕ) → getD l k 0 ≤ 1
+unfolding keepOk
+mark-any l e k = leb-true _ _ (any-in (λ (v : ℕ). leb v 1) l refl e k)
 
 pub record Passed (i : Input) : Type 0 where
   pub size : sizeOk (i .w) (i .h) ≡ true
@@ -136,6 +149,7 @@ pub record Passed (i : Input) : Type 0 where
   pub u-offset : Offset (i .settings .format) (i .settings .«u_offset»)
   pub v-offset : Offset (i .settings .format) (i .settings .«v_offset»)
   pub walk : pictureWalk (i .splits) (i .w / 4) (i .h / 4) .answer ≡ Done
+  pub mark : (k : ℕ) → getD (i .keep) k 0 ≤ 1
   pub qp : (k : ℕ) → qpOf (getD (i .words) k 0) ≤ 51
   pub y : (k : ℕ) → getD (i .y) k 0 ≤ 1023
   pub u : (k : ℕ) → getD (i .u) k 0 ≤ 1023
@@ -156,6 +170,7 @@ passed i e =
       u-offset = offset-told (s .format) (s .«u_offset») (all-at tests 1 (rest .settings));
       v-offset = offset-told (s .format) (s .«v_offset») (all-at tests 2 (rest .settings));
       walk = rest .walk;
+      mark = mark-any (i .keep) (subst (λ (n : ℕ). keepOk (drop n (i .keep)) ≡ true) (mul-zero (i .w / 4)) (rest .marks));
       qp = word-any (i .words) words;
       y = λ k. sample-any (i .y) k (subst (λ (n : ℕ). samplesOk (drop n (i .y)) ≡ true) (mul-zero (i .w)) (rest .y));
       u = λ k. sample-any (i .u) k (subst (λ (n : ℕ). samplesOk (drop n (i .u)) ≡ true) (none-before (s .format) (i .w)) (rest .u));

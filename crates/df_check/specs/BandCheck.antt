@@ -1,5 +1,5 @@
--- What deblocking of a band refuses: 1, 14, 2, 3, then 4 or 5 as the walk meets them, 6, 7. Lent are the band above, if any, and the band, and the band's own
--- split bytes; 6 and 7 judge the band and the row of units above it.
+-- What deblocking of a band refuses: 1, 14, 2, 3, then 4 or 5 as the walk meets them, 15, 6, 7. Lent are the band above, if any, and the band, and the band's own
+-- split bytes; 15, 6 and 7 judge the band and the row of units above it.
 -- Assumes nothing: these are definitions.
 use Prim.Native.Nat.{ℕ, _+_, _-_, _*_, _/_}
 use mathlib.Core.Bool.{Bool, _&&_}

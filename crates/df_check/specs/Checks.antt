@@ -1,4 +1,4 @@
--- What deblocking refuses, of a picture or of a part of it: 1, 2, 3, then 4 or 5 as the walk meets them, 6, 7.
+-- What deblocking refuses, of a picture or of a part of it: 1, 2, 3, then 4 or 5 as the walk meets them, 15, 6, 7.
 -- Assumes nothing: these are definitions.
 use Prim.Native.Nat.{ℕ, _*_, _/_}
 use mathlib.Core.Bool.{Bool, _&&_}
@@ -17,7 +17,7 @@ use Rattle.def.specs.declared.Answer.{Answer}
 use Rattle.def.specs.declared.Answer.the-variants.{Done, Refused}
 use Rattle.def.specs.declared.Format.{Format}
 use Rattle.def.specs.declared.Format.the-variants.{Grey, Colour}
-use Rattle.def.specs.declared.Refusal.the-variants.{Size, Length, Setting, Qp, Sample}
+use Rattle.def.specs.declared.Refusal.the-variants.{Size, Length, Setting, Keep, Qp, Sample}
 use Rattle.samples.specs.Samples.{samplesOk}
 use Rattle.split.specs.ListCall.{limitOk}
 use Rattle.split.specs.Picture.{pictureWalk}
@@ -31,7 +31,7 @@ colourLength f w h = inFormat f (chromaLength w h)
 abbrev pub tableLength : Format → ℕ
 tableLength f = inFormat f 70
 
--- 2, of what is lent, `lent` rows of luma samples, and of the split bytes of the `own` among them: four numbers of motion and two references a unit,
+-- 2, of what is lent, `lent` rows of luma samples, and of the split bytes of the `own` among them: four numbers of motion, two references and a keep mark a unit,
 -- 1,024 split bytes a root, four rows of 52 entries. A grey picture has no U, no V and no tables
 abbrev pub lengthTests : Format → (w lent own : ℕ) → Lengths → List Bool
 lengthTests f w lent own n =
@@ -42,6 +42,7 @@ lengthTests f w lent own n =
     ∷ eqb (n .splits) (1024 * rootCount w own)
     ∷ eqb (n .motion) (4 * unitCount w lent)
     ∷ eqb (n .refs) (2 * unitCount w lent)
+    ∷ eqb (n .keep) (unitCount w lent)
     ∷ eqb (n .table0) (tableLength f)
     ∷ eqb (n .table1) (tableLength f)
     ∷ eqb (n .strengths) 208
@@ -65,6 +66,10 @@ offsetOk f z = leZ (leastOffset f) z && leZ z (mostOffset f)
 unfoldable pub settingsOk : Settings → Bool
 settingsOk s = allOf (limitOk (s .limit) ∷ offsetOk (s .format) (s .«u_offset») ∷ offsetOk (s .format) (s .«v_offset») ∷ [])
 
+-- 15: a keep mark that is neither 0 nor 1, of every unit, on an edge or not
+unfoldable pub keepOk : (keep : List ℕ) → Bool
+keepOk keep = allIn 0 (λ (mark : ℕ). leb mark 1) keep
+
 -- 6: a QP over 51, of every unit, on an edge or not
 unfoldable pub qpsOk : (words : List ℕ) → Bool
 qpsOk words = allIn 0 (λ (word : ℕ). leb (qpOf word) 51) words
@@ -84,6 +89,7 @@ pub record Input : Type 0 where
   pub splits : List ℕ
   pub motion : ℕ
   pub refs : ℕ
+  pub keep : List ℕ
   pub table0 : ℕ
   pub table1 : ℕ
   pub strengths : ℕ
@@ -99,6 +105,7 @@ lengthsOf i =
       splits = length (i .splits);
       motion = i .motion;
       refs = i .refs;
+      keep = length (i .keep);
       table0 = i .table0;
       table1 = i .table1;
       strengths = i .strengths;
@@ -112,9 +119,10 @@ fromLengths lent own before i =
     unless (lengthsOk f (i .w) lent own (lengthsOf i)) (Refused Length)
     (unless (settingsOk (i .settings)) (Refused Setting)
     (afterChecks Refused
+    (unless (keepOk (drop (unitCount (i .w) before) (i .keep))) (Refused Keep)
     (unless (qpsOk (drop (unitCount (i .w) before) (i .words))) (Refused Qp)
     (unless (planesOk (drop (lumaLength (i .w) before) (i .y)) (drop (colourLength f (i .w) before) (i .u)) (drop (colourLength f (i .w) before) (i .v))) (Refused Sample)
-    Done))
+    Done)))
     (pictureWalk (i .splits) (i .w / 4) (own / 4) .answer)))
 
 -- of a whole picture

@@ -50,6 +50,7 @@ pub fn checked_band(
     splits: &[u8],
     motion: usize,
     refs: usize,
+    keep: &[u8],
     table0: usize,
     table1: usize,
     strengths: usize,
@@ -69,6 +70,7 @@ pub fn checked_band(
             splits = now (splits .entry);
             motion = motion;
             refs = refs;
+            keep = now (keep .entry);
             table0 = table0;
             table1 = table1;
             strengths = strengths;
@@ -99,6 +101,7 @@ pub fn checked_band(
         splits,
         motion,
         refs,
+        keep,
         table0,
         table1,
         strengths,

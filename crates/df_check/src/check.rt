@@ -1,4 +1,4 @@
-// What deblocking refuses, and in which order: 1, 2, 3, then 4 or 5 as the walk meets them, 6, 7. The Rust takes all of it to be right, and has no grey
+// What deblocking refuses, and in which order: 1, 2, 3, then 4 or 5 as the walk meets them, 15, 6, 7. The Rust takes all of it to be right, and has no grey
 // pictures.
 ghost use mathlib.Core.Bool.{true};
 ghost use mathlib.Core.Path.{_≡_};
@@ -7,7 +7,7 @@ ghost use Rattle.laws.specs.Call.{Gives};
 ghost use Rattle.def.specs.Formats.{inFormat};
 ghost use Rattle.def.specs.Picture.{sizeOk};
 ghost use Rattle.def.proofs.Sizes.{Sized};
-ghost use Rattle.df_check.specs.Checks.{lengthsOk, leastOffset, mostOffset, offsetOk, settingsOk, qpsOk, planesOk, fromLengths, checkOf};
+ghost use Rattle.df_check.specs.Checks.{lengthsOk, leastOffset, mostOffset, offsetOk, settingsOk, keepOk, qpsOk, planesOk, fromLengths, checkOf};
 use crate::Settings;
 use def::Answer;
 use def::Format;
@@ -34,6 +34,7 @@ struct Lengths {
     splits: usize,
     motion: usize,
     refs: usize,
+    keep: usize,
     table0: usize,
     table1: usize,
     strengths: usize,
@@ -55,6 +56,7 @@ fn lengths_ok(format: Format, w: usize, lent: usize, own: usize, n: Lengths) -> 
         & (n.splits == 1024 * roots)
         & (n.motion == 4 * units)
         & (n.refs == 2 * units)
+        & (n.keep == units)
         & (n.table0 == table)
         & (n.table1 == table)
         & (n.strengths == 208)
@@ -94,6 +96,21 @@ fn settings_ok(s: Settings) -> bool
     ((s.limit == 5) | (s.limit == 6))
         & offset_ok(format, s.u_offset)
         & offset_ok(format, s.v_offset)
+}
+
+// ---- 15: keep marks
+
+// No way out at the first that fails, so that many marks are compared at a time.
+fn keep_ok(keep: &[u8]) -> bool
+    ensures { λ r. ⌜ r ≡ keepOk (now (keep .entry)) ⌝ }
+{
+    let mut ok = true;
+    let mut i = 0;
+    while i < keep.len() {
+        ok = ok & (keep[i] <= 1);
+        i += 1;
+    }
+    ok
 }
 
 // ---- 6: QPs
@@ -137,6 +154,7 @@ pub(crate) fn from_lengths(
     splits: &[u8],
     motion: usize,
     refs: usize,
+    keep: &[u8],
     table0: usize,
     table1: usize,
     strengths: usize,
@@ -154,6 +172,7 @@ pub(crate) fn from_lengths(
           splits = now (splits .entry);
           motion = motion;
           refs = refs;
+          keep = now (keep .entry);
           table0 = table0;
           table1 = table1;
           strengths = strengths;
@@ -168,6 +187,7 @@ pub(crate) fn from_lengths(
         splits: splits.len(),
         motion,
         refs,
+        keep: keep.len(),
         table0,
         table1,
         strengths,
@@ -183,6 +203,9 @@ pub(crate) fn from_lengths(
         return Answer::Refused(r);
     }
     let units = w / 4 * (before / 4);
+    if !keep_ok(&keep[units..]) {
+        return Answer::Refused(Refusal::Keep);
+    }
     if !qps_ok(&words[units..]) {
         return Answer::Refused(Refusal::Qp);
     }
@@ -206,6 +229,7 @@ pub fn checked(
     splits: &[u8],
     motion: usize,
     refs: usize,
+    keep: &[u8],
     table0: usize,
     table1: usize,
     strengths: usize,
@@ -222,6 +246,7 @@ pub fn checked(
           splits = now (splits .entry);
           motion = motion;
           refs = refs;
+          keep = now (keep .entry);
           table0 = table0;
           table1 = table1;
           strengths = strengths;
@@ -245,6 +270,7 @@ pub fn checked(
         splits,
         motion,
         refs,
+        keep,
         table0,
         table1,
         strengths,

@@ -20,28 +20,28 @@ few s =
     omega (arith, mul-le-mul-right {m = s .args .top} {n = 1024} (s .args .w / 4) high, s .pre .0 .wide)
 
 mul-from : tie.Need-mul-from
-mul-from c = omega (arith, few (c .before .before .before .before .before .before .before .before .before .before .before .before .before .before .before .before .before .before .before .before .before .before .before .before .before .before .before .before))
+mul-from c = omega (arith, few (c .before .before .before .before .before .before .before .before .before .before .before .before .before .before .before .before .before .before .before .before .before .before .before .before .before .before .before .before .before))
 
 mul-all-done : tie.Need-mul-all-done
-mul-all-done c = omega (arith, few (c .before .before .before .before .before .before .before .before .before .before .before .before .before .before .before .before .before .before .before .before .before .before .before .before .before .before .before .before))
+mul-all-done c = omega (arith, few (c .before .before .before .before .before .before .before .before .before .before .before .before .before .before .before .before .before .before .before .before .before .before .before .before .before .before .before .before .before))
 
 sub-all-done : tie.Need-sub-all-done
-sub-all-done c = room (c .before .before .before .before .before .before .before .before .before .before .before .before .before .before .before .before .before .before .before .before .before .before .before .before .before .before .before .before)
+sub-all-done c = room (c .before .before .before .before .before .before .before .before .before .before .before .before .before .before .before .before .before .before .before .before .before .before .before .before .before .before .before .before .before)
 
 part-all-done-start : tie.Need-part-all-done-start
-part-all-done-start c = room (c .before .before .before .before .before .before .before .before .before .before .before .before .before .before .before .before .before .before .before .before .before .before .before .before .before .before .before .before)
+part-all-done-start c = room (c .before .before .before .before .before .before .before .before .before .before .before .before .before .before .before .before .before .before .before .before .before .before .before .before .before .before .before .before .before)
 
 deblock-pass-requires : tie.Need-deblock-pass-requires
-deblock-pass-requires c κs = (c .before .before .before .before .before .before .before .before .before .before .pre .0, c .before .before .before .before .before .before .before .before .before .before .pre .1)
+deblock-pass-requires c κs = (c .before .before .before .before .before .before .before .before .before .before .before .pre .0, c .before .before .before .before .before .before .before .before .before .before .before .pre .1)
 
 deblock-pass-requires-2 : tie.Need-deblock-pass-requires-2
 deblock-pass-requires-2 c κs =
-    let s = c .before .before .before .before .before .before .before .before .before .before .before .before .before .before .before .before .before .before .before .before .before in
+    let s = c .before .before .before .before .before .before .before .before .before .before .before .before .before .before .before .before .before .before .before .before .before .before in
     (frame-done (c .before .before .before .before .before .before .before .before .before .before .deblock-pass .ensures) (s .pre .0), s .pre .1)
 
 returns : tie.Need-returns
 returns c =
-    let s = c .before .before .before .before .before .before .before .before .before .before .before .before .before .before .before .before .before .before .before .before .before .before .before .before .before .before .before .before .before .before .before .before in
+    let s = c .before .before .before .before .before .before .before .before .before .before .before .before .before .before .before .before .before .before .before .before .before .before .before .before .before .before .before .before .before .before .before .before .before in
     both-done (c .before .before .before .before .before .before .before .before .before .before .before .before .before .before .before .before .before .before .before .before .before .deblock-pass .ensures) (c .before .before .before .before .before .before .before .before .before .before .deblock-pass2 .ensures) (end-put (s .args .top * (s .args .w / 4)) (s .args .words .now) allDone _ (c .before .before .all-done .ensures))
 
 pub both-passes-spec : {M : Type 1} → statement M

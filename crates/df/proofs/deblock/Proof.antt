@@ -24,6 +24,7 @@ inputOf s =
       splits = now (a .splits);
       motion = now (a .motion);
       refs = now (a .refs);
+      keep = now (a .keep);
       table0 = now (a .table0);
       table1 = now (a .table1);
       strengths = now (a .strengths);
@@ -34,21 +35,21 @@ returns : tie.Need-returns
 returns c = deblock-refused _ _ (c .before .before .before .checked .ensures) _ (c .before .found .given .1)
 
 -- the checks found nothing
-fine : (c : tie.After-enum-told) → check (inputOf (c .before .before .before .before .before .before .before .before .before .before .before .before .before)) ≡ Done
+fine : (c : tie.After-enum-told) → check (inputOf (c .before .before .before .before .before .before .before .before .before .before .before .before .before .before)) ≡ Done
 unfolding inputOf
 fine c = sym (c .before .before .checked .ensures) ∙ c .enum-told .given .1
 
 both-passes-requires : tie.Need-both-passes-requires
 unfolding inputOf
 both-passes-requires c κs =
-    let i = inputOf (c .before .before .before .before .before .before .before .before .before .before .before .before .before .before .before .before .before .before .before .before) in
+    let i = inputOf (c .before .before .before .before .before .before .before .before .before .before .before .before .before .before .before .before .before .before .before .before .before) in
     let e = fine (c .before .before .before .before .before .before .before) in
     (frame-zero (framed i e _ (ap length (c .before .before .before .before .before .before .entries-by .ensures) ∙ entries-long _ _ _ _ _)), accepted i e)
 
 returns-2 : tie.Need-returns-2
 unfolding inputOf
 returns-2 c =
-    deblock-done (inputOf (c .before .before .before .before .before .before .before .before .before .before .before .before .before .before .before .before .before .before .before .before .before .before .before .before .before .before .before .before .before)) (fine (c .before .before .before .before .before .before .before .before .before .before .before .before .before .before .before .before)) _ _ _ _ _ _ _ (c .before .before .before .before .before .before .before .before .before .before .before .before .before .before .before .entries-by .ensures) (both-zero _ _ _ (c .before .before .before .before .before .before .before .before .both-passes .ensures))
+    deblock-done (inputOf (c .before .before .before .before .before .before .before .before .before .before .before .before .before .before .before .before .before .before .before .before .before .before .before .before .before .before .before .before .before .before)) (fine (c .before .before .before .before .before .before .before .before .before .before .before .before .before .before .before .before)) _ _ _ _ _ _ _ (c .before .before .before .before .before .before .before .before .before .before .before .before .before .before .before .entries-by .ensures) (both-zero _ _ _ (c .before .before .before .before .before .before .before .before .both-passes .ensures))
 
 pub deblock-spec : {M : Type 1} → statement M
 deblock-spec =

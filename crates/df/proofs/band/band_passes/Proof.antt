@@ -29,21 +29,21 @@ same-planes a b c i = record { y = a i; u = b i; v = c i }
 
 both-passes-requires : tie.Need-both-passes-requires
 both-passes-requires c κs =
-    let s = c .before .before .before .before .before .before .before .before .before .before .before .before .before in
+    let s = c .before .before .before .before .before .before .before .before .before .before .before .before .before .before .before in
     let n = s .args .skip * (s .args .w / 4) in
-    let k = c .before .before .before .before .before .before .in-format .ensures in (
-      rw (whole-end (16 * n) (s .args .y .now), end-at k (s .args .u .now), end-at k (s .args .v .now), whole-end n (s .args .words .now), whole-end (4 * n) (s .args .motion .now), whole-end (2 * n) (s .args .refs .now)) (s .pre .0 .0),
+    let k = c .before .before .before .before .before .before .before .in-format .ensures in (
+      rw (whole-end (16 * n) (s .args .y .now), end-at k (s .args .u .now), end-at k (s .args .v .now), whole-end n (s .args .words .now), whole-end (4 * n) (s .args .motion .now), whole-end (2 * n) (s .args .refs .now), whole-end n (s .args .keep .now)) (s .pre .0 .0),
       s .pre .0 .1,
     )
 
 returns : tie.Need-returns
 returns c =
-    let s = c .before .before .before .before .before .before .before .before .before .before .before .before .before .before .before .before .before .before .before .before .before .before in
+    let s = c .before .before .before .before .before .before .before .before .before .before .before .before .before .before .before .before .before .before .before .before .before .before .before .before in
     let n = s .args .skip * (s .args .w / 4) in
-    let k = c .before .before .before .before .before .before .before .before .before .before .before .before .before .before .before .in-format .ensures in
+    let k = c .before .before .before .before .before .before .before .before .before .before .before .before .before .before .before .before .in-format .ensures in
     let b = c .before .before .before .before .before .before .before .before .both-passes in
     let r = s .pre .1 in
-    let e = rw (whole-end (16 * n) (s .args .y .now), end-at k (s .args .u .now), end-at k (s .args .v .now), whole-end n (s .args .words .now), whole-end (4 * n) (s .args .motion .now), whole-end (2 * n) (s .args .refs .now)) at (b .ensures) in (
+    let e = rw (whole-end (16 * n) (s .args .y .now), end-at k (s .args .u .now), end-at k (s .args .v .now), whole-end n (s .args .words .now), whole-end (4 * n) (s .args .motion .now), whole-end (2 * n) (s .args .refs .now), whole-end n (s .args .keep .now)) at (b .ensures) in (
       take-put (16 * n) (length (s .args .y .now) - 16 * n) (s .args .y .now) (b .last .1 .1 .1 .1 .1 .0) (r .0),
       front-at k (s .args .u .now) (b .last .1 .1 .1 .1 .1 .1 .0) (r .1),
       front-at k (s .args .v .now) (b .last .1 .1 .1 .1 .1 .1 .1 .0) (r .2),
@@ -57,27 +57,27 @@ returns c =
     )
 
 few : (s : tie.Start) → inFormat (s .args .format) (4 * (s .args .skip * (s .args .w / 4))) ≤ 65536
-few s = let l = s .pre .1 .6 in at-most (s .args .format) (4 * (s .args .skip * (s .args .w / 4))) 65536 (omega arith)
+few s = let l = s .pre .1 .7 in at-most (s .args .format) (4 * (s .args .skip * (s .args .w / 4))) 65536 (omega arith)
 
 mul-both-passes-2 : tie.Need-mul-both-passes-2
-mul-both-passes-2 c = omega (arith, c .before .in-format .ensures, few (c .before .before .before .before .before .before .before .before))
+mul-both-passes-2 c = omega (arith, c .before .in-format .ensures, few (c .before .before .before .before .before .before .before .before .before))
 
 sub-both-passes-2 : tie.Need-sub-both-passes-2
-sub-both-passes-2 c = omega (arith, c .before .in-format .ensures, c .before .before .before .before .before .before .before .before .pre .1 .1)
+sub-both-passes-2 c = omega (arith, c .before .in-format .ensures, c .before .before .before .before .before .before .before .before .before .pre .1 .1)
 
 part-both-passes-start-2 : tie.Need-part-both-passes-start-2
-part-both-passes-start-2 c = omega (arith, c .before .in-format .ensures, c .before .before .before .before .before .before .before .before .pre .1 .1)
+part-both-passes-start-2 c = omega (arith, c .before .in-format .ensures, c .before .before .before .before .before .before .before .before .before .pre .1 .1)
 
 mul-both-passes-3 : tie.Need-mul-both-passes-3
-mul-both-passes-3 c = omega (arith, c .before .before .in-format .ensures, few (c .before .before .before .before .before .before .before .before .before))
+mul-both-passes-3 c = omega (arith, c .before .before .in-format .ensures, few (c .before .before .before .before .before .before .before .before .before .before))
 
 sub-both-passes-3 : tie.Need-sub-both-passes-3
-sub-both-passes-3 c = omega (arith, c .before .before .in-format .ensures, c .before .before .before .before .before .before .before .before .before .pre .1 .2)
+sub-both-passes-3 c = omega (arith, c .before .before .in-format .ensures, c .before .before .before .before .before .before .before .before .before .before .pre .1 .2)
 
 part-both-passes-start-3 : tie.Need-part-both-passes-start-3
-part-both-passes-start-3 c = omega (arith, c .before .before .in-format .ensures, c .before .before .before .before .before .before .before .before .before .pre .1 .2)
+part-both-passes-start-3 c = omega (arith, c .before .before .in-format .ensures, c .before .before .before .before .before .before .before .before .before .before .pre .1 .2)
 
 pub band-passes-spec : {M : Type 1} → statement M
 band-passes-spec =
     tie.close
-    (tie.spec (λ c. search needs) (λ c. search needs) (λ c. search needs) (λ c κs. search needs) (λ c. search needs) (λ c. search needs) (λ c. search needs) (λ c. search needs) (λ c. search needs) (λ c. search needs) mul-both-passes-2 sub-both-passes-2 part-both-passes-start-2 (λ c. search needs) mul-both-passes-3 sub-both-passes-3 part-both-passes-start-3 (λ c. search needs) (λ c. search needs) (λ c. search needs) (λ c. search needs) (λ c. search needs) (λ c. search needs) (λ c. search needs) (λ c. search needs) (λ c. search needs) (λ c. search needs) (λ c. search needs) (λ c. search needs) both-passes-requires (λ c. search needs) (λ c. search needs) (λ c. search needs) (λ c. search needs) returns)
+    (tie.spec (λ c. search needs) (λ c. search needs) (λ c. search needs) (λ c κs. search needs) (λ c. search needs) (λ c. search needs) (λ c. search needs) (λ c. search needs) (λ c. search needs) (λ c. search needs) mul-both-passes-2 sub-both-passes-2 part-both-passes-start-2 (λ c. search needs) mul-both-passes-3 sub-both-passes-3 part-both-passes-start-3 (λ c. search needs) (λ c. search needs) (λ c. search needs) (λ c. search needs) (λ c. search needs) (λ c. search needs) (λ c. search needs) (λ c. search needs) (λ c. search needs) (λ c. search needs) (λ c. search needs) (λ c. search needs) (λ c. search needs) (λ c. search needs) (λ c. search needs) both-passes-requires (λ c. search needs) (λ c. search needs) (λ c. search needs) (λ c. search needs) returns)

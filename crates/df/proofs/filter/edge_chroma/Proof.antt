@@ -1,7 +1,7 @@
--- `df::filter::edge_chroma` meets its contract: at the edge's place in both planes, with the strengths at its place. Without a strength nothing changes. Assumes nothing.
+-- `df::filter::edge_chroma` meets its contract: at the edge's place in both planes, with the strengths at its place and by its marks. Without a strength nothing changes. Assumes nothing.
 use Prim.Native.Nat.{_*_, _/_}
 use mathlib.Core.Bool.{true}
-use mathlib.Core.Path.{_≡_, refl, sym, _∙_, subst}
+use mathlib.Core.Path.{_≡_, refl, sym, ap, _∙_, subst}
 use native.Mathlib.Omega.{arith}
 use borrow.Author.Needs.{needs}
 use borrow.Author.Tests.{eqb-true}
@@ -13,6 +13,7 @@ use Rattle.df_rules.proofs.Edges.{Spot, spot, inside}
 use Rattle.df_rules.proofs.Lanes.{apart-pass}
 use Rattle.df_rules.proofs.Windows.{untouched}
 use Rattle.df.specs.declared.window.Place.{Place}
+use Rattle.df.specs.Plan.{maskBy}
 use Rattle.df.specs.Edges.{passOf, placeOf, Inside, Beside, Lying}
 use Rattle.df.proofs.Edges.{edge-by}
 use Rattle.df.proofs.Rows.{beside-chroma}
@@ -30,8 +31,8 @@ returns c =
     let w = a .size .columns in
     let p = placeOf d (2 * w) (2 * (a .x / 4)) (2 * (a .z / 4)) in
     let t = and-true (eqb (c .before .before .strength-at .result) 0) (eqb (c .before .strength-at2 .result) 0) (c .if1 .taken) in (
-      edge-by Chroma d w (a .x / 4) (a .z / 4) _ _ p _ _ refl (c .before .before .strength-at .ensures) (untouched _ _ _ _ _ _ (a .u .now) (eqb-true _ _ (t .0))),
-      edge-by Chroma d w (a .x / 4) (a .z / 4) _ _ p _ _ refl (c .before .strength-at2 .ensures) (untouched _ _ _ _ _ _ (a .v .now) (eqb-true _ _ (t .1))),
+      edge-by Chroma d w (a .x / 4) (a .z / 4) _ _ _ (maskBy Chroma (a .marks)) p _ _ refl (c .before .before .strength-at .ensures) refl (untouched _ _ _ _ _ _ (a .u .now) (eqb-true _ _ (t .0))),
+      edge-by Chroma d w (a .x / 4) (a .z / 4) _ _ _ (maskBy Chroma (a .marks)) p _ _ refl (c .before .strength-at2 .ensures) refl (untouched _ _ _ _ _ _ (a .v .now) (eqb-true _ _ (t .1))),
     )
 
 place-requires : tie.Need-place-requires
@@ -75,17 +76,33 @@ beside c t =
     beside-chroma (passOf (a .pass)) (a .size .columns) (a .size .rows) (a .x / 4) (a .z / 4) _ (at-spot s .along) (is-place c) (eqb-true _ _ t)
 
 chroma-requires : tie.Need-chroma-requires
-chroma-requires c κs = let l = lies (c .before .before .before) in (beside (c .before .before .before), l .0, l .1)
+chroma-requires c κs = let l = lies (c .before .before .before .before) in (beside (c .before .before .before .before), l .0, l .1)
 
 returns-2 : tie.Need-returns-2
 returns-2 c =
-    let a = c .before .before .before .before .before .before .before .before .before .before .before .before .before .before .before .before .args in
-    let r = c .before .before .before .before .chroma .ensures in (
-      edge-by Chroma (passOf (a .pass)) _ _ _ _ _ _ _ _ (is-place (c .before .before .before .before .before .before .before .before)) (c .before .before .before .before .before .before .before .before .before .before .before .before .strength-at .ensures) (r .0),
-      edge-by Chroma (passOf (a .pass)) _ _ _ _ _ _ _ _ (is-place (c .before .before .before .before .before .before .before .before)) (c .before .before .before .before .before .before .before .before .before .before .before .strength-at2 .ensures) (r .1),
+    let a = c .before .before .before .before .before .before .before .before .before .before .before .before .before .before .before .before .before .args in
+    let r = c .before .before .before .before .chroma .ensures in
+    let m = ap (maskBy Chroma) (sym (c .before .before .before .before .before .before .before .before .if2 .taken)) in (
+      edge-by Chroma (passOf (a .pass)) _ _ _ _ _ _ _ _ _ _ (is-place (c .before .before .before .before .before .before .before .before .before)) (c .before .before .before .before .before .before .before .before .before .before .before .before .before .strength-at .ensures) m (r .0),
+      edge-by Chroma (passOf (a .pass)) _ _ _ _ _ _ _ _ _ _ (is-place (c .before .before .before .before .before .before .before .before .before)) (c .before .before .before .before .before .before .before .before .before .before .before .before .strength-at2 .ensures) m (r .1),
+    )
+
+kept-lines-requires : tie.Need-kept-lines-requires
+kept-lines-requires c κs = (omega arith, lies (c .before .before .before) .0)
+
+kept-lines-requires-2 : tie.Need-kept-lines-requires-2
+kept-lines-requires-2 c κs = (omega arith, lies (c .before .before .before .before .before .before .before) .1)
+
+returns-3 : tie.Need-returns-3
+returns-3 c =
+    let a = c .before .before .before .before .before .before .before .before .before .before .before .before .before .before .before .before .before .before .args in
+    let m = c .before .before .before .before .before .before .before .before .mask-by .ensures in (
+      edge-by Chroma (passOf (a .pass)) _ _ _ _ _ _ _ _ _ _ (is-place (c .before .before .before .before .before .before .before .before .before .before)) (c .before .before .before .before .before .before .before .before .before .before .before .before .before .before .strength-at .ensures) m (c .before .before .before .before .before .before .kept-lines .ensures),
+      edge-by Chroma (passOf (a .pass)) _ _ _ _ _ _ _ _ _ _ (is-place (c .before .before .before .before .before .before .before .before .before .before)) (c .before .before .before .before .before .before .before .before .before .before .before .before .before .strength-at2 .ensures) m (c .before .before .kept-lines2 .ensures),
     )
 
 pub edge-chroma-spec : {M : Type 1} → statement M
 edge-chroma-spec =
     tie.close
-    (tie.spec (λ c. search needs) (λ c κs. search needs) (λ c. search needs) (λ c κs. search needs) returns (λ c. search needs) place-requires chroma-requires (λ c. search needs) (λ c. search needs) returns-2)
+    (tie.spec (λ c. search needs) (λ c κs. search needs) (λ c. search needs) (λ c κs. search needs) returns (λ c. search needs) place-requires chroma-requires (λ c. search needs) (λ c. search needs) returns-2
+    (λ c κs. search needs) kept-lines-requires kept-lines-requires-2 (λ c. search needs) (λ c. search needs) returns-3)

@@ -1,7 +1,7 @@
--- `df::filter::edge_luma` meets its contract: at the edge's place, with the strength at its place. Without a strength nothing changes. Assumes nothing.
+-- `df::filter::edge_luma` meets its contract: at the edge's place, with the strength at its place and by its marks. Without a strength nothing changes. Assumes nothing.
 use Prim.Native.Nat.{_*_, _/_}
 use mathlib.Core.Bool.{true}
-use mathlib.Core.Path.{_≡_, refl, sym, _∙_, subst}
+use mathlib.Core.Path.{_≡_, refl, sym, ap, _∙_, subst}
 use native.Mathlib.Omega.{arith}
 use borrow.Author.Needs.{needs}
 use borrow.Author.Tests.{eqb-true}
@@ -12,6 +12,7 @@ use Rattle.df_rules.proofs.Edges.{Spot, spot, inside}
 use Rattle.df_rules.proofs.Lanes.{apart-pass}
 use Rattle.df_rules.proofs.Windows.{untouched}
 use Rattle.df.specs.declared.window.Place.{Place}
+use Rattle.df.specs.Plan.{maskBy}
 use Rattle.df.specs.Edges.{passOf, placeOf, Inside, Beside, Lying}
 use Rattle.df.proofs.Edges.{edge-by}
 use Rattle.df.proofs.Rows.{beside-luma}
@@ -27,7 +28,7 @@ returns c =
     let a = c .before .before .before .before .args in
     let d = passOf (a .pass) in
     let w = a .size .columns in
-    edge-by Luma d w (a .x / 4) (a .z / 4) _ _ (placeOf d (4 * w) (4 * (a .x / 4)) (4 * (a .z / 4))) _ _ refl (c .before .strength-at .ensures) (untouched _ _ _ _ _ _ (a .y .now) (c .if1 .taken))
+    edge-by Luma d w (a .x / 4) (a .z / 4) _ _ _ (maskBy Luma (a .marks)) (placeOf d (4 * w) (4 * (a .x / 4)) (4 * (a .z / 4))) _ _ refl (c .before .strength-at .ensures) refl (untouched _ _ _ _ _ _ (a .y .now) (c .if1 .taken))
 
 place-requires : tie.Need-place-requires
 place-requires c κs =
@@ -68,12 +69,22 @@ beside c t =
     beside-luma (passOf (a .pass)) (a .size .columns) (a .size .rows) (a .x / 4) (a .z / 4) _ (at-spot s .along) (is-place c) (eqb-true _ _ t)
 
 luma-requires : tie.Need-luma-requires
-luma-requires c κs = (beside (c .before .before), lies (c .before .before))
+luma-requires c κs = (beside (c .before .before .before), lies (c .before .before .before))
 
 returns-2 : tie.Need-returns-2
 returns-2 c =
-    let a = c .before .before .before .before .before .before .before .before .before .before .before .args in
-    edge-by Luma (passOf (a .pass)) _ _ _ _ _ _ _ _ (is-place (c .before .before .before .before .before)) (c .before .before .before .before .before .before .before .before .strength-at .ensures) (c .before .before .luma .ensures)
+    let a = c .before .before .before .before .before .before .before .before .before .before .before .before .args in
+    edge-by Luma (passOf (a .pass)) _ _ _ _ _ _ _ _ _ _ (is-place (c .before .before .before .before .before .before)) (c .before .before .before .before .before .before .before .before .before .strength-at .ensures) (ap (maskBy Luma) (sym (c .before .before .before .before .before .if2 .taken))) (c .before .before .luma .ensures)
+
+kept-lines-requires : tie.Need-kept-lines-requires
+kept-lines-requires c κs = (omega arith, lies (c .before .before .before))
+
+returns-3 : tie.Need-returns-3
+returns-3 c =
+    let a = c .before .before .before .before .before .before .before .before .before .before .before .before .args in
+    edge-by Luma (passOf (a .pass)) _ _ _ _ _ _ _ _ _ _ (is-place (c .before .before .before .before .before .before)) (c .before .before .before .before .before .before .before .before .before .strength-at .ensures) (c .before .before .before .mask-by .ensures) (c .before .before .kept-lines .ensures)
 
 pub edge-luma-spec : {M : Type 1} → statement M
-edge-luma-spec = tie.close (tie.spec (λ c κs. search needs) returns (λ c. search needs) place-requires luma-requires (λ c. search needs) returns-2)
+edge-luma-spec =
+    tie.close
+    (tie.spec (λ c κs. search needs) returns (λ c. search needs) place-requires luma-requires (λ c. search needs) returns-2 (λ c κs. search needs) kept-lines-requires (λ c. search needs) returns-3)

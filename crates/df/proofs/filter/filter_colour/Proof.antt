@@ -22,17 +22,17 @@ whole f w h xs e p = record { wide = p .wide; high = p .high; long = p .long ∙
 
 filter-chroma-requires : tie.Need-filter-chroma-requires
 filter-chroma-requires c κs =
-    let s = c .before .before .before .before .before .before .before .before .before in
+    let s = c .before .before .before .before .before .before .before .before .before .before in
     let e = c .before .before .enum-told2 .given .1 in
     (whole _ _ _ _ e (s .pre .0), whole _ _ _ _ e (s .pre .1), s .pre .2, s .pre .3)
 
 returns : tie.Need-returns
 returns c =
-    let s = c .before .before .before .before .before .before .before in
+    let s = c .before .before .before .before .before .before .before .before in
     let d = passOf (s .args .pass) in
     let e = c .enum-told .given .1 in (
-      plan-empty _ 208 Chroma d _ _ _ _ _ (none _ _ _ _ e (s .pre .0)),
-      plan-empty _ 416 Chroma d _ _ _ _ _ (none _ _ _ _ e (s .pre .1)),
+      plan-empty _ 208 Chroma d _ _ _ _ _ _ (none _ _ _ _ e (s .pre .0)),
+      plan-empty _ 416 Chroma d _ _ _ _ _ _ (none _ _ _ _ e (s .pre .1)),
     )
 
 returns-2 : tie.Need-returns-2

@@ -6,21 +6,26 @@ use borrow.Author.Needs.{needs}
 use lib.ListN.{length}
 use Rattle.def.proofs.Sizes.{Sized, sized}
 use Rattle.split.proofs.Roots.{few-roots, roots-units}
-use Rattle.df_rules.proofs.Frames.{Framed, frame-filtered}
+use Rattle.df_rules.specs.Strength.{Maps}
+use Rattle.df_rules.proofs.Frames.{Framed}
 use Rattle.df.specs.Edges.{passOf}
 use Rattle.df.proofs.Plans.{known, plan-few}
-use Rattle.df.proofs.Turns.{Roots, roots-none, roots-more, roots-all, luma-plane, u-plane, v-plane}
+use Rattle.df.proofs.Turns.{Roots, roots-none, roots-more, roots-frame, roots-all, luma-plane, u-plane, v-plane}
 use Rattle.df.proofs.pass.deblock_pass.Statement.{statement}
 use Rattle.df.proofs.pass.deblock_pass.Tie as tie
 
 abbrev Inv-loop : tie.InvT-loop
-Inv-loop format pass short w h top y₀ u₀ v₀ words splits motion refs entries size roots list₀ at₀ count₀ i₀ y u v list at count i =
-    (i ≤ roots) × (length y ≡ length y₀) × (length u ≡ length u₀) × (length v ≡ length v₀) × (length list ≡ 512) × (length at ≡ 256)
-    × Roots (record { words = words; motion = motion; refs = refs }) entries (passOf pass) short top splits (w / 4) (h / 4) i
+Inv-loop format pass short w h top y₀ u₀ v₀ words splits motion refs keep entries size roots list₀ places₀ marks₀ count₀ i₀ y u v list places marks count i =
+    (i ≤ roots) × (length y ≡ length y₀) × (length u ≡ length u₀) × (length v ≡ length v₀) × (length list ≡ 512) × (length places ≡ 256) × (length marks ≡ 256)
+    × Roots (record { words = words; over = record { motion = motion; refs = refs; keep = keep } }) entries (passOf pass) short top splits (w / 4) (h / 4) i
     (record { y = y₀; u = u₀; v = v₀ }) (record { y = y; u = u; v = v }) count
 
 abbrev μ-loop : tie.MeasureT-loop
-μ-loop format pass short w h top y₀ u₀ v₀ words splits motion refs entries size roots list₀ at₀ count₀ i₀ y u v list at count i = roots - i
+μ-loop format pass short w h top y₀ u₀ v₀ words splits motion refs keep entries size roots list₀ places₀ marks₀ count₀ i₀ y u v list places marks count i = roots - i
+
+-- what decides
+abbrev maps : tie.Start Inv-loop μ-loop → Maps
+maps s = record { words = s .args .words .now; over = record { motion = s .args .motion .now; refs = s .args .refs .now; keep = s .args .keep .now } }
 
 size : (s : tie.Start Inv-loop μ-loop) → Sized (s .args .w) (s .args .h)
 size s = sized _ _ (s .pre .1 .sides)
@@ -29,100 +34,109 @@ few : (s : tie.Start Inv-loop μ-loop) → (s .args .w + 63) / 64 * ((s .args .h
 few s = few-roots (s .args .w) (s .args .h) (size s .wide) (size s .high)
 
 add-roots : tie.Need-add-roots Inv-loop μ-loop
-add-roots c = omega (arith, c .before .before .before .before .before .before .pre .0 .high)
+add-roots c = omega (arith, c .before .before .before .before .before .before .before .pre .0 .high)
 
 add-roots-2 : tie.Need-add-roots-2 Inv-loop μ-loop
-add-roots-2 c = omega (arith, size (c .before .before .before .before .before .before) .wide)
+add-roots-2 c = omega (arith, size (c .before .before .before .before .before .before .before) .wide)
 
 add-roots-3 : tie.Need-add-roots-3 Inv-loop μ-loop
-add-roots-3 c = omega (arith, size (c .before .before .before .before .before .before) .high)
+add-roots-3 c = omega (arith, size (c .before .before .before .before .before .before .before) .high)
 
 mul-roots : tie.Need-mul-roots Inv-loop μ-loop
-mul-roots c = omega (arith, few (c .before .before .before .before .before .before))
+mul-roots c = omega (arith, few (c .before .before .before .before .before .before .before))
 
 loop-holds : tie.Need-loop-holds Inv-loop μ-loop
-loop-holds c = (omega arith, refl, refl, refl, refl, refl, roots-none _ _ (passOf (c .before .before .before .before .before .before .args .pass)) _ _ _ _ _ _)
+loop-holds c = (omega arith, refl, refl, refl, refl, refl, refl, roots-none _ _ (passOf (c .before .before .before .before .before .before .before .args .pass)) _ _ _ _ _ _)
 
 root-edges-requires : tie.Need-root-edges-requires Inv-loop μ-loop
-root-edges-requires c κs = (c .before .before .before .before .before .before .before .before .before .pre .1, c .before .loop-test .taken, c .before .before .loop .inv .4, c .before .before .before .before .before .before .before .before .before .pre .0 .high)
+root-edges-requires c κs = (c .before .before .before .before .before .before .before .before .before .before .pre .1, c .before .loop-test .taken, c .before .before .loop .inv .4, c .before .before .before .before .before .before .before .before .before .before .pre .0 .high)
 
-places-requires : tie.Need-places-requires Inv-loop μ-loop
-places-requires c κs =
-    let s = c .before .before .before .before .before .before .before .before .before .before .before .before .before in
-    let r = c .before .before .before .root-edges .ensures in
-    record { long = omega (arith, r .long, r .few); fits = omega (arith, r .few, c .before .before .before .before .before .before .loop .inv .5); edges = λ k g. known (passOf (s .args .pass)) _ _ (s .pre .0) (r .units k g) }
+plan-requires : tie.Need-plan-requires Inv-loop μ-loop
+plan-requires c κs =
+    let s = c .before .before .before .before .before .before .before .before .before .before .before .before .before .before .before in
+    let r = c .before .before .before .before .root-edges .ensures in
+    record {
+      wide = s .pre .0 .wide;
+      long = omega (arith, r .long, r .few);
+      fits = omega (arith, r .few, c .before .before .before .before .before .before .before .loop .inv .5);
+      fits-marks = omega (arith, r .few, c .before .before .before .before .before .before .before .loop .inv .6);
+      edges = λ k g. known (passOf (s .args .pass)) _ _ (s .pre .0) (r .units k g);
+    }
 
 -- the picture, at a turn
-current : (c : tie.At-loop Inv-loop μ-loop) → let a = c .before .before .before .before .before .before .before .args in
-    Framed (a .format) (a .w / 4) (a .top + a .h / 4) (a .motion .now) (a .refs .now) (a .entries .now) (record { y = c .loop .y; u = c .loop .u; v = c .loop .v }) (a .words .now)
-current c = let s = c .before .before .before .before .before .before .before in frame-filtered _ _ (passOf (s .args .pass)) _ _ (c .loop .inv .6 .planes) (s .pre .0)
+current : (c : tie.At-loop Inv-loop μ-loop) → let a = c .before .before .before .before .before .before .before .before .args in
+    Framed (a .format) (a .w / 4) (a .top + a .h / 4) (record { motion = a .motion .now; refs = a .refs .now; keep = a .keep .now }) (a .entries .now) (record { y = c .loop .y; u = c .loop .u; v = c .loop .v }) (a .words .now)
+current c = let s = c .before .before .before .before .before .before .before .before in roots-frame (maps s) _ (passOf (s .args .pass)) _ _ _ _ _ (c .loop .i) _ _ _ (c .loop .inv .7) (s .pre .0)
 
 filter-luma-requires : tie.Need-filter-luma-requires Inv-loop μ-loop
 filter-luma-requires c κs =
-    let s = c .before .before .before .before .before .before .before .before .before .before .before .before .before .before .before .before .before .before in
-    let r = c .before .before .before .before .before .before .before .before .root-edges .ensures in
-    let p = c .before .before .before .before .places in (
-      luma-plane (current (c .before .before .before .before .before .before .before .before .before .before .before)),
+    let s = c .before .before .before .before .before .before .before .before .before .before .before .before .before .before .before .before .before .before .before .before .before .before in
+    let r = c .before .before .before .before .before .before .before .before .before .before .before .root-edges .ensures in
+    let p = c .before .before .before .before .before .before .plan in (
+      luma-plane (current (c .before .before .before .before .before .before .before .before .before .before .before .before .before .before)),
       record {
         long = omega (arith, r .long, r .few);
-        fits = omega (arith, r .few, c .before .before .before .before .before .before .before .before .before .before .before .loop .inv .5, p .kept .1 .1 .1 .1 .1 .1 .1 .0);
+        fits = omega (arith, r .few, c .before .before .before .before .before .before .before .before .before .before .before .before .before .before .loop .inv .5, p .kept .1 .1 .1 .1 .1 .1 .1 .1 .0);
+        fits-marks = omega (arith, r .few, c .before .before .before .before .before .before .before .before .before .before .before .before .before .before .loop .inv .6, p .kept .1 .1 .1 .1 .1 .1 .1 .1 .1 .0);
         units = r .units;
-        few = λ k g. plan-few (record { words = s .args .words .now; motion = s .args .motion .now; refs = s .args .refs .now }) (passOf (s .args .pass)) _ _ _ _ (p .ensures) (s .pre .0 .qps) k g;
+        few = λ k g. plan-few (maps s) (passOf (s .args .pass)) _ _ _ _ _ (p .ensures) (s .pre .0 .qps) k g;
       },
       s .pre .0 .long-entries,
     )
 
 filter-colour-requires : tie.Need-filter-colour-requires Inv-loop μ-loop
 filter-colour-requires c κs =
-    let s = c .before .before .before .before .before .before .before .before .before .before .before .before .before .before .before .before .before .before .before .before .before .before .before .before .before in
-    let r = c .before .before .before .before .before .before .before .before .before .before .before .before .before .before .before .root-edges .ensures in
-    let p = c .before .before .before .before .before .before .before .before .before .before .before .places in (
-      u-plane (current (c .before .before .before .before .before .before .before .before .before .before .before .before .before .before .before .before .before .before)),
-      v-plane (current (c .before .before .before .before .before .before .before .before .before .before .before .before .before .before .before .before .before .before)),
+    let s = c .before .before .before .before .before .before .before .before .before .before .before .before .before .before .before .before .before .before .before .before .before .before .before .before .before .before .before .before .before .before in
+    let r = c .before .before .before .before .before .before .before .before .before .before .before .before .before .before .before .before .before .before .before .root-edges .ensures in
+    let p = c .before .before .before .before .before .before .before .before .before .before .before .before .before .before .plan in (
+      u-plane (current (c .before .before .before .before .before .before .before .before .before .before .before .before .before .before .before .before .before .before .before .before .before .before)),
+      v-plane (current (c .before .before .before .before .before .before .before .before .before .before .before .before .before .before .before .before .before .before .before .before .before .before)),
       record {
         long = omega (arith, r .long, r .few);
-        fits = omega (arith, r .few, c .before .before .before .before .before .before .before .before .before .before .before .before .before .before .before .before .before .before .loop .inv .5, p .kept .1 .1 .1 .1 .1 .1 .1 .0);
+        fits = omega (arith, r .few, c .before .before .before .before .before .before .before .before .before .before .before .before .before .before .before .before .before .before .before .before .before .before .loop .inv .5, p .kept .1 .1 .1 .1 .1 .1 .1 .1 .0);
+        fits-marks = omega (arith, r .few, c .before .before .before .before .before .before .before .before .before .before .before .before .before .before .before .before .before .before .before .before .before .before .loop .inv .6, p .kept .1 .1 .1 .1 .1 .1 .1 .1 .1 .0);
         units = r .units;
-        few = λ k g. plan-few (record { words = s .args .words .now; motion = s .args .motion .now; refs = s .args .refs .now }) (passOf (s .args .pass)) _ _ _ _ (p .ensures) (s .pre .0 .qps) k g;
+        few = λ k g. plan-few (maps s) (passOf (s .args .pass)) _ _ _ _ _ (p .ensures) (s .pre .0 .qps) k g;
       },
       s .pre .0 .long-entries,
     )
 
 add-count : tie.Need-add-count Inv-loop μ-loop
-add-count c = omega (arith, few (c .before .before .before .before .before .before .before .before .before .before .before .before .before .before .before .before .before .before .before .before .before .before .before .before .before .before .before .before .before .before), c .before .before .before .before .before .before .before .before .before .before .before .before .before .before .before .before .before .before .before .before .before .before .before .loop .inv .6 .few, c .before .before .before .before .before .before .before .before .before .before .before .before .before .before .before .before .before .before .before .before .before .before .before .loop .inv .0, c .before .before .before .before .before .before .before .before .before .before .before .before .before .before .before .before .before .before .before .before .root-edges .ensures .few)
+add-count c = omega (arith, few (c .before .before .before .before .before .before .before .before .before .before .before .before .before .before .before .before .before .before .before .before .before .before .before .before .before .before .before .before .before .before .before .before .before .before .before), c .before .before .before .before .before .before .before .before .before .before .before .before .before .before .before .before .before .before .before .before .before .before .before .before .before .before .before .loop .inv .7 .few, c .before .before .before .before .before .before .before .before .before .before .before .before .before .before .before .before .before .before .before .before .before .before .before .before .before .before .before .loop .inv .0, c .before .before .before .before .before .before .before .before .before .before .before .before .before .before .before .before .before .before .before .before .before .before .before .before .root-edges .ensures .few)
 
 add-i : tie.Need-add-i Inv-loop μ-loop
-add-i c = omega (arith, few (c .before .before .before .before .before .before .before .before .before .before .before .before .before .before .before .before .before .before .before .before .before .before .before .before .before .before .before .before .before .before), c .before .before .before .before .before .before .before .before .before .before .before .before .before .before .before .before .before .before .before .before .before .before .loop-test .taken)
+add-i c = omega (arith, few (c .before .before .before .before .before .before .before .before .before .before .before .before .before .before .before .before .before .before .before .before .before .before .before .before .before .before .before .before .before .before .before .before .before .before .before), c .before .before .before .before .before .before .before .before .before .before .before .before .before .before .before .before .before .before .before .before .before .before .before .before .before .before .loop-test .taken)
 
 loop-less : tie.Need-loop-less Inv-loop μ-loop
-loop-less c = omega (arith, c .before .before .before .before .before .before .before .before .before .before .before .before .before .before .before .before .before .before .before .before .before .before .loop-test .taken)
+loop-less c = omega (arith, c .before .before .before .before .before .before .before .before .before .before .before .before .before .before .before .before .before .before .before .before .before .before .before .before .before .before .loop-test .taken)
 
 loop-again : tie.Need-loop-again Inv-loop μ-loop
 loop-again c =
-    let s = c .before .before .before .before .before .before .before .before .before .before .before .before .before .before .before .before .before .before .before .before .before .before .before .before .before .before .before .before .before .before in
-    let l = c .before .before .before .before .before .before .before .before .before .before .before .before .before .before .before .before .before .before .before .before .before .before .before .loop in
-    let ky = c .before .before .before .before .before .before .before .before .before .before .before .filter-luma .kept in
+    let s = c .before .before .before .before .before .before .before .before .before .before .before .before .before .before .before .before .before .before .before .before .before .before .before .before .before .before .before .before .before .before .before .before .before .before .before in
+    let l = c .before .before .before .before .before .before .before .before .before .before .before .before .before .before .before .before .before .before .before .before .before .before .before .before .before .before .before .loop in
+    let ky = c .before .before .before .before .before .before .before .before .before .before .before .before .filter-luma .kept in
     let k = c .before .before .before .before .filter-colour .kept in
-    let r = c .before .before .before .before .before .before .before .before .before .before .before .before .before .before .before .before .before .before .before .before .root-edges .ensures in
-    let p = c .before .before .before .before .before .before .before .before .before .before .before .before .before .before .before .before .places in
+    let r = c .before .before .before .before .before .before .before .before .before .before .before .before .before .before .before .before .before .before .before .before .before .before .before .before .root-edges .ensures in
+    let p = c .before .before .before .before .before .before .before .before .before .before .before .before .before .before .before .before .before .before .before .plan in
     let f = c .before .before .before .before .filter-colour .ensures in (
-      omega (arith, c .before .before .before .before .before .before .before .before .before .before .before .before .before .before .before .before .before .before .before .before .before .before .loop-test .taken),
+      omega (arith, c .before .before .before .before .before .before .before .before .before .before .before .before .before .before .before .before .before .before .before .before .before .before .before .before .before .before .loop-test .taken),
       ky .1 .1 .0 ∙ l .inv .1,
       k .1 .1 .1 .0 ∙ l .inv .2,
       k .1 .1 .1 .1 .0 ∙ l .inv .3,
       r .long,
-      p .kept .1 .1 .1 .1 .1 .1 .1 .0 ∙ l .inv .5,
-      roots-more _ _ (passOf (s .args .pass)) _ _ _ _ _ (l .i) _ _ _ _ _ _ _ _ _ (r .few) (r .same) (p .ensures) (l .inv .6) (c .before .before .before .before .before .before .before .before .before .before .before .filter-luma .ensures) (f .0) (f .1),
+      p .kept .1 .1 .1 .1 .1 .1 .1 .1 .0 ∙ l .inv .5,
+      p .kept .1 .1 .1 .1 .1 .1 .1 .1 .1 .0 ∙ l .inv .6,
+      roots-more _ _ (passOf (s .args .pass)) _ _ _ _ _ (l .i) _ _ _ _ _ _ _ _ _ _ (r .few) (r .same) (s .pre .0 .marks) (p .ensures) (l .inv .7) (c .before .before .before .before .before .before .before .before .before .before .before .before .filter-luma .ensures) (f .0) (f .1),
     )
 
 returns : tie.Need-returns Inv-loop μ-loop
 returns c =
-    let s = c .before .before .before .before .before .before .before .before in
+    let s = c .before .before .before .before .before .before .before .before .before in
     let l = c .before .loop in
-    roots-all _ _ (passOf (s .args .pass)) _ _ _ _ _ (l .i) _ _ _ (omega (arith, l .inv .0, c .loop-test .left, roots-units (size s))) (l .inv .6)
+    roots-all _ _ (passOf (s .args .pass)) _ _ _ _ _ (l .i) _ _ _ (omega (arith, l .inv .0, c .loop-test .left, roots-units (size s))) (l .inv .7)
 
 pub deblock-pass-spec : {M : Type 1} → statement M
 deblock-pass-spec =
     tie.close
-    (tie.spec Inv-loop μ-loop add-roots add-roots-2 add-roots-3 mul-roots loop-holds (λ c. search needs) root-edges-requires (λ c. search needs) (λ c. search needs) places-requires (λ c. search needs) (λ c. search needs) filter-luma-requires
-    (λ c. search needs) (λ c. search needs) filter-colour-requires add-count add-i loop-less loop-again (λ c. c .before .loop .inv .1) (λ c. c .before .loop .inv .2) (λ c. c .before .loop .inv .3) returns)
+    (tie.spec Inv-loop μ-loop add-roots add-roots-2 add-roots-3 mul-roots loop-holds (λ c. search needs) root-edges-requires (λ c. search needs) (λ c. search needs) (λ c. search needs) plan-requires (λ c. search needs) (λ c. search needs) (λ c. search needs) filter-luma-requires
+    (λ c. search needs) (λ c. search needs) (λ c. search needs) filter-colour-requires add-count add-i loop-less loop-again (λ c. c .before .loop .inv .1) (λ c. c .before .loop .inv .2) (λ c. c .before .loop .inv .3) returns)

@@ -16,13 +16,13 @@ use Rattle.df_check.proofs.Bands.{BandSize, band-size, few-above, few-r
 use Rattle.df_check.proofs.band.checked_band.Statement.{statement}
 use Rattle.df_check.proofs.band.checked_band.Tie as tie
 
-size : (c : tie.Else1) → let a = c .before .before .before .before .before .before .before .args in sizeOk (a .w) (a .h) ≡ true
+size : (c : tie.Else1) → let a = c .before .before .before .before .before .before .before .before .args in sizeOk (a .w) (a .h) ≡ true
 size c = sym (c .before .size-ok .ensures) ∙ not-false _ (c .if1 .left)
 
-position : (c : tie.Else2) → let a = c .before .before .before .before .before .before .before .before .before .args in bandOk (a .next) (a .band) (a .h) ≡ true
+position : (c : tie.Else2) → let a = c .before .before .before .before .before .before .before .before .before .before .args in bandOk (a .next) (a .band) (a .h) ≡ true
 position c = sym (c .before .band-ok .ensures) ∙ not-false _ (c .if2 .left)
 
-sizes : (c : tie.Else2) → let a = c .before .before .before .before .before .before .before .before .before .args in BandSize (a .w) (a .h) (a .band)
+sizes : (c : tie.Else2) → let a = c .before .before .before .before .before .before .before .before .before .before .args in BandSize (a .w) (a .h) (a .band)
 sizes c = band-size _ _ (sized _ _ (size (c .before .before))) (position c)
 
 -- four of a band's rows of samples above are judged
@@ -43,26 +43,26 @@ returns-2 c =
     goes-on _ _ _ _ _ (c .before .before .before .size-ok .ensures) (c .before .before .if1 .left) (stops _ _ _ _ (c .before .band-ok .ensures) (c .if2 .taken))
 
 mul-own : tie.Need-mul-own
-mul-own c = let a = c .before .before .before .before .before .before .before .before .before .before .args in omega (arith, c .band-rows .ensures, few-rows (a .h / 4) (a .band))
+mul-own c = let a = c .before .before .before .before .before .before .before .before .before .before .before .args in omega (arith, c .band-rows .ensures, few-rows (a .h / 4) (a .band))
 
 mul-above : tie.Need-mul-above
-mul-above c = omega (arith, c .rows-above .ensures, few-above (c .before .before .before .before .before .before .before .before .before .before .before .args .band) .1)
+mul-above c = omega (arith, c .rows-above .ensures, few-above (c .before .before .before .before .before .before .before .before .before .before .before .before .args .band) .1)
 
 sub-before : tie.Need-sub-before
 sub-before c = omega arith
 
 add-from-lengths : tie.Need-add-from-lengths
 add-from-lengths c =
-    let a = c .before .before .before .before .before .before .before .before .before .before .before .args in
+    let a = c .before .before .before .before .before .before .before .before .before .before .before .before .args in
     omega (arith, c .before .band-rows .ensures, few-rows (a .h / 4) (a .band), c .rows-above .ensures, few-above (a .band) .1)
 
 -- what is handed on: the rows lent, the band's own, and those that are not judged
 module _ (c : tie.After-rows-above) where
   abbrev h : ℕ
-  h = c .before .before .before .before .before .before .before .before .before .before .before .args .h / 4
+  h = c .before .before .before .before .before .before .before .before .before .before .before .before .args .h / 4
 
   abbrev k : ℕ
-  k = c .before .before .before .before .before .before .before .before .before .before .before .args .band
+  k = c .before .before .before .before .before .before .before .before .before .before .before .before .args .band
 
   abbrev rows : ℕ
   rows = c .before .band-rows .result
@@ -82,7 +82,7 @@ module _ (c : tie.After-rows-above) where
 from-lengths-requires : tie.Need-from-lengths-requires
 from-lengths-requires c κs =
     let z = sizes (c .before .before) in
-    let w = c .before .before .before .before .before .before .before .before .before .before .before .args .w in (
+    let w = c .before .before .before .before .before .before .before .before .before .before .before .before .args .w in (
       ap (sizeOk w) (lent-rows c) ∙ z .lent,
       ap (sizeOk w) (own-rows c) ∙ z .own,
       omega (arith, z .judged, lent-rows c, unjudged-rows c),
@@ -92,7 +92,7 @@ returns-3 : tie.Need-returns-3
 unfolding checkOf
 returns-3 c =
     let d = c .before in
-    let a = c .before .before .before .before .before .before .before .before .before .before .before .before .args in
+    let a = c .before .before .before .before .before .before .before .before .before .before .before .before .before .args in
     let i : Input = record {
       w = a .w;
       h = a .h;
@@ -103,6 +103,7 @@ returns-3 c =
       splits = now (a .splits);
       motion = a .motion;
       refs = a .refs;
+      keep = now (a .keep);
       table0 = a .table0;
       table1 = a .table1;
       strengths = a .strengths;

@@ -10,7 +10,7 @@ use Rattle.df_check.specs.Checks.{checkOf}
 use Rattle.df_check.proofs.check.checked.Statement.{statement}
 use Rattle.df_check.proofs.check.checked.Tie as tie
 
-size : (c : tie.Else1) → let a = c .before .before .before .before .before .before .before .args in sizeOk (a .w) (a .h) ≡ true
+size : (c : tie.Else1) → let a = c .before .before .before .before .before .before .before .before .args in sizeOk (a .w) (a .h) ≡ true
 size c = sym (c .before .size-ok .ensures) ∙ not-false _ (c .if1 .left)
 
 returns : tie.Need-returns

@@ -34,6 +34,7 @@ inputOf s =
       splits = now (a .splits);
       motion = now (a .motion);
       refs = now (a .refs);
+      keep = now (a .keep);
       table0 = now (a .table0);
       table1 = now (a .table1);
       strengths = now (a .strengths);
@@ -42,16 +43,16 @@ inputOf s =
 
 returns : tie.Need-returns
 unfolding inputOf
-returns c = band-refused (inputOf (c .before .before .before .before .before .before .before .before .before .before .before .before .before .before)) _ (c .before .before .before .checked-band .ensures) _ (c .before .found .given .1)
+returns c = band-refused (inputOf (c .before .before .before .before .before .before .before .before .before .before .before .before .before .before .before)) _ (c .before .before .before .checked-band .ensures) _ (c .before .found .given .1)
 
 -- the checks found nothing
-fine : (c : tie.After-enum-told) → check (inputOf (c .before .before .before .before .before .before .before .before .before .before .before .before .before)) ≡ Done
+fine : (c : tie.After-enum-told) → check (inputOf (c .before .before .before .before .before .before .before .before .before .before .before .before .before .before)) ≡ Done
 unfolding inputOf
 fine c = sym (c .before .before .checked-band .ensures) ∙ c .enum-told .given .1
 
-some : (c : tie.After-enum-told) → 1 ≤ wide (inputOf (c .before .before .before .before .before .before .before .before .before .before .before .before .before))
+some : (c : tie.After-enum-told) → 1 ≤ wide (inputOf (c .before .before .before .before .before .before .before .before .before .before .before .before .before .before))
 unfolding inputOf
-some c = let i = inputOf (c .before .before .before .before .before .before .before .before .before .before .before .before .before) in some-wide (sized (i .w) (i .h) (told i (fine c) .size))
+some c = let i = inputOf (c .before .before .before .before .before .before .before .before .before .before .before .before .before .before) in some-wide (sized (i .w) (i .h) (told i (fine c) .size))
 
 -- of the rows above, the one that is handed on
 one-above : (k : ℕ) → rowsAbove k / 16 ≡ near k
@@ -62,20 +63,20 @@ rest-above : (k : ℕ) → rowsAbove k - rowsAbove k / 16 ≡ rowsAbove k - 1
 rest-above zero = refl
 rest-above (suc k) = refl
 
-top-is : (c : tie.After-rows-above) → c .rows-above .result / 16 ≡ near (c .before .before .before .before .before .before .before .before .before .before .before .before .before .before .before .before .args .band)
-top-is c = ap (λ (n : ℕ). n / 16) (c .rows-above .ensures) ∙ one-above (c .before .before .before .before .before .before .before .before .before .before .before .before .before .before .before .before .args .band)
+top-is : (c : tie.After-rows-above) → c .rows-above .result / 16 ≡ near (c .before .before .before .before .before .before .before .before .before .before .before .before .before .before .before .before .before .args .band)
+top-is c = ap (λ (n : ℕ). n / 16) (c .rows-above .ensures) ∙ one-above (c .before .before .before .before .before .before .before .before .before .before .before .before .before .before .before .before .before .args .band)
 
-skip-is : (c : tie.After-rows-above) → c .rows-above .result - c .rows-above .result / 16 ≡ rowsAbove (c .before .before .before .before .before .before .before .before .before .before .before .before .before .before .before .before .args .band) - 1
-skip-is c = ap (λ (n : ℕ). n - n / 16) (c .rows-above .ensures) ∙ rest-above (c .before .before .before .before .before .before .before .before .before .before .before .before .before .before .before .before .args .band)
+skip-is : (c : tie.After-rows-above) → c .rows-above .result - c .rows-above .result / 16 ≡ rowsAbove (c .before .before .before .before .before .before .before .before .before .before .before .before .before .before .before .before .before .args .band) - 1
+skip-is c = ap (λ (n : ℕ). n - n / 16) (c .rows-above .ensures) ∙ rest-above (c .before .before .before .before .before .before .before .before .before .before .before .before .before .before .before .before .before .args .band)
 
-own-is : (c : tie.After-rows-above) → 4 * c .before .band-rows .result ≡ 4 * bandRows (c .before .before .before .before .before .before .before .before .before .before .before .before .before .before .before .before .args .h / 4) (c .before .before .before .before .before .before .before .before .before .before .before .before .before .before .before .before .args .band)
+own-is : (c : tie.After-rows-above) → 4 * c .before .band-rows .result ≡ 4 * bandRows (c .before .before .before .before .before .before .before .before .before .before .before .before .before .before .before .before .before .args .h / 4) (c .before .before .before .before .before .before .before .before .before .before .before .before .before .before .before .before .before .args .band)
 own-is c = ap (λ (n : ℕ). 4 * n) (c .before .band-rows .ensures)
 
-own-units : (c : tie.After-rows-above) → 4 * c .before .band-rows .result / 4 ≡ bandRows (c .before .before .before .before .before .before .before .before .before .before .before .before .before .before .before .before .args .h / 4) (c .before .before .before .before .before .before .before .before .before .before .before .before .before .before .before .before .args .band)
+own-units : (c : tie.After-rows-above) → 4 * c .before .band-rows .result / 4 ≡ bandRows (c .before .before .before .before .before .before .before .before .before .before .before .before .before .before .before .before .before .args .h / 4) (c .before .before .before .before .before .before .before .before .before .before .before .before .before .before .before .before .before .args .band)
 own-units c = omega (arith, c .before .band-rows .ensures)
 
 mul-own : tie.Need-mul-own
-mul-own c = let a = c .before .before .before .before .before .before .before .before .before .before .before .before .before .before .before .before .args in omega (arith, c .before .band-rows .ensures, few-rows (a .h / 4) (a .band))
+mul-own c = let a = c .before .before .before .before .before .before .before .before .before .before .before .before .before .before .before .before .before .args in omega (arith, c .before .band-rows .ensures, few-rows (a .h / 4) (a .band))
 
 band-passes-requires : tie.Need-band-passes-requires
 unfolding inputOf
@@ -83,24 +84,24 @@ band-passes-requires c κs =
     let d = c .before .before .before .before .before .before in
     let e = fine (c .before .before .before .before .before .before .before .before .before) in
     let p = some (c .before .before .before .before .before .before .before .before .before) in
-    let i = inputOf (c .before .before .before .before .before .before .before .before .before .before .before .before .before .before .before .before .before .before .before .before .before .before) in
+    let i = inputOf (c .before .before .before .before .before .before .before .before .before .before .before .before .before .before .before .before .before .before .before .before .before .before .before) in
     let f = framed i e p _ (ap length (c .before .before .before .before .before .before .before .before .entries-by .ensures) ∙ entries-long _ _ _ _ _) in
     let k = skipped i e p in
     rw (skip-is d, top-is d, own-units d, own-is d)
-    ((f, accepted i e p), (omega (arith, k .y), omega (arith, k .u), omega (arith, k .v), omega (arith, k .words), omega (arith, k .motion), omega (arith, k .refs), k .few))
+    ((f, accepted i e p), (omega (arith, k .y), omega (arith, k .u), omega (arith, k .v), omega (arith, k .words), omega (arith, k .motion), omega (arith, k .refs), omega (arith, k .keep), k .few))
 
 add-after : tie.Need-add-after
 unfolding inputOf
-add-after c = omega (arith, next-few (told (inputOf (c .before .before .before .before .before .before .before .before .before .before .before .before .before .before .before .before .before .before .before .before .before .before .before .before .before .before .before .before .before .before .before)) (fine (c .before .before .before .before .before .before .before .before .before .before .before .before .before .before .before .before .before .before))))
+add-after c = omega (arith, next-few (told (inputOf (c .before .before .before .before .before .before .before .before .before .before .before .before .before .before .before .before .before .before .before .before .before .before .before .before .before .before .before .before .before .before .before .before)) (fine (c .before .before .before .before .before .before .before .before .before .before .before .before .before .before .before .before .before .before))))
 
 returns-2 : tie.Need-returns-2
 unfolding inputOf
 returns-2 c =
     let d = c .before .before .before .before .before .before .before .before .before .before .before .before .before .before .before in
-    let i = inputOf (c .before .before .before .before .before .before .before .before .before .before .before .before .before .before .before .before .before .before .before .before .before .before .before .before .before .before .before .before .before .before .before) in
+    let i = inputOf (c .before .before .before .before .before .before .before .before .before .before .before .before .before .before .before .before .before .before .before .before .before .before .before .before .before .before .before .before .before .before .before .before) in
     let e = fine (c .before .before .before .before .before .before .before .before .before .before .before .before .before .before .before .before .before .before) in
     let p = some (c .before .before .before .before .before .before .before .before .before .before .before .before .before .before .before .before .before .before) in
-    let s = rowsAbove (c .before .before .before .before .before .before .before .before .before .before .before .before .before .before .before .before .before .before .before .before .before .before .before .before .before .before .before .before .before .before .before .args .band) - 1 in
+    let s = rowsAbove (c .before .before .before .before .before .before .before .before .before .before .before .before .before .before .before .before .before .before .before .before .before .before .before .before .before .before .before .before .before .before .before .before .args .band) - 1 in
     let b = rw (skip-is d, top-is d, own-units d, c .before .before .before .before .before .before .before .before .before .before .before .before .before .before .before .before .before .entries-by .ensures) at (c .before .before .before .before .before .before .before .before .band-passes .ensures) in
     band-done i e p _ _ (luma-rows s (wide i)) (ap (inFormat (i .settings .format)) (chroma-rows s (wide i))) _ _ _ _ _ _ (b .0) (b .1) (b .2) (b .3) (b .4)
 
