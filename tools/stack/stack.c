@@ -88,7 +88,7 @@ static void reconstruct(int real, int i) {
 static void deblock(int real, int i) {
     tree(sides[i / 8], i & 1);
     CALL(lomsakeun_deblock, SIZE, SIZE, y, SIZE * SIZE, u, SIZE * SIZE / 4, v, SIZE * SIZE / 4, words, UNITS, splits, sizeof splits,
-         motion, 4 * UNITS, refs, 2 * UNITS, table[0], 70, table[1], 70, strengths, 208, 5 + (i >> 1 & 1), i & 4, 0, 0, counted, counted + 1);
+         motion, 4 * UNITS, refs, 2 * UNITS, table[0], 70, table[1], 70, strengths, 208, 5 + (i >> 1 & 1), 0, 0, counted, counted + 1);
     more = i < 39;
 }
 static void listing(int real, int i) { CALL(lomsakeun_listing, (const uint8_t *)sheet, strlen(sheet) - i, text, sizeof text, counted); more = i < 60; }
