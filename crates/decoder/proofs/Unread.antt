@@ -1,22 +1,28 @@
--- Other bytes are never read, of the calls over whole pictures: the outcome is the same for two split maps, of one length, that agree where the walk of the first reaches.
---     deblock-same, reconstruct-same
+-- Other bytes are never read, of the calls over planes: the outcome is the same for two split maps, of one length, that agree where the walk of the first reaches;
+-- for a band it is the band's own walk.
+--     deblock-same, deblock-band-same, reconstruct-same
 -- `check`, `leaves`, `list_edges` and `root_list` are in `reach_rules`.
 -- Assumes nothing.
-use Prim.Native.Nat.{ℕ, _/_}
+use Prim.Native.Nat.{ℕ, _+_, _-_, _*_, _/_}
 use mathlib.Core.List.{List}
 use mathlib.Core.Path.{_≡_, ap, ap₂}
+use native.Mathlib.Omega.{arith}
 use lib.ListN.{length}
 use Rattle.laws.specs.Call.{unless}
 use Rattle.def.specs.Picture.{sizeOk}
 use Rattle.def.specs.declared.Answer.{Answer}
-use Rattle.def.specs.declared.Answer.the-variants.{Refused}
-use Rattle.def.specs.declared.Refusal.the-variants.{Size, Length}
+use Rattle.def.specs.declared.Answer.the-variants.{Done, Refused}
+use Rattle.def.specs.declared.Refusal.the-variants.{Size, Length, Band}
+use Rattle.def.proofs.Ladders.{passes}
+use Rattle.split.specs.Picture.{pictureWalk}
 use Rattle.split.specs.Walk.{Leaf, Walk}
 use Rattle.reach_rules.specs.Reached.{pictureReached, AgreeAt, SameTree}
 use Rattle.reach_rules.proofs.Calls.{after-same}
 use Rattle.reach_rules.proofs.Reached.{same-tree}
+use Rattle.df_check.specs.BandCheck as band-checks
 use Rattle.df_check.specs.Checks as checks
-use Rattle.df_check.proofs.Passed.{passed}
+use Rattle.df_check.proofs.Passed.{passed, rest-passed}
+use Rattle.df.specs.Band as band
 use Rattle.df.specs.Deblock as deblock
 use Rattle.driver_rules.specs.Call as driver
 use Rattle.driver_rules.proofs.Checks.{all-passed}
@@ -55,6 +61,52 @@ module _ (i : deblock.Input) (t : List ℕ) (n : length t ≡ length (i .splits)
   deblock-same =
       after-same (deblock.refused i) (deblock.done i) (deblock.done deblock-other) (deblock.check i) (deblock.check deblock-other) checks-same
       (λ e. rw (deblock-tree .leaves (passed (deblock.checked i) e .walk)))
+
+-- ---- deblocking by bands
+
+module _ (i : band.Input) (t : List ℕ) (n : length t ≡ length (i .splits)) (o : AgreeAt (pictureReached (i .splits) (band.wide i) (band.rows i)) (i .splits) t) where
+  abbrev band-other : band.Input
+  band-other =
+      record {
+        next = i .next;
+        band = i .band;
+        w = i .w;
+        h = i .h;
+        y = i .y;
+        u = i .u;
+        v = i .v;
+        words = i .words;
+        splits = t;
+        motion = i .motion;
+        refs = i .refs;
+        table0 = i .table0;
+        table1 = i .table1;
+        strengths = i .strengths;
+        settings = i .settings;
+      }
+
+  band-tree : SameTree (i .splits) t (band.wide i) (band.rows i)
+  band-tree = same-tree (i .splits) t (band.wide i) (band.rows i) o
+
+  -- the band's rows of units, from its rows of samples
+  units : 4 * band.rows i / 4 ≡ band.rows i
+  units = omega arith
+
+  band-same-checks : band.check band-other ≡ band.check i
+  unfolding band-checks.checkOf checks.fromLengths
+  band-same-checks = rw (n, units, band-tree .walk)
+
+  band-walked : band.check i ≡ Done → pictureWalk (i .splits) (band.wide i) (band.rows i) .answer ≡ Done
+  unfolding band-checks.checkOf
+  band-walked e =
+      let rest = passes (band-checks.bandOk (i .next) (i .band) (i .h)) Band _ (passes (sizeOk (i .w) (i .h)) Size _ e .rest) .rest in
+      rw units at (rest-passed (4 * (band.top i + band.rows i)) (4 * band.rows i) (4 * (band.top i - 1)) (band.checked i .lent) rest .walk)
+
+  pub deblock-band-same : band.outcome band-other ≡ band.outcome i
+  unfolding band.outcome
+  deblock-band-same =
+      after-same (band.refused i) (band.done i) (band.done band-other) (band.check i) (band.check band-other) band-same-checks
+      (λ e. rw (band-tree .leaves (band-walked e)))
 
 -- ---- the driver
 
