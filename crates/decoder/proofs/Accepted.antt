@@ -150,7 +150,9 @@ pub accepted-maps :
     ∷ get-map.outcome (record { w = 4; h = 4; src = 240 ∷ []; at = 0; map = replicate 1024 0 }) .number
     ∷ []
     ≡ replicate 5 0
-unfolding points-check.check points-check.lengthsOk points-check.pointsOk points-check.pivotsOk points-check.pivotOk inOf outOf marked.outcome marked.check marked.lengthsOk marked-by.outcome marked-by.check put-map.outcome put-map.check compact.roomOk get-map.outcome get-map.check compact.zerosOk descendBy descentsBy descendOn marks digits joined bitAt fieldOf tabulateFrom allBelow sizeOk walk byByte inTurn onward leafWalk
+unfolding points-check.check points-check.lengthsOk points-check.pointsOk points-check.pivotsOk points-check.pivotOk inOf outOf marked.outcome marked.check
+    marked.lengthsOk marked-by.outcome marked-by.check put-map.outcome put-map.check compact.roomOk get-map.outcome get-map.check compact.zerosOk descendBy descentsBy
+    descendOn marks digits joined bitAt fieldOf tabulateFrom allBelow sizeOk walk byByte inTurn onward leafWalk
 accepted-maps = refl
 
 -- ---- its sheet
@@ -166,5 +168,6 @@ pub accepted-sheets :
     ∷ listing.outcome (record { input = lines; out = replicate 81920 0 }) .reading .number
     ∷ []
     ≡ replicate 3 0
-unfolding sheet.outcome sheet.readOf listing.outcome listing.check foundIn foundOf foundBy sidesOk list.limitOk firstBad lineOk startOf lineOf numberLine startsWith isNumber allBelow edgeLine oldEdge sameLine splitsLine numberAfter valueFrom descents descend byByte onward leafWalk
+unfolding sheet.outcome sheet.readOf listing.outcome listing.check foundIn foundOf foundBy sidesOk list.limitOk firstBad lineOk startOf lineOf numberLine startsWith
+    isNumber allBelow edgeLine oldEdge sameLine splitsLine numberAfter valueFrom descents descend byByte onward leafWalk
 accepted-sheets = refl
