@@ -729,9 +729,9 @@ filtering w splits limit word sample =
 -- an input for each rung. 3407872 is a word of QP 52
 abbrev filterings : List deblock.Input
 filterings =
-    filtering 0 [] 5 0 0
-    ∷ filtering 4 [] 5 0 0
-    ∷ filtering 4 (root 2) 7 0 0
+    filtering 6 torn 7 3407872 1024
+    ∷ filtering 4 torn 7 3407872 1024
+    ∷ filtering 4 (root 2) 7 3407872 1024
     ∷ filtering 4 (root 2) 5 3407872 1024
     ∷ filtering 4 (root 0) 5 3407872 1024
     ∷ filtering 4 (root 1) 5 3407872 1024
@@ -827,10 +827,10 @@ banding i k =
 
 abbrev bandings : List band.Input
 bandings =
-    banding (filtering 0 [] 5 0 0) 1
-    ∷ banding (filtering 4 [] 5 0 0) 1
-    ∷ banding (filtering 4 [] 5 0 0) 0
-    ∷ banding (filtering 4 (root 2) 7 0 0) 0
+    banding (filtering 6 torn 7 3407872 1024) 1
+    ∷ banding (filtering 4 torn 7 3407872 1024) 1
+    ∷ banding (filtering 4 torn 7 3407872 1024) 0
+    ∷ banding (filtering 4 (root 2) 7 3407872 1024) 0
     ∷ banding (filtering 4 (root 2) 5 3407872 1024) 0
     ∷ banding (filtering 4 (root 0) 5 3407872 1024) 0
     ∷ banding (filtering 4 (root 1) 5 3407872 1024) 0
