@@ -194,6 +194,7 @@ uint8_t lomsakeun_reconstruct(
     uint32_t *map_scu, size_t map_scu_len, uint8_t *modes, size_t modes_len, uint8_t *keep, size_t keep_len);
 
 /* Deblocks a picture (df): its planes are filtered and done is set in every word; how many edges each pass visited.
+ * keep has a mark a unit, 0 or 1: no sample of a unit marked 1 is moved, and its edges are visited and counted as any other.
  * U's QP is mapped by table0, V's by table1. colour: the picture has chroma. What is lent of it, in elements, here and for a band:
  *
  *                        colour            grey
@@ -205,7 +206,7 @@ uint8_t lomsakeun_reconstruct(
 uint8_t lomsakeun_deblock(
     size_t w, size_t h, uint16_t *y, size_t y_len, uint16_t *u, size_t u_len, uint16_t *v, size_t v_len,
     uint32_t *words, size_t words_len, const uint8_t *splits, size_t splits_len,
-    const int16_t *motion, size_t motion_len, const int8_t *refs, size_t refs_len,
+    const int16_t *motion, size_t motion_len, const int8_t *refs, size_t refs_len, const uint8_t *keep, size_t keep_len,
     const int8_t *table0, size_t table0_len, const int8_t *table1, size_t table1_len,
     const uint8_t *strengths, size_t strengths_len,
     uint8_t limit, int8_t u_offset, int8_t v_offset, bool colour, size_t *vertical_count, size_t *horizontal_count);
@@ -214,15 +215,15 @@ uint8_t lomsakeun_deblock(
  * the whole picture's sides, and band is the number of the band.
  *
  * Lent are the rows of the band above, if any, followed by those of the band: for band 0 its own rows alone, for any other 64 rows and its
- * own. y, u and v (half as many rows), words, motion and refs cover just these rows. splits has the band's own bytes alone, 1024 for each of
+ * own. y, u and v (half as many rows), words, motion, refs and keep cover just these rows. splits has the band's own bytes alone, 1024 for each of
  * its roots. Tables, strengths and settings are as for a picture.
  *
  * next is the position: set it to 0 before band 0, and hand it to each call as the call before left it. A call that is done moves it on by
  * one; a refused one leaves it, so that the same band can be mended and called again. A band other than next, or past the last, is 14.
  *
  * The band's vertical edges are filtered and then its horizontal ones, the edge above it included; of the band above, the last two rows of
- * each plane may be written. Done is set in the band's own words, and the counts are the band's. QPs and samples are checked in the band and in
- * the 4 luma rows above it, with their units and their chroma rows, and no further up.
+ * each plane may be written. Done is set in the band's own words, and the counts are the band's. Marks, QPs and samples are checked in the band
+ * and in the 4 luma rows above it, with their units and their chroma rows, and no further up.
  *
  * After a band, all its rows but its last two luma rows and its last two chroma rows are final, and so are all rows above it. After the last
  * band all rows are final, and equal what one call over the picture makes of it, where nothing was altered between the calls. */
@@ -230,7 +231,7 @@ uint8_t lomsakeun_deblock_band(
     size_t *next, size_t band,
     size_t w, size_t h, uint16_t *y, size_t y_len, uint16_t *u, size_t u_len, uint16_t *v, size_t v_len,
     uint32_t *words, size_t words_len, const uint8_t *splits, size_t splits_len,
-    const int16_t *motion, size_t motion_len, const int8_t *refs, size_t refs_len,
+    const int16_t *motion, size_t motion_len, const int8_t *refs, size_t refs_len, const uint8_t *keep, size_t keep_len,
     const int8_t *table0, size_t table0_len, const int8_t *table1, size_t table1_len,
     const uint8_t *strengths, size_t strengths_len,
     uint8_t limit, int8_t u_offset, int8_t v_offset, bool colour, size_t *vertical_count, size_t *horizontal_count);

@@ -37,6 +37,7 @@ static void tree(size_t side, int intra) {
     for (size_t i = 0; i < UNITS; i++) words[i] = 1u << 31 | (intra ? 1u << 15 : 0) | 37u << 16 | (i % 3 == 0) << 24;
     for (size_t i = 0; i < 4 * UNITS; i++) motion[i] = i * 7 % 11;
     for (size_t i = 0; i < 2 * UNITS; i++) refs[i] = i * 5 % 3 - 1;
+    for (size_t i = 0; i < UNITS; i++) keep[i] = i % 5 == 0;
 }
 
 static size_t leaves_of(size_t side, int masked) {
@@ -88,7 +89,7 @@ static void reconstruct(int real, int i) {
 static void deblock(int real, int i) {
     tree(sides[i / 8], i & 1);
     CALL(lomsakeun_deblock, SIZE, SIZE, y, SIZE * SIZE, u, SIZE * SIZE / 4, v, SIZE * SIZE / 4, words, UNITS, splits, sizeof splits,
-         motion, 4 * UNITS, refs, 2 * UNITS, table[0], 70, table[1], 70, strengths, 208, 5 + (i >> 1 & 1), 0, 0, counted, counted + 1);
+         motion, 4 * UNITS, refs, 2 * UNITS, keep, UNITS, table[0], 70, table[1], 70, strengths, 208, 5 + (i >> 1 & 1), i & 4, 0, 1, counted, counted + 1);
     more = i < 39;
 }
 static void listing(int real, int i) { CALL(lomsakeun_listing, (const uint8_t *)sheet, strlen(sheet) - i, text, sizeof text, counted); more = i < 60; }

@@ -30,10 +30,11 @@ use crate::sys;
 ///     // Its own split bytes: one block of 64, and in the last band two of 32.
 ///     let mut splits = [0; 1024];
 ///     splits[136] = (rows < 64) as u8;
-///     let (motion, refs) = (vec![0; 4 * words.len()], vec![0; 2 * words.len()]);
+///     let (motion, refs, keep) = (vec![0; 4 * words.len()], vec![0; 2 * words.len()], vec![0; words.len()]);
 ///
 ///     let part = Picture { w, h, y: &mut y, u: &mut u, v: &mut v, words: &mut words };
-///     let maps = Maps { splits: &splits, motion: &motion, refs: &refs, tables: [&tables; 2], strengths: &strengths };
+///     let tables = [&tables[..]; 2];
+///     let maps = Maps { splits: &splits, motion: &motion, refs: &refs, keep: &keep, tables, strengths: &strengths };
 ///     counts.push(bands.deblock(band, part, maps, settings)?);
 ///
 ///     // The band above is final and is let go; the band itself is the next one's band above.
@@ -73,15 +74,15 @@ impl Bands {
     /// Deblocks this band, sets done in its words, and answers how many of its edges each pass visited; the one above it is among them. Then
     /// the next band comes next; after a refusal the same.
     ///
-    /// `part.w` and `part.h` are the whole picture's sides. The planes, words, motion and references are those of the lent rows: the 64 of the
+    /// `part.w` and `part.h` are the whole picture's sides. The planes, words, motion, references and marks are those of the lent rows: the 64 of the
     /// band above, if any, followed by the band's own. The split bytes are the band's own.
     ///
     /// After a band all rows but its last two luma rows and its last two chroma rows are final. After the last one all are, and equal those
     /// of [`deblock`](crate::deblock()) over the picture, where nothing was altered between the calls.
     ///
     /// Refusals: [`Size`](Refusal::Size), [`Band`](Refusal::Band), [`Length`](Refusal::Length), [`Setting`](Refusal::Setting),
-    /// [`Split`](Refusal::Split), [`Leaf`](Refusal::Leaf), and [`Qp`](Refusal::Qp) and [`Sample`](Refusal::Sample) in the band and in the 4
-    /// luma rows above it.
+    /// [`Split`](Refusal::Split), [`Leaf`](Refusal::Leaf), and [`Keep`](Refusal::Keep), [`Qp`](Refusal::Qp) and [`Sample`](Refusal::Sample) in
+    /// the band and in the 4 luma rows above it.
     #[inline]
     pub fn deblock(
         &mut self,
@@ -91,7 +92,7 @@ impl Bands {
         settings: Settings,
     ) -> Result<(usize, usize), Refusal> {
         let Picture { w, h, y, u, v, words } = part;
-        let Maps { splits, motion, refs, tables: [table0, table1], strengths } = maps;
+        let Maps { splits, motion, refs, keep, tables: [table0, table1], strengths } = maps;
         let (mut vertical, mut horizontal) = (0, 0);
         // Each pointer comes from a slice that lives through the call, with its own length, from a local, or from the position.
         let number = unsafe {
@@ -114,6 +115,8 @@ impl Bands {
                 motion.len(),
                 refs.as_ptr(),
                 refs.len(),
+                keep.as_ptr(),
+                keep.len(),
                 table0.as_ptr(),
                 table0.len(),
                 table1.as_ptr(),

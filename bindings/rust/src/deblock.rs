@@ -12,6 +12,8 @@ pub struct Maps<'a> {
     pub motion: &'a [i16],
     /// Two a unit.
     pub refs: &'a [i8],
+    /// A mark a unit, 0 or 1: no sample of a unit marked 1 is moved.
+    pub keep: &'a [u8],
     /// The chroma QP tables, U's and V's, 70 entries each; none in a grey picture.
     pub tables: [&'a [i8]; 2],
     /// The strengths: four rows of 52.
@@ -32,11 +34,12 @@ pub struct Settings {
 }
 
 /// Deblocks a picture, sets done in every word, and answers how many edges each pass visited. Refusals: [`Size`](Refusal::Size), [`Length`](Refusal::Length),
-/// [`Setting`](Refusal::Setting), [`Split`](Refusal::Split), [`Leaf`](Refusal::Leaf), [`Qp`](Refusal::Qp), [`Sample`](Refusal::Sample).
+/// [`Setting`](Refusal::Setting), [`Split`](Refusal::Split), [`Leaf`](Refusal::Leaf), [`Keep`](Refusal::Keep), [`Qp`](Refusal::Qp),
+/// [`Sample`](Refusal::Sample).
 #[inline]
 pub fn deblock(picture: Picture, maps: Maps, settings: Settings) -> Result<(usize, usize), Refusal> {
     let Picture { w, h, y, u, v, words } = picture;
-    let Maps { splits, motion, refs, tables: [table0, table1], strengths } = maps;
+    let Maps { splits, motion, refs, keep, tables: [table0, table1], strengths } = maps;
     let (mut vertical, mut horizontal) = (0, 0);
     // Each pointer comes from a slice that lives through the call, with its own length, or from a local.
     let number = unsafe {
@@ -57,6 +60,8 @@ pub fn deblock(picture: Picture, maps: Maps, settings: Settings) -> Result<(usiz
             motion.len(),
             refs.as_ptr(),
             refs.len(),
+            keep.as_ptr(),
+            keep.len(),
             table0.as_ptr(),
             table0.len(),
             table1.as_ptr(),

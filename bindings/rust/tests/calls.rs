@@ -268,21 +268,28 @@ fn mending() {
 #[test]
 fn deblocking() {
     let splits = splits();
-    let run = |entry: u8| {
+    let run = |entry: u8, keep: [u8; 4]| {
         let mut y: Vec<u16> = [100, 100, 100, 100, 120, 120, 120, 120].repeat(8);
         let (mut u, mut v, mut words) = ([100; 16], [100; 16], [30 << 16 | INTRA; 4]);
         let picture = Picture { w: 8, h: 8, y: &mut y, u: &mut u, v: &mut v, words: &mut words };
         let (tables, strengths) = ([30; 70], [entry; 208]);
+        let tables = [&tables[..]; 2];
         let maps =
-            Maps { splits: &splits, motion: &[0; 16], refs: &[0; 8], tables: [&tables; 2], strengths: &strengths };
+            Maps { splits: &splits, motion: &[0; 16], refs: &[0; 8], keep: &keep, tables, strengths: &strengths };
         let settings = Settings { limit: 6, u_offset: 0, v_offset: 0, colour: true };
         assert_eq!(deblock(picture, maps, settings), Ok((2, 2)));
         assert_eq!((u, v), ([100; 16], [100; 16]));
         assert_eq!(words, [30 << 16 | INTRA | DONE; 4]);
         y
     };
-    assert_eq!(run(0), [100, 100, 100, 100, 120, 120, 120, 120].repeat(8));
-    assert_eq!(run(3), [100, 100, 103, 107, 113, 117, 120, 120].repeat(8));
+    assert_eq!(run(0, [0; 4]), [100, 100, 100, 100, 120, 120, 120, 120].repeat(8));
+    let both = [100, 100, 103, 107, 113, 117, 120, 120];
+    assert_eq!(run(3, [0; 4]), both.repeat(8));
+    // The upper left unit is kept, and then the lower right one: its samples stay, and the other side of the edge moves as before.
+    let (left, right) = ([100, 100, 100, 100, 113, 117, 120, 120], [100, 100, 103, 107, 120, 120, 120, 120]);
+    assert_eq!(run(3, [1, 0, 0, 0]), [left.repeat(4), both.repeat(4)].concat());
+    assert_eq!(run(3, [0, 0, 0, 1]), [both.repeat(4), right.repeat(4)].concat());
+    assert_eq!(run(3, [1; 4]), run(0, [0; 4]));
 }
 
 /// The same picture without its colour: no U, no V and no tables; luma, words and counts as in colour, whole and as band 0.
@@ -294,7 +301,14 @@ fn deblocking_in_grey() {
         let mut y: Vec<u16> = [100, 100, 100, 100, 120, 120, 120, 120].repeat(8);
         let mut words = [30 << 16 | INTRA; 4];
         let picture = Picture { w: 8, h: 8, y: &mut y, u: &mut [], v: &mut [], words: &mut words };
-        let maps = Maps { splits: &splits, motion: &[0; 16], refs: &[0; 8], tables: [&[]; 2], strengths: &strengths };
+        let maps = Maps {
+            splits: &splits,
+            motion: &[0; 16],
+            refs: &[0; 8],
+            keep: &[0; 4],
+            tables: [&[]; 2],
+            strengths: &strengths,
+        };
         let counts = if by_bands {
             Bands::first().deblock(0, picture, maps, settings)
         } else {
@@ -342,19 +356,21 @@ fn deblocking_by_bands() {
     let units: Vec<u32> = (0..across * 34).map(|i| (20 + i % 32) << 16 | (i % 5 / 4) << 15).map(|i| i as u32).collect();
     let motion: Vec<i16> = (0..4 * units.len()).map(|i| (i % 7) as i16).collect();
     let refs: Vec<i8> = (0..2 * units.len()).map(|i| (i % 3) as i8 - 1).collect();
+    let keep: Vec<u8> = (0..units.len()).map(|i| (i % 11 == 3) as u8).collect();
     let (splits, tables, strengths) = (tall_splits(), [[35; 70], [45; 70]], [5; 208]);
     let settings = Settings { limit: 5, u_offset: 1, v_offset: -1, colour: true };
-    let maps = |splits, motion, refs| Maps {
+    let maps = |splits, motion, refs, keep| Maps {
         splits,
         motion,
         refs,
+        keep,
         tables: tables.each_ref().map(|t| &t[..]),
         strengths: &strengths,
     };
 
     let ([mut y, mut u, mut v], mut words) = (before.clone(), units.clone());
     let picture = Picture { w, h, y: &mut y, u: &mut u, v: &mut v, words: &mut words };
-    let (vertical, horizontal) = deblock(picture, maps(&splits, &motion, &refs), settings).unwrap();
+    let (vertical, horizontal) = deblock(picture, maps(&splits, &motion, &refs, &keep), settings).unwrap();
     let whole = [y, u, v];
     assert!((0..3).all(|i| whole[i] != before[i]));
 
@@ -373,7 +389,8 @@ fn deblocking_by_bands() {
             words: &mut done[across * from..across * to],
         };
         let refs = &refs[2 * across * from..2 * across * to];
-        let own = maps(&splits[2048 * band..2048 * (band + 1)], &motion[chroma], refs);
+        let keep = &keep[across * from..across * to];
+        let own = maps(&splits[2048 * band..2048 * (band + 1)], &motion[chroma], refs, keep);
         let (m, n) = bands.deblock(band, part, own, settings).unwrap();
         sums = (sums.0 + m, sums.1 + n);
         assert_eq!(bands.next(), band + 1);

@@ -338,6 +338,7 @@ struct Deblock {
     splits: Vec<u8>,
     motion: Vec<i16>,
     refs: Vec<i8>,
+    keep: Vec<u8>,
     tables: [Vec<i8>; 2],
     strengths: Vec<u8>,
     settings: Settings,
@@ -353,6 +354,7 @@ impl Deblock {
             splits: root(&[(136, 1), (256 + 68, 1), (512 + 34, 1)]),
             motion: vec![0; 16],
             refs: vec![0; 8],
+            keep: vec![1; 4],
             tables: [vec![51; 70], vec![51; 70]],
             strengths: vec![3; 208],
             settings: Settings { limit: 6, u_offset: 12, v_offset: -12, colour: true },
@@ -375,6 +377,7 @@ impl Deblock {
             splits: &case.splits,
             motion: &case.motion,
             refs: &case.refs,
+            keep: &case.keep,
             tables: case.tables.each_ref().map(|table| &table[..]),
             strengths: &case.strengths,
         };
@@ -401,6 +404,7 @@ fn deblocking() {
     Deblock::refused(Length, |case| case.splits.push(0));
     Deblock::refused(Length, |case| case.motion.clear());
     Deblock::refused(Length, |case| case.refs.clear());
+    Deblock::refused(Length, |case| case.keep.push(0));
     Deblock::refused(Length, |case| {
         case.strengths.pop();
     });
@@ -414,6 +418,9 @@ fn deblocking() {
     Deblock::refused(Split, |case| case.splits[136] = 2);
     Deblock::refused(Leaf, |case| case.splits[136] = 0);
     Deblock::refused(Qp, |case| case.words[3] = 52 << 16);
+    // A mark of 2, also beside a QP of 52.
+    Deblock::refused(Keep, |case| case.keep[3] = 2);
+    Deblock::refused(Keep, |case| (case.keep[0], case.words[3]) = (255, 52 << 16));
     // Without its colour: offsets are left; U, V or a table is lent; and it is said to have colour.
     Deblock::refused(Setting, Deblock::fade);
     for i in 0..2 {
@@ -450,8 +457,8 @@ impl Band {
         (0..own / 2).for_each(|i| splits[512 + 16 * (i / 2 * 4 + 2) + 2] = 1);
         let planes = [vec![9; 32 * lent], vec![9; 8 * lent], vec![9; 8 * lent]];
         let words = vec![51 << 16; 2 * lent];
-        let (motion, refs) = (vec![0; 8 * lent], vec![0; 4 * lent]);
-        Band { band, lent: Deblock { h: 72, planes, words, splits, motion, refs, ..Deblock::good() } }
+        let (motion, refs, keep) = (vec![0; 8 * lent], vec![0; 4 * lent], vec![0; 2 * lent]);
+        Band { band, lent: Deblock { h: 72, planes, words, splits, motion, refs, keep, ..Deblock::good() } }
     }
 
     fn run(&mut self, bands: &mut Bands) -> Result<(usize, usize), Refusal> {
@@ -462,6 +469,7 @@ impl Band {
             splits: &case.splits,
             motion: &case.motion,
             refs: &case.refs,
+            keep: &case.keep,
             tables: case.tables.each_ref().map(|table| &table[..]),
             strengths: &case.strengths,
         };
@@ -522,6 +530,7 @@ fn bands() {
         Band::refused(Length, band, band, |case| case.lent.splits.push(0));
         Band::refused(Length, band, band, |case| case.lent.motion.clear());
         Band::refused(Length, band, band, |case| case.lent.refs.clear());
+        Band::refused(Length, band, band, |case| case.lent.keep.push(0));
         Band::refused(Length, band, band, |case| case.lent.strengths.clear());
         Band::refused(Setting, band, band, |case| case.lent.settings.limit = 7);
         Band::refused(Setting, band, band, |case| case.lent.settings.u_offset = 13);
@@ -529,6 +538,7 @@ fn bands() {
         Band::refused(Split, band, band, |case| case.lent.splits[136] = 2);
         Band::refused(Leaf, band, band, |case| case.lent.splits[136] = 0);
         Band::refused(Qp, band, band, |case| *case.lent.words.last_mut().unwrap() = 52 << 16);
+        Band::refused(Keep, band, band, |case| *case.lent.keep.last_mut().unwrap() = 2);
     }
     // the whole picture's split bytes, or its rows, are too many
     Band::refused(Length, 1, 1, |case| case.lent.splits.resize(2048, 0));
@@ -552,6 +562,10 @@ fn the_row_above_a_band() {
     assert_eq!(higher.run(&mut position(1)), Ok((0, 2)));
     assert_eq!((higher.lent.words[29], higher.lent.words[31]), (52 << 16, 51 << 16));
     assert_eq!(higher.lent.words[32..], [51 << 16 | DONE; 4]);
+    Band::refused(Keep, 1, 1, |case| case.lent.keep[30] = 2);
+    let mut higher = Band::good(1);
+    higher.lent.keep[29] = 2;
+    assert_eq!(higher.run(&mut position(1)), Ok((0, 2)));
 }
 
 /// A band that was refused is mended and called again.

@@ -1,4 +1,5 @@
--- What the driver leaves of a picture is accepted by deblocking: none of 1, 4 and 5, no 2 for the planes, the words and the split bytes, no 6 for a luma QP, and no 7.
+-- What the driver leaves of a picture is accepted by deblocking: none of 1, 4 and 5, no 2 for the planes, the words, the
+-- keep marks and the split bytes, no 15, no 6 for a luma QP, and no 7.
 -- Assumes nothing.
 use Prim.Native.Nat.{ℕ, _*_, _/_}
 use native.Mathlib.Nat.{mul-zero}
@@ -34,6 +35,9 @@ module _ (i : driver.Input) (fine : driver.check i ≡ Done) where
     is-v : j .v ≡ driver.end i .v
     is-v = f .v ∙ ap (λ (o : driver.Outcome). o .v) left
 
+    is-keep : j .keep ≡ driver.end i .keep
+    is-keep = f .keep ∙ ap (λ (o : driver.Outcome). o .keep) left
+
     is-words : j .words ≡ driver.end i .words
     is-words = f .words ∙ ap (λ (o : driver.Outcome). o .words) left
 
@@ -58,6 +62,9 @@ module _ (i : driver.Input) (fine : driver.check i ≡ Done) where
     long-words : length (j .words) ≡ unitCount (j .w) (j .h)
     long-words = ap length is-words ∙ last i fine .words-long ∙ (λ k. unitCount (sym (f .w) k) (sym (f .h) k))
 
+    long-keep : length (j .keep) ≡ unitCount (j .w) (j .h)
+    long-keep = ap length is-keep ∙ last i fine .keep-long ∙ (λ k. unitCount (sym (f .w) k) (sym (f .h) k))
+
     long-splits : length (j .splits) ≡ 1024 * rootCount (j .w) (j .h)
     long-splits = ap length (f .splits) ∙ all-passed i fine .accepted .long ∙ (λ k. 1024 * rootCount (sym (f .w) k) (sym (f .h) k))
 
@@ -72,10 +79,15 @@ module _ (i : driver.Input) (fine : driver.check i ≡ Done) where
           eq-eqb _ _ long-splits,
           eq-eqb _ _ (l .motion),
           eq-eqb _ _ (l .refs),
+          eq-eqb _ _ long-keep,
           eq-eqb _ _ (l .table0),
           eq-eqb _ _ (l .table1),
           eq-eqb _ _ (l .strengths),
         )
+
+    marks : deblocking.keepOk (j .keep) ≡ true
+    unfolding deblocking.keepOk
+    marks = rw is-keep (finished i fine .keeps)
 
     qps : deblocking.qpsOk (j .words) ≡ true
     unfolding deblocking.qpsOk
@@ -89,4 +101,4 @@ module _ (i : driver.Input) (fine : driver.check i ≡ Done) where
 
     pub joined : deblocking.checkOf j ≡ Done
     unfolding deblocking.checkOf deblocking.fromLengths
-    joined = rw (mul-zero (j .w), none-before (j .settings .format) (j .w), mul-zero (j .w / 4), sides, lengths, l .settings, walked, qps, samples)
+    joined = rw (mul-zero (j .w), none-before (j .settings .format) (j .w), mul-zero (j .w / 4), sides, lengths, l .settings, walked, marks, qps, samples)

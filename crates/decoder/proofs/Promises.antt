@@ -31,7 +31,7 @@ use Rattle.def.specs.declared.Format.{Format}
 use Rattle.def.specs.declared.Format.the-variants.{Grey, Colour}
 use Rattle.def.specs.declared.Answer.{Answer}
 use Rattle.def.specs.declared.Refusal.{Refusal}
-use Rattle.def.specs.declared.Refusal.the-variants.{Size, Length, Setting, Split, Leaf, Qp, Sample, Block, Mode, Points as BadPoints, Pivot, Sheet, Record, Band, Bits, Old}
+use Rattle.def.specs.declared.Refusal.the-variants.{Size, Length, Setting, Split, Leaf, Keep, Qp, Sample, Block, Mode, Points as BadPoints, Pivot, Sheet, Record, Band, Bits, Old}
 use Rattle.def.specs.declared.Component.the-variants.{Luma}
 use Rattle.def.specs.declared.Format.{Format}
 use Rattle.def.specs.declared.Format.the-variants.{Grey, Colour}
@@ -701,15 +701,15 @@ mend-refusals =
 
 -- ---- deblocking
 
-pub deblock-once : Sole 10 deblock-kinds.ps deblock-kinds.r deblock-reads.Post (λ κs r x. ended r (now (x .1 .1 .0) ∷ now (x .1 .1 .1 .0) ∷ now (x .1 .1 .1 .1 .0) ∷ now (x .1 .1 .1 .1 .1 .0) ∷ []))
+pub deblock-once : Sole 11 deblock-kinds.ps deblock-kinds.r deblock-reads.Post (λ κs r x. ended r (now (x .1 .1 .0) ∷ now (x .1 .1 .1 .0) ∷ now (x .1 .1 .1 .1 .0) ∷ now (x .1 .1 .1 .1 .1 .0) ∷ []))
 deblock-once κs a r r′ x x′ p q = settled deblock.outcome (λ o. o .reading) (λ o. o .y ∷ o .u ∷ o .v ∷ o .words ∷ []) p q (deblocked-apart r r′)
 
-pub checked-once : Sole 5 checked-kinds.ps checked-kinds.r checked-reads.Post (λ κs r x. r)
+pub checked-once : Sole 6 checked-kinds.ps checked-kinds.r checked-reads.Post (λ κs r x. r)
 checked-once κs a r r′ x x′ p q = one-outcome checks.checkOf _ _ _ p q
 
--- a picture of one unit, w wide: its split bytes, the transform limit, its word, and the number that every luma sample is
-abbrev filtering : ℕ → List ℕ → ℕ → ℕ → ℕ → deblock.Input
-filtering w splits limit word sample =
+-- a picture of one unit, w wide: its split bytes, the transform limit, its keep mark, its word, and the number that every luma sample is
+abbrev filtering : ℕ → List ℕ → ℕ → ℕ → ℕ → ℕ → deblock.Input
+filtering w splits limit mark word sample =
     record {
       w = w;
       h = 4;
@@ -720,6 +720,7 @@ filtering w splits limit word sample =
       splits = splits;
       motion = replicate 4 (pos 0);
       refs = replicate 2 (pos 0);
+      keep = mark ∷ [];
       table0 = chroma-table;
       table1 = chroma-table;
       strengths = replicate 208 0;
@@ -729,34 +730,36 @@ filtering w splits limit word sample =
 -- an input for each rung. 3407872 is a word of QP 52
 abbrev filterings : List deblock.Input
 filterings =
-    filtering 6 torn 7 3407872 1024
-    ∷ filtering 4 torn 7 3407872 1024
-    ∷ filtering 4 (root 2) 7 3407872 1024
-    ∷ filtering 4 (root 2) 5 3407872 1024
-    ∷ filtering 4 (root 0) 5 3407872 1024
-    ∷ filtering 4 (root 1) 5 3407872 1024
-    ∷ filtering 4 (root 1) 5 0 1024
+    filtering 6 torn 7 2 3407872 1024
+    ∷ filtering 4 torn 7 2 3407872 1024
+    ∷ filtering 4 (root 2) 7 2 3407872 1024
+    ∷ filtering 4 (root 2) 5 2 3407872 1024
+    ∷ filtering 4 (root 0) 5 2 3407872 1024
+    ∷ filtering 4 (root 1) 5 2 3407872 1024
+    ∷ filtering 4 (root 1) 5 1 3407872 1024
+    ∷ filtering 4 (root 1) 5 1 0 1024
     ∷ []
 
 abbrev by-deblocking : List Refusal
-by-deblocking = Size ∷ Length ∷ Setting ∷ Split ∷ Leaf ∷ Qp ∷ Sample ∷ []
+by-deblocking = Size ∷ Length ∷ Setting ∷ Split ∷ Leaf ∷ Keep ∷ Qp ∷ Sample ∷ []
 
 -- from the lengths on, of a picture or of a band
-rest-stops : (lent own before : ℕ) (i : checks.Input) → Stops (Length ∷ Setting ∷ Split ∷ Leaf ∷ Qp ∷ Sample ∷ []) (checks.fromLengths lent own before i)
+rest-stops : (lent own before : ℕ) (i : checks.Input) → Stops (Length ∷ Setting ∷ Split ∷ Leaf ∷ Keep ∷ Qp ∷ Sample ∷ []) (checks.fromLengths lent own before i)
 unfolding checks.fromLengths
 rest-stops lent own before i =
     rung (checks.lengthsOk (i .settings .format) (i .w) lent own (checks.lengthsOf i)) Length _
     (rung (checks.settingsOk (i .settings)) Setting _
-    (walk-rung (Qp ∷ Sample ∷ []) _ _ (picture-stops (i .splits) (i .w / 4) (own / 4))
+    (walk-rung (Keep ∷ Qp ∷ Sample ∷ []) _ _ (picture-stops (i .splits) (i .w / 4) (own / 4))
+    (rung (checks.keepOk _) Keep _
     (rung (checks.qpsOk _) Qp _
-    (rung (checks.planesOk _ _ _) Sample _ last))))
+    (rung (checks.planesOk _ _ _) Sample _ last)))))
 
 checks-stop : (i : checks.Input) → Stops by-deblocking (checks.checkOf i)
 unfolding checks.checkOf
 checks-stop i = rung (sizeOk (i .w) (i .h)) Size _ (rest-stops (i .h) (i .h) 0 i)
 
 pub deblock-refusals : Refuses deblock.outcome (λ o. o .reading .number) by-deblocking
-unfolding deblock.outcome checks.checkOf checks.fromLengths checks.lengthsOk checks.settingsOk checks.offsetOk checks.qpsOk checks.planesOk list.limitOk sizeOk walk byByte inTurn onward leafWalk samplesOk allBelow fieldOf
+unfolding deblock.outcome checks.checkOf checks.fromLengths checks.lengthsOk checks.settingsOk checks.offsetOk checks.keepOk checks.qpsOk checks.planesOk list.limitOk sizeOk walk byByte inTurn onward leafWalk samplesOk allBelow fieldOf
 deblock-refusals =
     record {
       only = λ i. by-checks (λ o. o .reading .number) (deblock.refused i) (deblock.done i) by-deblocking (deblock.check i) (λ r. refl) refl (checks-stop (deblock.checked i));
@@ -765,13 +768,13 @@ deblock-refusals =
     }
 
 pub checked-refusals : Refuses checks.checkOf answerNumber by-deblocking
-unfolding checks.checkOf checks.fromLengths checks.lengthsOk checks.settingsOk checks.offsetOk checks.qpsOk checks.planesOk list.limitOk sizeOk walk byByte inTurn onward leafWalk samplesOk allBelow fieldOf
+unfolding checks.checkOf checks.fromLengths checks.lengthsOk checks.settingsOk checks.offsetOk checks.keepOk checks.qpsOk checks.planesOk list.limitOk sizeOk walk byByte inTurn onward leafWalk samplesOk allBelow fieldOf
 checked-refusals = record { only = λ i. checks-stop i .by; shown = map deblock.checked filterings; given = refl }
 
 -- by the format: such a picture of a format, with n samples in U and in V, and U's offset
 abbrev formatted : Format → ℕ → List ℤ → ℤ → deblock.Input
 formatted f n table offset =
-    let i = filtering 4 (root 1) 5 0 0 in
+    let i = filtering 4 (root 1) 5 0 0 0 in
     record {
       w = i .w;
       h = i .h;
@@ -782,6 +785,7 @@ formatted f n table offset =
       splits = i .splits;
       motion = i .motion;
       refs = i .refs;
+      keep = i .keep;
       table0 = table;
       table1 = table;
       strengths = i .strengths;
@@ -792,16 +796,16 @@ formatted f n table offset =
 pub deblock-format-numbers : map (λ i. deblock.outcome i .reading .number)
     (formatted Grey 4 [] (pos 0) ∷ formatted Grey 0 chroma-table (pos 0) ∷ formatted Colour 0 chroma-table (pos 0) ∷ formatted Grey 0 [] (pos 1) ∷ formatted Colour 4 chroma-table (pos 1) ∷ formatted Grey 0 [] (pos 0) ∷ [])
     ≡ 2 ∷ 2 ∷ 2 ∷ 3 ∷ 0 ∷ 0 ∷ []
-unfolding deblock.outcome checks.checkOf checks.fromLengths checks.lengthsOk checks.settingsOk checks.offsetOk checks.qpsOk checks.planesOk list.limitOk sizeOk walk byByte inTurn onward leafWalk samplesOk allBelow fieldOf
+unfolding deblock.outcome checks.checkOf checks.fromLengths checks.lengthsOk checks.settingsOk checks.offsetOk checks.keepOk checks.qpsOk checks.planesOk list.limitOk sizeOk walk byByte inTurn onward leafWalk samplesOk allBelow fieldOf
 deblock-format-numbers = refl
 
 -- ---- deblocking by bands
 
-pub deblock-band-once : Sole 10 deblock-band-kinds.ps deblock-band-kinds.r deblock-band-reads.Post
+pub deblock-band-once : Sole 11 deblock-band-kinds.ps deblock-band-kinds.r deblock-band-reads.Post
     (λ κs r x. ended r (now (x .1 .1 .1 .1 .0) ∷ now (x .1 .1 .1 .1 .1 .0) ∷ now (x .1 .1 .1 .1 .1 .1 .0) ∷ now (x .1 .1 .1 .1 .1 .1 .1 .0) ∷ []))
 deblock-band-once κs a r r′ x x′ p q = settled band.outcome (λ o. o .reading) (λ o. o .y ∷ o .u ∷ o .v ∷ o .words ∷ []) p q (banded-apart r r′)
 
-pub checked-band-once : Sole 5 checked-band-kinds.ps checked-band-kinds.r checked-band-reads.Post (λ κs r x. r)
+pub checked-band-once : Sole 6 checked-band-kinds.ps checked-band-kinds.r checked-band-reads.Post (λ κs r x. r)
 checked-band-once κs a r r′ x x′ p q = one-outcome band-checks.checkOf _ _ _ p q
 
 -- the band of such a picture, for the call that the position has next
@@ -819,6 +823,7 @@ banding i k =
       splits = i .splits;
       motion = i .motion;
       refs = i .refs;
+      keep = i .keep;
       table0 = i .table0;
       table1 = i .table1;
       strengths = i .strengths;
@@ -827,24 +832,25 @@ banding i k =
 
 abbrev bandings : List band.Input
 bandings =
-    banding (filtering 6 torn 7 3407872 1024) 1
-    ∷ banding (filtering 4 torn 7 3407872 1024) 1
-    ∷ banding (filtering 4 torn 7 3407872 1024) 0
-    ∷ banding (filtering 4 (root 2) 7 3407872 1024) 0
-    ∷ banding (filtering 4 (root 2) 5 3407872 1024) 0
-    ∷ banding (filtering 4 (root 0) 5 3407872 1024) 0
-    ∷ banding (filtering 4 (root 1) 5 3407872 1024) 0
-    ∷ banding (filtering 4 (root 1) 5 0 1024) 0
+    banding (filtering 6 torn 7 2 3407872 1024) 1
+    ∷ banding (filtering 4 torn 7 2 3407872 1024) 1
+    ∷ banding (filtering 4 torn 7 2 3407872 1024) 0
+    ∷ banding (filtering 4 (root 2) 7 2 3407872 1024) 0
+    ∷ banding (filtering 4 (root 2) 5 2 3407872 1024) 0
+    ∷ banding (filtering 4 (root 0) 5 2 3407872 1024) 0
+    ∷ banding (filtering 4 (root 1) 5 2 3407872 1024) 0
+    ∷ banding (filtering 4 (root 1) 5 1 3407872 1024) 0
+    ∷ banding (filtering 4 (root 1) 5 1 0 1024) 0
     ∷ []
 
 pub band-format-numbers : map (λ i. band.outcome (banding i 0) .reading .number)
     (formatted Grey 4 [] (pos 0) ∷ formatted Grey 0 chroma-table (pos 0) ∷ formatted Colour 0 chroma-table (pos 0) ∷ formatted Grey 0 [] (pos 1) ∷ formatted Colour 4 chroma-table (pos 1) ∷ formatted Grey 0 [] (pos 0) ∷ [])
     ≡ 2 ∷ 2 ∷ 2 ∷ 3 ∷ 0 ∷ 0 ∷ []
-unfolding band.outcome band-checks.checkOf band-checks.bandOk bandRows checks.fromLengths checks.lengthsOk checks.settingsOk checks.offsetOk checks.qpsOk checks.planesOk list.limitOk sizeOk walk byByte inTurn onward leafWalk samplesOk allBelow fieldOf
+unfolding band.outcome band-checks.checkOf band-checks.bandOk bandRows checks.fromLengths checks.lengthsOk checks.settingsOk checks.offsetOk checks.keepOk checks.qpsOk checks.planesOk list.limitOk sizeOk walk byByte inTurn onward leafWalk samplesOk allBelow fieldOf
 band-format-numbers = refl
 
 abbrev by-band : List Refusal
-by-band = Size ∷ Band ∷ Length ∷ Setting ∷ Split ∷ Leaf ∷ Qp ∷ Sample ∷ []
+by-band = Size ∷ Band ∷ Length ∷ Setting ∷ Split ∷ Leaf ∷ Keep ∷ Qp ∷ Sample ∷ []
 
 band-stops : (i : band-checks.Input) → Stops by-band (band-checks.checkOf i)
 unfolding band-checks.checkOf
@@ -854,7 +860,7 @@ band-stops i =
     (rest-stops _ _ _ (i .lent)))
 
 pub deblock-band-refusals : Refuses band.outcome (λ o. o .reading .number) by-band
-unfolding band.outcome band-checks.checkOf band-checks.bandOk bandRows checks.fromLengths checks.lengthsOk checks.settingsOk checks.offsetOk checks.qpsOk checks.planesOk list.limitOk sizeOk walk byByte inTurn onward leafWalk samplesOk allBelow fieldOf
+unfolding band.outcome band-checks.checkOf band-checks.bandOk bandRows checks.fromLengths checks.lengthsOk checks.settingsOk checks.offsetOk checks.keepOk checks.qpsOk checks.planesOk list.limitOk sizeOk walk byByte inTurn onward leafWalk samplesOk allBelow fieldOf
 deblock-band-refusals =
     record {
       only = λ i. by-checks (λ o. o .reading .number) (band.refused i) (band.done i) by-band (band.check i) (λ r. refl) refl (band-stops (band.checked i));
@@ -863,7 +869,7 @@ deblock-band-refusals =
     }
 
 pub checked-band-refusals : Refuses band-checks.checkOf answerNumber by-band
-unfolding band-checks.checkOf band-checks.bandOk bandRows checks.fromLengths checks.lengthsOk checks.settingsOk checks.offsetOk checks.qpsOk checks.planesOk list.limitOk sizeOk walk byByte inTurn onward leafWalk samplesOk allBelow fieldOf
+unfolding band-checks.checkOf band-checks.bandOk bandRows checks.fromLengths checks.lengthsOk checks.settingsOk checks.offsetOk checks.keepOk checks.qpsOk checks.planesOk list.limitOk sizeOk walk byByte inTurn onward leafWalk samplesOk allBelow fieldOf
 checked-band-refusals = record { only = λ i. band-stops i .by; shown = map band.checked bandings; given = refl }
 
 -- ---- the sheet

@@ -43,6 +43,7 @@ module _ (i : deblock.Input) (t : List ℕ) (n : length t ≡ length (i .splits)
         splits = t;
         motion = i .motion;
         refs = i .refs;
+        keep = i .keep;
         table0 = i .table0;
         table1 = i .table1;
         strengths = i .strengths;
@@ -79,6 +80,7 @@ module _ (i : band.Input) (t : List ℕ) (n : length t ≡ length (i .splits)) (
         splits = t;
         motion = i .motion;
         refs = i .refs;
+        keep = i .keep;
         table0 = i .table0;
         table1 = i .table1;
         strengths = i .strengths;
@@ -112,21 +114,21 @@ module _ (i : band.Input) (t : List ℕ) (n : length t ≡ length (i .splits)) (
 
 module _ (i : driver.Input) (t : List ℕ) (n : length t ≡ length (i .splits)) (o : AgreeAt (pictureReached (i .splits) (i .given .w / 4) (i .given .h / 4)) (i .splits) t) where
   abbrev driver-other : driver.Input
-  driver-other = record { given = i .given; splits = t; y = i .y; u = i .u; v = i .v; words = i .words; modes = i .modes }
+  driver-other = record { given = i .given; splits = t; y = i .y; u = i .u; v = i .v; words = i .words; modes = i .modes; keep = i .keep }
 
   driver-tree : SameTree (i .splits) t (i .given .w / 4) (i .given .h / 4)
   driver-tree = same-tree (i .splits) t (i .given .w / 4) (i .given .h / 4) o
 
   -- what is judged after the walk, by the leaves; and what before it, by the map's length
   abbrev after-walk : List Leaf → Answer
-  after-walk l = let g = i .given in driver.dataCheck (g .leaves) (length (g .residual)) (g .pred-y) (g .pred-u) (g .pred-v) l
+  after-walk l = let g = i .given in driver.dataCheck (g .format) (g .leaves) (length (g .residual)) (g .pred-y) (g .pred-u) (g .pred-v) l
 
   abbrev before-walk : ℕ → Answer → Answer
   before-walk m k =
       let g = i .given in
       unless (sizeOk (g .w) (g .h)) (Refused Size)
-      (unless (driver.readOk (g .w) (g .h) m (length (g .pred-y)) (length (g .pred-u)) (length (g .pred-v))) (Refused Length)
-      (unless (driver.writtenOk (g .w) (g .h) (length (i .y)) (length (i .u)) (length (i .v)) (length (i .words)) (length (i .modes))) (Refused Length) k))
+      (unless (driver.readOk (g .w) (g .h) (g .format) m (length (g .pred-y)) (length (g .pred-u)) (length (g .pred-v))) (Refused Length)
+      (unless (driver.writtenOk (g .w) (g .h) (g .format) (length (i .y)) (length (i .u)) (length (i .v)) (length (i .words)) (length (i .modes)) (length (i .keep))) (Refused Length) k))
 
   driver-checks : driver.check driver-other ≡ driver.check i
   unfolding driver.checkOf

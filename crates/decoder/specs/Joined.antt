@@ -7,7 +7,7 @@ use Rattle.def.specs.Picture.{unitCount}
 use Rattle.driver_rules.specs.Call as driver
 use Rattle.df_check.specs.Checks as deblocking
 
--- deblocking is lent the picture that the driver finished, in its format: its sides, its split bytes, its planes and its words
+-- deblocking is lent the picture that the driver finished, in its format: its sides, its split bytes, its planes, its words and its keep marks
 pub record Follows (i : driver.Input) (j : deblocking.Input) : Type 0 where
   pub w : j .w ≡ i .given .w
   pub h : j .h ≡ i .given .h
@@ -17,6 +17,7 @@ pub record Follows (i : driver.Input) (j : deblocking.Input) : Type 0 where
   pub u : j .u ≡ driver.outcome i .u
   pub v : j .v ≡ driver.outcome i .v
   pub words : j .words ≡ driver.outcome i .words
+  pub keep : j .keep ≡ driver.outcome i .keep
 
 -- what deblocking asks besides: the lengths of what it alone is lent, and its settings
 pub record Lent (j : deblocking.Input) : Type 0 where

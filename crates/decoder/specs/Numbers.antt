@@ -1,7 +1,7 @@
 -- The paper's worked numbers: in one table what is asked, over the modules' own definitions, and what is to come out. The theorem is `numbers`.
 -- Assumes nothing: these are definitions.
 use Prim.Native.Nat.{ℕ, _+_, _*_}
-use mathlib.Core.Bool.{true}
+use mathlib.Core.Bool.{true, false}
 use mathlib.Core.List.{List, [], _∷_, _++_, map}
 use lib.IntN.{ℤ, pos, negsuc}
 use lib.ListN.{getD, replicate}
@@ -43,7 +43,7 @@ abbrev pub moving : ℕ → Motion
 moving x = record { refi0 = pos 0; refi1 = negsuc 0; x0 = pos x; y0 = pos 0; x1 = pos 0; y1 = pos 0 }
 
 unfoldable pub answered : Asked → List ℤ
-answered (filtered c e A B C D) = samples (written (maskOf c) (lineOf A B C D (4 * e)) (record { a = A; b = B; c = C; d = D }))
+answered (filtered c e A B C D) = samples (written (maskOf c false false) (lineOf A B C D (4 * e)) (record { a = A; b = B; c = C; d = D }))
 answered (row n) = pos (rowOf 0 0 (moving n) (moving 0)) ∷ []
 answered (dc side left corner up) = map pos (blockOf side (predicted 0 side (left ++ (corner ∷ up))))
 answered (entries p from n) = tabulate n (λ (m : ℕ). getD (tableOf (startOf true) p) (12 + (from + m)) (pos 0))

@@ -153,12 +153,12 @@ lomsakeun-get-map-once κs a n n′ x x′ p q = p ∙ sym q
 
 -- ---- deblock
 
-pub lomsakeun-deblock-once : Sole 12 deblock-kinds.ps deblock-kinds.r deblock-reads.Post {O = deblocking.Outcome}
+pub lomsakeun-deblock-once : Sole 13 deblock-kinds.ps deblock-kinds.r deblock-reads.Post {O = deblocking.Outcome}
     (λ κs n x. record {
       reading = record {
         number = n;
-        vertical = now (x .1 .1 .1 .1 .1 .1 .1 .1 .1 .1 .1 .1 .1 .1 .1 .1 .0);
-        horizontal = now (x .1 .1 .1 .1 .1 .1 .1 .1 .1 .1 .1 .1 .1 .1 .1 .1 .1 .0);
+        vertical = now (x .1 .1 .1 .1 .1 .1 .1 .1 .1 .1 .1 .1 .1 .1 .1 .1 .1 .0);
+        horizontal = now (x .1 .1 .1 .1 .1 .1 .1 .1 .1 .1 .1 .1 .1 .1 .1 .1 .1 .1 .0);
       };
       y = now (x .1 .1 .0);
       u = now (x .1 .1 .1 .0);
@@ -167,12 +167,12 @@ pub lomsakeun-deblock-once : Sole 12 deblock-kinds.ps deblock-kinds.r deblock-re
     })
 lomsakeun-deblock-once κs a n n′ x x′ p q = p ∙ sym q
 
-pub lomsakeun-deblock-band-once : Sole 13 deblock-band-kinds.ps deblock-band-kinds.r deblock-band-reads.Post {O = banding.Outcome}
+pub lomsakeun-deblock-band-once : Sole 14 deblock-band-kinds.ps deblock-band-kinds.r deblock-band-reads.Post {O = banding.Outcome}
     (λ κs n x. record {
       reading = record {
         number = n;
-        vertical = now (x .1 .1 .1 .1 .1 .1 .1 .1 .1 .1 .1 .1 .1 .1 .1 .1 .1 .1 .0);
-        horizontal = now (x .1 .1 .1 .1 .1 .1 .1 .1 .1 .1 .1 .1 .1 .1 .1 .1 .1 .1 .1 .0);
+        vertical = now (x .1 .1 .1 .1 .1 .1 .1 .1 .1 .1 .1 .1 .1 .1 .1 .1 .1 .1 .1 .0);
+        horizontal = now (x .1 .1 .1 .1 .1 .1 .1 .1 .1 .1 .1 .1 .1 .1 .1 .1 .1 .1 .1 .1 .0);
         next = now (x .0);
       };
       y = now (x .1 .1 .1 .1 .0);

@@ -60,6 +60,7 @@ pub extern "C" fn lomsakeun_deblock(
     splits: &[u8],
     motion: &[i16],
     refs: &[i8],
+    keep: &[u8],
     table0: &[i8],
     table1: &[i8],
     strengths: &[u8],
@@ -81,6 +82,7 @@ pub extern "C" fn lomsakeun_deblock(
           splits = now (splits .entry);
           motion = now (motion .entry);
           refs = now (refs .entry);
+          keep = now (keep .entry);
           table0 = now (table0 .entry);
           table1 = now (table1 .entry);
           strengths = now (strengths .entry);
@@ -105,6 +107,7 @@ pub extern "C" fn lomsakeun_deblock(
         splits,
         motion,
         refs,
+        keep,
         table0,
         table1,
         strengths,
@@ -160,6 +163,7 @@ pub extern "C" fn lomsakeun_deblock_band(
     splits: &[u8],
     motion: &[i16],
     refs: &[i8],
+    keep: &[u8],
     table0: &[i8],
     table1: &[i8],
     strengths: &[u8],
@@ -183,6 +187,7 @@ pub extern "C" fn lomsakeun_deblock_band(
           splits = now (splits .entry);
           motion = now (motion .entry);
           refs = now (refs .entry);
+          keep = now (keep .entry);
           table0 = now (table0 .entry);
           table1 = now (table1 .entry);
           strengths = now (strengths .entry);
@@ -209,6 +214,7 @@ pub extern "C" fn lomsakeun_deblock_band(
         splits,
         motion,
         refs,
+        keep,
         table0,
         table1,
         strengths,

@@ -32,7 +32,7 @@ fn written(mask: bool, new: u16, old: u16) -> u16 {
 // The line q at an entry of the strength table.
 fn filtered(component: Component, entry: u8, q: Quad) {
     let f = decoder::line(q.a, q.b, q.c, q.d, 4 * entry as u16);
-    let m = decoder::mask_of(component);
+    let m = decoder::mask_of(component, false, false);
     put(b"entry");
     replay::print_usize(entry as usize);
     put_quad(q);
@@ -218,6 +218,7 @@ fn unit_number(qp: u8) -> u8 {
         &splits,
         &[0i16; 4],
         &[0i8; 2],
+        &[0u8; 1],
         &table,
         &table,
         &[0u8; 208],

@@ -63,12 +63,15 @@ fn maps(
     let pm = cases::slice_i16(s, ps.next, &mut motion);
     let mut refs = [0i8; 1200];
     let pr = cases::slice_i8(s, pm.next, &mut refs);
+    let mut keep = [0u8; 600];
+    let pk = cases::slice_u8(s, pr.next, &mut keep);
     let ns = ps.len;
     let nm = pm.len;
     let nr = pr.len;
+    let nk = pk.len;
     tables(
         s,
-        pr.next,
+        pk.next,
         call,
         y,
         u,
@@ -77,6 +80,7 @@ fn maps(
         &splits[..ns],
         &motion[..nm],
         &refs[..nr],
+        &keep[..nk],
     )
 }
 
@@ -92,6 +96,7 @@ fn tables(
     splits: &[u8],
     motion: &[i16],
     refs: &[i8],
+    keep: &[u8],
 ) -> usize {
     let mut t0 = [0i8; 128];
     let p0 = cases::slice_i8(s, at, &mut t0);
@@ -113,6 +118,7 @@ fn tables(
         splits,
         motion,
         refs,
+        keep,
         &t0[..n0],
         &t1[..n1],
         &strengths[..ns],
@@ -131,6 +137,7 @@ fn deblocked(
     splits: &[u8],
     motion: &[i16],
     refs: &[i8],
+    keep: &[u8],
     t0: &[i8],
     t1: &[i8],
     strengths: &[u8],
@@ -148,6 +155,7 @@ fn deblocked(
         splits,
         motion,
         refs,
+        keep,
         t0,
         t1,
         strengths,

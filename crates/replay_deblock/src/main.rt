@@ -32,7 +32,7 @@ fn one(s: &[u8], at: usize) -> usize {
     )
 }
 
-// Then what lies over the picture: its split bytes, its motion and its references.
+// Then what lies over the picture: its split bytes, its motion and its references and its keep marks.
 fn maps(
     s: &[u8],
     at: usize,
@@ -49,12 +49,15 @@ fn maps(
     let pm = cases::slice_i16(s, ps.next, &mut motion);
     let mut refs = [0i8; 2600];
     let pr = cases::slice_i8(s, pm.next, &mut refs);
+    let mut keep = [0u8; 1300];
+    let pk = cases::slice_u8(s, pr.next, &mut keep);
     let ns = ps.len;
     let nm = pm.len;
     let nr = pr.len;
+    let nk = pk.len;
     tables(
         s,
-        pr.next,
+        pk.next,
         w,
         h,
         y,
@@ -64,6 +67,7 @@ fn maps(
         &splits[..ns],
         &motion[..nm],
         &refs[..nr],
+        &keep[..nk],
     )
 }
 
@@ -80,6 +84,7 @@ fn tables(
     splits: &[u8],
     motion: &[i16],
     refs: &[i8],
+    keep: &[u8],
 ) -> usize {
     let mut t0 = [0i8; 128];
     let p0 = cases::slice_i8(s, at, &mut t0);
@@ -102,6 +107,7 @@ fn tables(
         splits,
         motion,
         refs,
+        keep,
         &t0[..n0],
         &t1[..n1],
         &strengths[..ns],
@@ -121,6 +127,7 @@ fn deblocked(
     splits: &[u8],
     motion: &[i16],
     refs: &[i8],
+    keep: &[u8],
     t0: &[i8],
     t1: &[i8],
     strengths: &[u8],
@@ -136,6 +143,7 @@ fn deblocked(
         splits,
         motion,
         refs,
+        keep,
         t0,
         t1,
         strengths,

@@ -43,13 +43,14 @@ pub const CALLS: [Call; 17] = [
 ];
 
 /// The calls over whole pictures: each has all of a run's pictures.
-pub const PICTURES: [Call; 6] = [
+pub const PICTURES: [Call; 7] = [
     call("deblock", deblock_cases::draw, deblock_cases::damaged, 1000),
     call("deblock_quiet", deblock_cases::draw_quiet, deblock_cases::damaged_quiet, 1000),
     call("driver", driver_cases::draw, driver_cases::damaged, 1000),
     call("deblock_band", bands_cases::draw, bands_cases::damaged, 1000),
     call("deblock_bands", bands_cases::draw_all, bands_cases::damaged_all, 1000),
     call("deblock_grey", grey::draw, grey::damaged, 1000),
+    call("deblock_keep", keep::draw, keep::damaged, 1000),
 ];
 
 /// Two answers to one input that are not the same.

@@ -205,6 +205,7 @@ fn maps(given: &Picture, units: Range<usize>, splits: Range<usize>) -> lomsakeun
         splits: &given.splits[splits],
         motion: &given.motion[4 * units.start..4 * units.end],
         refs: &given.refs[2 * units.start..2 * units.end],
+        keep: &given.keep[units.clone()],
         tables: given.tables.each_ref().map(|table| &table[..]),
         strengths: &given.strengths,
     }

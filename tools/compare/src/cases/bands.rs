@@ -60,6 +60,7 @@ impl Case for Band {
         let mut words = Lent::new(lending, &lent.words);
         let (splits, motion) = (Lent::new(lending, &lent.splits), Lent::new(lending, &lent.motion));
         let (refs, strengths) = (Lent::new(lending, &lent.refs), Lent::new(lending, &lent.strengths));
+        let keep = Lent::new(lending, &lent.keep);
         let [t0, t1] = lent.tables.each_ref().map(|table| Lent::new(lending, table));
         let (mut next, mut vertical, mut horizontal) = (self.next, 77, 78);
         let number = unsafe {
@@ -82,6 +83,8 @@ impl Case for Band {
                 motion.len(),
                 refs.ptr(),
                 refs.len(),
+                keep.ptr(),
+                keep.len(),
                 t0.ptr(),
                 t0.len(),
                 t1.ptr(),
@@ -99,6 +102,7 @@ impl Case for Band {
         splits.kept(&lent.splits)?;
         motion.kept(&lent.motion)?;
         refs.kept(&lent.refs)?;
+        keep.kept(&lent.keep)?;
         t0.kept(&lent.tables[0])?;
         t1.kept(&lent.tables[1])?;
         strengths.kept(&lent.strengths)?;
@@ -137,6 +141,7 @@ pub fn part(picture: &Picture, band: usize) -> Picture {
         splits: picture.splits[bytes * band..bytes * (band + 1)].to_vec(),
         motion: picture.motion[cut(4)].to_vec(),
         refs: picture.refs[cut(2)].to_vec(),
+        keep: picture.keep[units.clone()].to_vec(),
         tables: picture.tables.clone(),
         strengths: picture.strengths.clone(),
         limit: picture.limit,
@@ -150,6 +155,7 @@ pub fn part(picture: &Picture, band: usize) -> Picture {
 pub enum Harm {
     Sample(usize, usize),
     Qp(usize),
+    Keep(usize),
     Split(usize),
     Limit,
 }
@@ -159,6 +165,7 @@ impl Harm {
         match self {
             Harm::Sample(plane, at) => lent.planes[plane][at] = 1024,
             Harm::Qp(at) => lent.words[at] = lent.words[at] & !(127 << 16) | 52 << 16,
+            Harm::Keep(at) => lent.keep[at] = 2,
             Harm::Split(at) => lent.splits[at] = 2,
             Harm::Limit => lent.limit = 7,
         }
@@ -169,6 +176,7 @@ impl Harm {
         match self {
             Harm::Sample(plane, at) => [7, plane, at],
             Harm::Qp(at) => [6, 0, at],
+            Harm::Keep(at) => [15, 0, at],
             Harm::Split(at) => [4, 0, at],
             Harm::Limit => [3, 0, 0],
         }

@@ -19,6 +19,7 @@ pub fn record(tape: &mut Tape) {
     longest(tape, rng);
     super::bands_refusals::record(tape, rng);
     super::grey::record_bands(tape);
+    super::keep::record_bands(tape);
     compare(tape, rng);
 }
 
@@ -163,12 +164,13 @@ pub fn damaged_all(rng: &mut Rng) -> Box<dyn Case> {
 fn a_harm(rng: &mut Rng, lent: &Picture, band: usize) -> Harm {
     let first = lent.w / 4 * (unjudged(band) / 4);
     let unit = first + rng.below(lent.words.len() - first);
-    match rng.below(6) {
+    match rng.below(7) {
         0 => Harm::Limit,
         1 => Harm::Split(1024 * rng.below(lent.w.div_ceil(64)) + 136),
         2 => Harm::Qp(unit),
         3 => Harm::Sample(0, 16 * unit + rng.below(16)),
-        4 => Harm::Sample(1, 4 * unit + rng.below(4)),
+        4 => Harm::Keep(unit),
+        5 => Harm::Sample(1, 4 * unit + rng.below(4)),
         _ => Harm::Sample(2, 4 * unit + rng.below(4)),
     }
 }

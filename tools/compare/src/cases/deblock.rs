@@ -17,6 +17,7 @@ pub struct Picture {
     pub splits: Vec<u8>,
     pub motion: Vec<i16>,
     pub refs: Vec<i8>,
+    pub keep: Vec<u8>,
     pub tables: [Vec<i8>; 2],
     pub strengths: Vec<u8>,
     pub limit: usize,
@@ -32,6 +33,7 @@ impl Picture {
             splits: &self.splits,
             motion: &self.motion,
             refs: &self.refs,
+            keep: &self.keep,
             tables: [&self.tables[0], &self.tables[1]],
             strengths: &self.strengths,
             limit: self.limit,
@@ -56,7 +58,8 @@ impl Case for Picture {
     fn input(&self) -> Line {
         let line = Line::new().num(self.w).num(self.h);
         let line = self.planes.iter().fold(line, |line, plane| line.slice(plane));
-        let line = line.slice(&self.words).slice(&self.splits).slice(&self.motion).slice(&self.refs);
+        let line =
+            line.slice(&self.words).slice(&self.splits).slice(&self.motion).slice(&self.refs).slice(&self.keep);
         let line = line.slice(&self.tables[0]).slice(&self.tables[1]).slice(&self.strengths);
         line.num(self.limit).num(self.offsets[0]).num(self.offsets[1]).flag(self.colour)
     }
@@ -103,6 +106,7 @@ impl Case for Picture {
         let mut words = Lent::new(lending, &self.words);
         let (splits, motion) = (Lent::new(lending, &self.splits), Lent::new(lending, &self.motion));
         let (refs, strengths) = (Lent::new(lending, &self.refs), Lent::new(lending, &self.strengths));
+        let keep = Lent::new(lending, &self.keep);
         let [t0, t1] = self.tables.each_ref().map(|table| Lent::new(lending, table));
         let (mut vertical, mut horizontal) = (77, 78);
         let number = unsafe {
@@ -123,6 +127,8 @@ impl Case for Picture {
                 motion.len(),
                 refs.ptr(),
                 refs.len(),
+                keep.ptr(),
+                keep.len(),
                 t0.ptr(),
                 t0.len(),
                 t1.ptr(),
@@ -140,6 +146,7 @@ impl Case for Picture {
         splits.kept(&self.splits)?;
         motion.kept(&self.motion)?;
         refs.kept(&self.refs)?;
+        keep.kept(&self.keep)?;
         t0.kept(&self.tables[0])?;
         t1.kept(&self.tables[1])?;
         strengths.kept(&self.strengths)?;
@@ -164,7 +171,7 @@ pub fn split_bytes(rng: &mut Rng, w: usize, h: usize, tree: &[(usize, usize, usi
     bytes
 }
 
-/// An accepted picture with the Rust's strengths and both chroma tables alike.
+/// An accepted picture with the Rust's strengths, both chroma tables alike and nothing kept.
 pub fn picture(rng: &mut Rng, w: usize, h: usize, taste: Taste) -> Picture {
     let units = (w / 4) * (h / 4);
     let tree = trees::tree(rng, w, h, taste);
@@ -178,6 +185,7 @@ pub fn picture(rng: &mut Rng, w: usize, h: usize, taste: Taste) -> Picture {
         splits: split_bytes(rng, w, h, &tree),
         motion: motion(rng, units),
         refs: refs(rng, units),
+        keep: vec![0; units],
         tables: std::array::from_fn(|_| alike.clone()),
         strengths: rust::strengths(),
         limit: rng.pick(&[5, 6]),

@@ -30,6 +30,7 @@ pub fn record(tape: &mut Tape) {
     longest(tape, rng);
     super::deblock_refusals::record(tape, rng);
     super::grey::record(tape);
+    super::keep::record(tape);
     compare(tape, rng);
 }
 
@@ -315,7 +316,7 @@ pub fn harm(rng: &mut Rng, case: &mut Picture) {
     for _ in 0..1 + rng.below(2) {
         let plane = rng.below(3);
         let table = rng.below(2);
-        match rng.below(14) {
+        match rng.below(16) {
             0 => spoil(rng, &mut case.w),
             1 => spoil(rng, &mut case.h),
             2 => stretch(rng, &mut case.planes[plane]),
@@ -329,6 +330,8 @@ pub fn harm(rng: &mut Rng, case: &mut Picture) {
             10 => case.offsets[table] = rng.range(-128, 127),
             11 => case.words.iter_mut().for_each(|word| *word ^= (rng.one_in(9) as u32) << rng.range(16, 22)),
             12 => case.tables[table].iter_mut().for_each(|value| *value = rng.range(-8, 58) as i8),
+            13 => stretch(rng, &mut case.keep),
+            14 => case.keep.iter_mut().for_each(|mark| *mark = rng.pick(&[0, 0, 1, 1, 2, 255])),
             _ => overdo(rng, &mut case.planes[plane]),
         }
     }

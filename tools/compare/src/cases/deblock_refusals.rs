@@ -25,7 +25,7 @@ fn sizes(tape: &mut Tape, good: &Picture) {
     }
 }
 
-/// 2: each of the eleven slices.
+/// 2: each of the twelve slices.
 fn lengths(tape: &mut Tape, good: &Picture) {
     for i in 0..3 {
         for wrong in wrong_lengths(&good.planes[i]) {
@@ -45,6 +45,7 @@ fn lengths(tape: &mut Tape, good: &Picture) {
     wrong_lengths(&good.splits).into_iter().for_each(|splits| tape.record(&Picture { splits, ..good.clone() }));
     wrong_lengths(&good.motion).into_iter().for_each(|motion| tape.record(&Picture { motion, ..good.clone() }));
     wrong_lengths(&good.refs).into_iter().for_each(|refs| tape.record(&Picture { refs, ..good.clone() }));
+    wrong_lengths(&good.keep).into_iter().for_each(|keep| tape.record(&Picture { keep, ..good.clone() }));
     for strengths in wrong_lengths(&good.strengths) {
         tape.record(&Picture { strengths, limit: 7, ..good.clone() });
     }

@@ -13,6 +13,7 @@ pub mod driver_cases;
 mod driver_refusals;
 pub mod gather;
 pub mod grey;
+pub mod keep;
 #[cfg(feature = "archive")]
 pub mod listing;
 pub mod mend;

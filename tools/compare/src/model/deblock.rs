@@ -10,6 +10,7 @@ pub struct Given<'a> {
     pub splits: &'a [u8],
     pub motion: &'a [i16],
     pub refs: &'a [i8],
+    pub keep: &'a [u8],
     pub tables: [&'a [i8]; 2],
     pub strengths: &'a [u8],
     pub limit: usize,
@@ -82,6 +83,9 @@ fn check(given: &Given, rows: &Rows, planes: [&[u16]; 3], words: &[u32]) -> Resu
     }
     let leaves = walk::leaves(given.w, rows.own, walk::cut_by(given.splits, given.w))?;
     let units = (given.w / 4) * (rows.unjudged / 4);
+    if !given.keep[units..].iter().all(|&mark| mark <= 1) {
+        return Err(KEEP);
+    }
     if !words[units..].iter().all(|&word| qp_of(word) <= 51) {
         return Err(QP);
     }
@@ -101,6 +105,7 @@ fn lengths_ok(given: &Given, rows: &Rows, planes: [&[u16]; 3], words: &[u32]) ->
         && given.splits.len() == 1024 * roots
         && given.motion.len() == 4 * units
         && given.refs.len() == 2 * units
+        && given.keep.len() == units
         && given.tables.iter().all(|table| table.len() == if given.colour { 70 } else { 0 })
         && given.strengths.len() == 208
 }
@@ -126,6 +131,8 @@ struct Edge<'a> {
     row: usize,
     qp: i64,
     along: bool,
+    /// Whether P is kept, and Q.
+    kept: [bool; 2],
 }
 
 impl<'a> Edge<'a> {
@@ -133,7 +140,8 @@ impl<'a> Edge<'a> {
         let wide = given.w / 4;
         let q = qy * wide + qx;
         let p = if along { q - wide } else { q - 1 };
-        Edge { given, row: row(given, words, q, p), qp: qp_of(words[q]), along }
+        let kept = [given.keep[p] == 1, given.keep[q] == 1];
+        Edge { given, row: row(given, words, q, p), qp: qp_of(words[q]), along, kept }
     }
 
     /// The strength entry, for luma or for a chroma plane's table and offset: that of the nearest end where the mapped QP has none.
@@ -142,15 +150,17 @@ impl<'a> Edge<'a> {
         self.given.strengths[52 * self.row + qp.clamp(0, 51) as usize] as i64
     }
 
-    /// Filters the edge's lines in one plane, the first of Q's samples being at (x, y).
+    /// Filters the edge's lines in one plane, the first of Q's samples being at (x, y). A and B are P's, C and D are Q's: what is kept stays.
     fn filter(&self, plane: &mut [u16], w: usize, entry: i64, (x, y): (usize, usize), lines: usize) {
         let (across, next) = if self.along { (w, 1) } else { (1, w) };
         for i in 0..lines {
             let c = y * w + x + i * next;
             let places = [c - 2 * across, c - across, c, c + across];
             let filtered = line(places.map(|place| plane[place]), entry, lines == 4);
-            for (place, sample) in places.into_iter().zip(filtered) {
-                plane[place] = sample;
+            for (k, (place, sample)) in places.into_iter().zip(filtered).enumerate() {
+                if !self.kept[k / 2] {
+                    plane[place] = sample;
+                }
             }
         }
     }
@@ -195,7 +205,7 @@ fn differences(given: &Given, q: usize, p: usize) -> Option<[i64; 4]> {
     Some([0, 1, 2, 3].map(difference))
 }
 
-/// Whether an accepted picture lies in the Rust's domain as to its size, its chroma QPs and its motion: at most 65,536
+/// Whether an accepted picture lies in the Rust's domain as to its marks, its size, its chroma QPs and its motion: nothing is kept, at most 65,536
 /// units, both chroma tables alike, for on vertical edges the Rust reads the first for V, every lookup inside 0..51, and the differences that it takes, up to the first of 4 or more at each visited
 /// edge, inside -32767..32767.
 pub fn fits(given: &Given, words: &[u32]) -> bool {
@@ -206,7 +216,8 @@ pub fn fits(given: &Given, words: &[u32]) -> bool {
     let unit = |(x, y): (usize, usize)| (y / 4) * wide + x / 4;
     let mut pairs = vertical.iter().map(|&edge| (unit(edge), unit(edge) - 1)).collect::<Vec<_>>();
     pairs.extend(horizontal.iter().map(|&edge| (unit(edge), unit(edge) - wide)));
-    words.len() <= 65536
+    given.keep.iter().all(|&mark| mark == 0)
+        && words.len() <= 65536
         && given.tables[0] == given.tables[1]
         && words.iter().all(|&word| lookups_fit(given, word))
         && pairs.iter().all(|&(q, p)| taken_fit(given, words, q, p))

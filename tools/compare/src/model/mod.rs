@@ -33,6 +33,7 @@ pub const PIVOT: u32 = 11;
 pub const SHEET: u32 = 12;
 pub const RECORD: u32 = 13;
 pub const BAND: u32 = 14;
+pub const KEEP: u32 = 15;
 pub const BITS: u32 = 16;
 pub const STREAM: u32 = 17;
 pub const SHORT: u32 = 18;
