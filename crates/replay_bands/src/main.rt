@@ -47,7 +47,7 @@ struct Call {
     h: usize,
 }
 
-// Then the band's split bytes, and the motion and the references over the same rows.
+// Then the band's split bytes, and the motion, the references and the keep marks over the same rows.
 fn maps(
     s: &[u8],
     at: usize,

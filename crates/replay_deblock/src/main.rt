@@ -32,7 +32,7 @@ fn one(s: &[u8], at: usize) -> usize {
     )
 }
 
-// Then what lies over the picture: its split bytes, its motion and its references and its keep marks.
+// Then what lies over the picture: its split bytes, its motion, its references and its keep marks.
 fn maps(
     s: &[u8],
     at: usize,
