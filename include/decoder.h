@@ -236,6 +236,24 @@ uint8_t lomsakeun_deblock_band(
     const uint8_t *strengths, size_t strengths_len,
     uint8_t limit, int8_t u_offset, int8_t v_offset, bool colour, size_t *vertical_count, size_t *horizontal_count);
 
+/* A map of edge rows, a byte a unit (rows): the strength row of its left edge in bits 0..1, that of its top edge in bits 2..3, and 0 where no unit
+ * lies on that side. This fills it. */
+uint8_t lomsakeun_fill_rows(
+    size_t w, size_t h, const uint32_t *words, size_t words_len, const int16_t *motion, size_t motion_len,
+    const int8_t *refs, size_t refs_len, uint8_t *rows, size_t rows_len);
+
+/* Sets the motion and the references of the unit of column x and row y, and in the map, whatever it holds, the rows of that unit's four edges;
+ * no other bit of it. A map that was right stays right. */
+uint8_t lomsakeun_set_motion(
+    size_t w, size_t h, size_t x, size_t y, int16_t x0, int16_t y0, int16_t x1, int16_t y1, int8_t refi0, int8_t refi1,
+    const uint32_t *words, size_t words_len, int16_t *motion, size_t motion_len, int8_t *refs, size_t refs_len,
+    uint8_t *rows, size_t rows_len);
+
+/* The same for a bit of the unit's word: the luma-coded bit where coded is true, else the intra bit. */
+uint8_t lomsakeun_set_flag(
+    size_t w, size_t h, size_t x, size_t y, bool coded, bool on, uint32_t *words, size_t words_len,
+    const int16_t *motion, size_t motion_len, const int8_t *refs, size_t refs_len, uint8_t *rows, size_t rows_len);
+
 /* The text that `edgelist` prints for a sheet (sheet), and its length. */
 uint8_t lomsakeun_listing(const uint8_t *input, size_t input_len, uint8_t *out, size_t out_len, size_t *length);
 

@@ -1,6 +1,6 @@
 //! Safe calls of the Lomsakeun decoder, whose proved archive this crate links: chroma QP tables, neighbour availability, mode ranks,
 //! gathering, intra prediction, residual addition, the split tree with its edges, the block driver, deblocking, of a picture at once or by bands,
-//! pictures as YUV4MPEG2 streams, and the ward's screen.
+//! maps of edge rows, pictures as YUV4MPEG2 streams, and the ward's screen.
 //!
 //! Every call accepts every input. A bad one answers a [`Refusal`] and leaves every lent slice as it was; nothing is trusted, and each
 //! slice's length goes with it. Places and sizes are in luma samples unless a call says units (4x4 luma samples); planes and maps are flat,
@@ -48,6 +48,7 @@ mod neighbours;
 mod pack;
 mod picture;
 mod refusal;
+mod rows;
 mod screen;
 mod streams;
 pub mod sys;
@@ -63,6 +64,7 @@ pub use neighbours::{get_avail_inter, get_avail_intra, get_mpm, Neighbours};
 pub use pack::{get_map, put_map, Reader, Writer};
 pub use picture::Picture;
 pub use refusal::Refusal;
+pub use rows::{fill_rows, set_flag, set_motion, Flag, Motion};
 pub use screen::{Run, Shown, Turn, Window};
 pub use streams::{
     frame_length, import_frame, read_frame, read_header, write_frame, write_header, Header, Misread, Planes,

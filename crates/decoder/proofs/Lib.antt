@@ -4,6 +4,7 @@ pub mod Joined
 pub mod Numbers
 pub mod Promises
 pub mod Refusing
+pub mod Rows
 pub mod Settled
 pub mod Streams
 pub mod Taking

@@ -85,6 +85,8 @@ use Rattle.decoder.proofs.lanes.Kinds as lanes-kinds
 use Rattle.decoder.proofs.lanes.Reads as lanes-reads
 use Rattle.decoder.proofs.motion_row.Kinds as motion-row-kinds
 use Rattle.decoder.proofs.motion_row.Reads as motion-row-reads
+use Rattle.decoder.proofs.row_at.Kinds as row-at-kinds
+use Rattle.decoder.proofs.row_at.Reads as row-at-reads
 
 pub pel2scu-once : Sole 0 pel2scu-kinds.ps pel2scu-kinds.r pel2scu-reads.Post (λ κs r x. r)
 pel2scu-once κs a r r′ x x′ p q = ap (λ (n : ℕ). record { 0 = n }) (p ∙ sym q)
@@ -187,6 +189,9 @@ entries-once κs a r r′ x x′ p q = p ∙ sym q
 
 pub motion-row-once : Sole 0 motion-row-kinds.ps motion-row-kinds.r motion-row-reads.Post (λ κs r x. r)
 motion-row-once κs a r r′ x x′ p q = p .0 ∙ sym (q .0)
+
+pub row-at-once : Sole 3 row-at-kinds.ps row-at-kinds.r row-at-reads.Post (λ κs r x. r)
+row-at-once κs a r r′ x x′ p q = p .0 ∙ sym (q .0)
 
 -- ---- bits and marks
 

@@ -10,6 +10,7 @@
 //     7 driver          reconstruct; checked_leaves, coded_y, coded_u, coded_v, mode_of, word_of
 //     8 walk            leaves, check, visiting_rank, list_edges, root_list; list_marks, take_marks, mark_place, mark_byte, root_count
 //       deblocking      deblock; Bands::first, deblock_band; checked, checked_band, band_rows, rows_above, entries, mask_of, line, lanes, motion_row
+//       edge rows       fill_rows, set_motion, set_flag; row_at
 //     the sheet         read, listing
 //     the compact map   put_map, get_map; write_to, write_map, read_from, read_map; get_bit, put_bit
 //     a torn map        mend
@@ -101,6 +102,11 @@ pub use rank::Rank;
 pub use rank::visiting_rank;
 pub use recon::recon;
 pub use recon::recon_plane;
+pub use row::row_at;
+pub use rows::Flag;
+pub use rows::fill_rows;
+pub use rows::set_flag;
+pub use rows::set_motion;
 pub use samples::samples_ok;
 pub use sheet::Printed;
 pub use sheet::listing;

@@ -3,3 +3,4 @@ pub mod Ranks
 pub mod Screens
 pub mod Once
 pub mod Deblocks
+pub mod Moves

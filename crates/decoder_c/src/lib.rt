@@ -9,6 +9,7 @@ mod blocks;
 mod chroma;
 mod compact;
 mod deblock;
+mod edge_rows;
 mod neighbours;
 mod reconstruct;
 mod screen;

@@ -60,7 +60,7 @@ pub fn print_u32(values: &[u32])
 }
 
 // A number below 0 has its minus, and its size from below.
-fn print_signed(v: i8) {
+fn print_signed(v: i16) {
     let wide = v as i32;
     if wide < 0 {
         io::write_all(1, b" -");
@@ -71,7 +71,19 @@ fn print_signed(v: i8) {
     }
 }
 
+fn print_signed_byte(v: i8) {
+    print_signed(v as i16);
+}
+
 pub fn print_i8(values: &[i8])
+    ensures { λ _. ⌜ now (values .exit) ≡ now (values .entry) ⌝ }
+{
+    for i in 0..values.len() {
+        print_signed_byte(values[i]);
+    }
+}
+
+pub fn print_i16(values: &[i16])
     ensures { λ _. ⌜ now (values .exit) ≡ now (values .entry) ⌝ }
 {
     for i in 0..values.len() {

@@ -2,9 +2,9 @@
 --     unit-there, in-maps    the test passes exactly where the maps hold the unit
 --     none-q, none-p, both-there    the answer, by what the two tests found
 -- Assumes nothing.
-use Prim.Native.Nat.{ℕ, _+_, _*_, _/_, _≤_, _<_}
-use mathlib.Core.Path.{_≡_, refl, sym, ap, _∙_}
-use mathlib.Core.Bool.{Bool, true, false}
+use Prim.Native.Nat.{ℕ, _/_, _<_}
+use mathlib.Core.Path.{_≡_, sym}
+use mathlib.Core.Bool.{true, false}
 use mathlib.Core.List.{List, [], _∷_}
 use native.Mathlib.Omega.{arith}
 use borrow.Author.Tests.{ltb-true, lt-ltb}
@@ -16,9 +16,6 @@ use Rattle.laws.proofs.Calls.{all-at}
 use Rattle.row.specs.Between.{rowBetween, inMaps, rowIn, Unit}
 
 module _ (words : List ℕ) (motion refs : List ℤ) where
-  there : ℕ → Bool
-  there = inMaps (length words) (length motion) (length refs)
-
   pub unit-there : (k : ℕ) → inMaps (length words) (length motion) (length refs) k ≡ true → Unit words motion refs k
   unfolding inMaps
   unit-there k e =

@@ -4,7 +4,7 @@
 --     fill-refused, fill-done, motion-refused, motion-done, flag-refused, flag-done    the outcomes by what the checks found
 --     lent-moved, lent-flagged    what an edit leaves of the maps
 -- Assumes nothing.
-use Prim.Native.Nat.{ℕ, _+_, _*_, _/_, _≤_, _<_}
+use Prim.Native.Nat.{ℕ, _*_, _/_}
 use mathlib.Core.Path.{_≡_, refl, sym, ap, _∙_}
 use mathlib.Core.Bool.{Bool, true, false}
 use mathlib.Core.List.{List}

@@ -2,7 +2,7 @@
 --     edge-of    which edges are those of a unit, by its neighbours
 --     four-edges    the code's four steps
 -- Assumes nothing.
-use Prim.Native.Nat.{ℕ, _+_, _-_, _*_, _≤_, _<_}
+use Prim.Native.Nat.{ℕ, _+_, _-_, _*_, _<_}
 use mathlib.Core.Path.{_≡_, refl, sym, ap, _∙_, subst}
 use mathlib.Core.Bool.{Bool, true, false, _&&_, _||_}
 use mathlib.Core.List.{List}
@@ -13,7 +13,7 @@ use lib.IntN.{ℤ}
 use lib.ListN.{length, getD, set, length-set}
 use lib.Seq.{getD-set-same, getD-set-other}
 use Rattle.laws.specs.Bits.{withField}
-use Rattle.laws.specs.Index.{pick, tabulate}
+use Rattle.laws.specs.Index.{pick}
 use Rattle.laws.proofs.Bools.{and-false}
 use Rattle.laws.proofs.Tabulate.{is-tabulate}
 use Rattle.split.specs.Edges.{Pass, vertical, horizontal}

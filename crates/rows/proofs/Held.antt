@@ -7,7 +7,7 @@ use mathlib.Core.List.{List, [], _∷_}
 use native.Mathlib.Nat.{add-zero}
 use native.Mathlib.Decide.{decLt}
 use native.Mathlib.Omega.{arith}
-use borrow.Author.Tests.{eqb-true, eqb-false, eq-eqb, ltb-true}
+use borrow.Author.Tests.{eqb-true, eqb-false, ltb-true}
 use lib.Dec.{eqb}
 use lib.IntN.{ℤ, pos}
 use lib.ListN.{length, getD, set, List·getD-eq-default}
@@ -31,9 +31,7 @@ use Rattle.rows.specs.FillCall as fill
 use Rattle.rows.specs.FlagCall as flag
 use Rattle.rows.specs.Held.{Held, Right, fillOf, Edit, moves, flags, placeOf, motionInput, flagInput, numberOf, after, Near, itself, right, lower, Sets, Kept}
 use Rattle.rows.specs.MotionCall as move
-use Rattle.rows.specs.Rule.{hasSide, firstBit, edgeRow, ruleByte, RightMap, edgeOf, withEdge, editedByte, editedMap}
-use Rattle.rows.specs.declared.Flag.{Flag}
-use Rattle.rows.proofs.Calls.{maps-accepted}
+use Rattle.rows.specs.Rule.{hasSide, firstBit, edgeRow, ruleByte, RightMap, edgeOf, editedByte, editedMap}
 use Rattle.rows.proofs.Sides.{before, byte-of, edge-few}
 
 -- ---- an edit of any map, by the maps that it leaves

@@ -8,7 +8,7 @@
 --     left-put, top-put, byte-of, flag-at-15, flag-at-24    bits as the code sets them
 -- Assumes nothing.
 use Prim.Native.Nat.{ℕ, zero, suc, _+_, _-_, _*_, _/_, _%_, _≤_, _<_}
-use mathlib.Core.Path.{_≡_, refl, sym, ap, _∙_}
+use mathlib.Core.Path.{_≡_, sym, ap, _∙_}
 use mathlib.Core.Bool.{Bool, true, false, not}
 use mathlib.Core.List.{List}
 use native.Mathlib.Nat.{mod-self, mod-lt, mod-eq-of-lt, div-eq-of-lt, mod-add-div', mul-le-mul-right, mul-add-mod-self-right, mul-add-div-right, add-zero, mul-comm}

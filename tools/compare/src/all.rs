@@ -22,7 +22,7 @@ const fn call(name: &'static str, draw: Draw, damaged: Draw, share: usize) -> Ca
 }
 
 /// The single calls; the shares of those that the Rust has add up to 1000.
-pub const CALLS: [Call; 17] = [
+pub const CALLS: [Call; 19] = [
     call("chroma_qp", chroma_qp::draw, chroma_qp::damaged, 100),
     call("avail", avail::draw, avail::damaged, 200),
     call("ranks", ranks::draw, ranks::damaged, 200),
@@ -37,6 +37,8 @@ pub const CALLS: [Call; 17] = [
     call("put_map", pack::draw_put, pack::damaged_put, 50),
     call("get_map", pack::draw_get, pack::damaged_get, 50),
     call("mend", mend::draw, mend::damaged, 10),
+    call("rows", rows::draw, rows::damaged, 100),
+    call("rows_edits", rows::draw_series, rows::draw_series, 20),
     call("listing", listing::draw, listing::damaged, 2),
     call("streams", streams::draw, streams::damaged, 50),
     call("ward_row", screen::draw, screen::damaged, 50),

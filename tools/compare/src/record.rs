@@ -5,7 +5,7 @@ use std::path::Path;
 
 type Recorder = fn(&mut Tape);
 
-const ALL: [(&str, Recorder); 15] = [
+const ALL: [(&str, Recorder); 16] = [
     ("chroma_qp", chroma_qp::record),
     ("avail", avail::record),
     ("ranks", ranks::record),
@@ -18,6 +18,7 @@ const ALL: [(&str, Recorder); 15] = [
     ("driver", driver_cases::record),
     ("mend", mend::record),
     ("pack", pack::record),
+    ("rows", rows::record),
     ("sheet", sheet::record),
     ("streams", streams::record),
     ("screen", screen::record),

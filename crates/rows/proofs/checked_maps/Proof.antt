@@ -1,5 +1,5 @@
 -- `rows::checked_maps` meets its contract: a row of two checks. Assumes nothing.
-use mathlib.Core.Path.{_≡_, refl, sym, _∙_}
+use mathlib.Core.Path.{refl, sym, _∙_}
 use borrow.Author.Needs.{needs}
 use borrow.Author.Tests.{not-false}
 use Rattle.laws.proofs.Calls.{stops, goes-on}

@@ -1,7 +1,4 @@
 -- `rows::next_column` meets its contract: past the last column comes the first. Assumes nothing.
-use mathlib.Core.Path.{_≡_, sym, ap, _∙_}
-use native.Mathlib.Nat.{mod-eq-of-lt, mod-self}
-use native.Mathlib.Omega.{arith}
 use borrow.Author.Needs.{needs}
 use Rattle.rows.proofs.Sides.{last-column, next-column}
 use Rattle.rows.proofs.next_column.Statement.{statement}

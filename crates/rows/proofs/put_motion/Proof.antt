@@ -15,4 +15,20 @@ slice-set-from-y1 : tie.Need-slice-set-from-y1
 slice-set-from-y1 c = simp length-set (omega (arith, c .before .before .before .before .pre))
 
 pub put-motion-spec : {M : Type 1} → statement M
-put-motion-spec = tie.close (tie.spec (λ c. search needs) (λ c. search needs) (λ c. search needs) (λ c. search needs) (λ c. search needs) slice-set-from-y0 (λ c. search needs) (λ c. search needs) slice-set-from-x1 (λ c. search needs) (λ c. search needs) slice-set-from-y1 (λ c. search needs) (λ c. search needs))
+put-motion-spec =
+    tie.close
+    (tie.spec
+    (λ c. search needs)
+    (λ c. search needs)
+    (λ c. search needs)
+    (λ c. search needs)
+    (λ c. search needs)
+    slice-set-from-y0
+    (λ c. search needs)
+    (λ c. search needs)
+    slice-set-from-x1
+    (λ c. search needs)
+    (λ c. search needs)
+    slice-set-from-y1
+    (λ c. search needs)
+    (λ c. search needs))

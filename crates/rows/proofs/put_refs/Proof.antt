@@ -9,4 +9,12 @@ slice-set-from-refi1 : tie.Need-slice-set-from-refi1
 slice-set-from-refi1 c = simp length-set (omega (arith, c .before .before .pre))
 
 pub put-refs-spec : {M : Type 1} → statement M
-put-refs-spec = tie.close (tie.spec (λ c. search needs) (λ c. search needs) (λ c. search needs) slice-set-from-refi1 (λ c. search needs) (λ c. search needs))
+put-refs-spec =
+    tie.close
+    (tie.spec
+    (λ c. search needs)
+    (λ c. search needs)
+    (λ c. search needs)
+    slice-set-from-refi1
+    (λ c. search needs)
+    (λ c. search needs))

@@ -33,4 +33,19 @@ returns-2 : tie.Need-returns-2
 returns-2 c = rw (c .enum-told2 .given .1) (flag-at-24 _ _ ∙ ap (λ (b : ℕ). withField 24 1 b (c .before .before .before .args .word)) (c .before .before .bit-of .ensures .0))
 
 pub with-flag-spec : {M : Type 1} → statement M
-with-flag-spec = tie.close (tie.spec (λ c κs. search needs) (λ c. search needs) (λ c. search needs) mul-result-2 add-result add-result-2 (λ c. search needs) (λ c. search needs) mul-result-4 add-result-3 add-result-4 returns returns-2)
+with-flag-spec =
+    tie.close
+    (tie.spec
+    (λ c κs. search needs)
+    (λ c. search needs)
+    (λ c. search needs)
+    mul-result-2
+    add-result
+    add-result-2
+    (λ c. search needs)
+    (λ c. search needs)
+    mul-result-4
+    add-result-3
+    add-result-4
+    returns
+    returns-2)

@@ -206,7 +206,7 @@ fn texture(rng: &mut Rng, w: usize, h: usize) -> Vec<u16> {
 }
 
 /// Unit words with a QP of low..=high, intra and luma-coded sometimes, the other bits anything.
-fn deblock_words(rng: &mut Rng, units: usize, low: i64, high: i64) -> Vec<u32> {
+pub fn deblock_words(rng: &mut Rng, units: usize, low: i64, high: i64) -> Vec<u32> {
     let (intra, coded) = (rng.pick(&[0, 0, 1, 3, 8]), rng.pick(&[0, 0, 1, 2, 4, 8]));
     let one = |rng: &mut Rng| {
         let coded = (rng.below(8) < coded) as u32;
@@ -217,12 +217,12 @@ fn deblock_words(rng: &mut Rng, units: usize, low: i64, high: i64) -> Vec<u32> {
 }
 
 /// Motion that mostly differs by less than 4, by 3 or 4 often, and far now and then.
-fn motion(rng: &mut Rng, units: usize) -> Vec<i16> {
+pub fn motion(rng: &mut Rng, units: usize) -> Vec<i16> {
     let spread: &[i16] = rng.pick(&[&[0][..], &[0, 1, 3], &[0, 0, 0, 4], &[-2, 1, 2, 6], &[-300, 0, 16000]]);
     (0..4 * units).map(|_| rng.pick(spread)).collect()
 }
 
-fn refs(rng: &mut Rng, units: usize) -> Vec<i8> {
+pub fn refs(rng: &mut Rng, units: usize) -> Vec<i8> {
     let spread: &[i8] = rng.pick(&[&[0][..], &[0, 1], &[0, -1], &[-1, -1, 0, 1, 2], &[-1, -2, 127, -128]]);
     (0..2 * units).map(|_| rng.pick(spread)).collect()
 }

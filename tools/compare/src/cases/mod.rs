@@ -21,6 +21,7 @@ pub mod pack;
 pub mod predict;
 pub mod ranks;
 pub mod recon;
+pub mod rows;
 pub mod screen;
 pub mod sheet;
 pub mod streams;

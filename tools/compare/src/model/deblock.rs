@@ -141,7 +141,7 @@ impl<'a> Edge<'a> {
         let q = qy * wide + qx;
         let p = if along { q - wide } else { q - 1 };
         let kept = [given.keep[p] == 1, given.keep[q] == 1];
-        Edge { given, row: row(given, words, q, p), qp: qp_of(words[q]), along, kept }
+        Edge { given, row: row((given.motion, given.refs), words, q, p), qp: qp_of(words[q]), along, kept }
     }
 
     /// The strength entry, for luma or for a chroma plane's table and offset: that of the nearest end where the mapped QP has none.
@@ -166,15 +166,15 @@ impl<'a> Edge<'a> {
     }
 }
 
-/// The strength row of Q and P.
-fn row(given: &Given, words: &[u32], q: usize, p: usize) -> usize {
+/// The strength row of Q and P, by the picture's motion and references.
+pub fn row(moved: (&[i16], &[i8]), words: &[u32], q: usize, p: usize) -> usize {
     let either = |bit: u32| (words[q] >> bit | words[p] >> bit) & 1 == 1;
     if either(15) {
         0
     } else if either(24) {
         1
     } else {
-        match differences(given, q, p) {
+        match differences(moved, q, p) {
             Some(list) if list.iter().all(|d| d.abs() < 4) => 3,
             _ => 2,
         }
@@ -183,12 +183,12 @@ fn row(given: &Given, words: &[u32], q: usize, p: usize) -> usize {
 
 /// The motion differences where the references are equal in place or crosswise; a negative reference's motion
 /// counts as 0.
-fn differences(given: &Given, q: usize, p: usize) -> Option<[i64; 4]> {
-    let refs = |unit: usize| [given.refs[2 * unit], given.refs[2 * unit + 1]];
+fn differences((motions, references): (&[i16], &[i8]), q: usize, p: usize) -> Option<[i64; 4]> {
+    let refs = |unit: usize| [references[2 * unit], references[2 * unit + 1]];
     let motion = |unit: usize, list: usize, i: usize| {
         let counts = refs(unit)[list] >= 0;
         if counts {
-            given.motion[4 * unit + 2 * list + i] as i64
+            motions[4 * unit + 2 * list + i] as i64
         } else {
             0
         }
@@ -225,7 +225,7 @@ pub fn fits(given: &Given, words: &[u32]) -> bool {
 
 fn taken_fit(given: &Given, words: &[u32], q: usize, p: usize) -> bool {
     let marked = |unit: usize| (words[unit] >> 15 | words[unit] >> 24) & 1 == 1;
-    let list = differences(given, q, p).unwrap_or([0; 4]);
+    let list = differences((given.motion, given.refs), q, p).unwrap_or([0; 4]);
     let last = list.iter().position(|d| d.abs() >= 4).unwrap_or(3);
     marked(q) || marked(p) || list[..=last].iter().all(|d| d.abs() <= 32767)
 }

@@ -13,6 +13,7 @@ pub mod predict;
 pub mod ranks;
 pub mod residual;
 pub mod screen;
+pub mod rows;
 pub mod sheet;
 pub mod streams;
 pub mod tree;
