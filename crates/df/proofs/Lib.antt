@@ -1,5 +1,6 @@
 pub mod Apart
 pub mod BandCalls
+pub mod ByRows
 pub mod Calls
 pub mod Demand3
 pub mod Edges

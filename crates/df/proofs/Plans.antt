@@ -4,14 +4,16 @@
 --     plan-stays    a plane stays a plane
 --     plan-empty    and one without samples stays so
 -- Assumes nothing.
-use Prim.Native.Nat.{ℕ, zero, suc, _+_, _*_, _/_, _%_, _≤_, _<_}
-use mathlib.Core.Bool.{Bool}
+use Prim.Native.Nat.{ℕ, zero, suc, _+_, _-_, _*_, _/_, _%_, _≤_, _<_}
+use mathlib.Core.Bool.{Bool, true}
 use mathlib.Core.Path.{_≡_, refl, sym, ap, ap₂, _∙_, subst}
 use mathlib.Core.List.{List, [], _∷_, _++_, List·Memᴰ, List·Memᴰ·head, List·Memᴰ·tail}
 use native.Mathlib.Nat.{zero-add, le-of-suc-le-suc, not-suc-le-zero, mul-le-mul-right}
 use native.Mathlib.Numerals.{add-one}
 use native.Mathlib.Omega.{arith}
-use lib.Dec.{eqb}
+use borrow.Author.Tests.{lt-ltb}
+use lib.Dec.{ltb, eqb}
+use lib.IntN.{ℤ}
 use lib.ListN.{length, getD, take, List·getD-append}
 use lib.Seq.{sets, sets-eq, length-sets, take-suc, take-all}
 use Rattle.def.specs.declared.Component.{Component}
@@ -31,7 +33,11 @@ use Rattle.df_rules.proofs.Edges.{Spot, spot, unit-of, mark-of, unit-q, unit-p,
 use Rattle.df_rules.proofs.Planes.{window-long, window-small, no-samples}
 use Rattle.df_rules.proofs.Strengths.{row-few}
 use Rattle.bands_rules.proofs.Lists.{Lies}
-use Rattle.df.specs.Plan.{edgeFrom, edgesFrom, placeAt, marksAt, maskBy, Planned, filterIn, Known, PlaneOf, At}
+use Rattle.row.specs.Between.{There}
+use Rattle.rows.specs.Rule.{hasSide}
+use Rattle.rows.proofs.Said.{row-said}
+use Rattle.rows.proofs.Sides.{column-of, row-of}
+use Rattle.df.specs.Plan.{edgeFrom, edgesFrom, placeAt, marksAt, maskBy, Planned, filterIn, Known, RowsLent, Says, PlaneOf, At}
 use Rattle.edges.specs.Put.{Put}
 
 -- ---- a list read back
@@ -105,6 +111,7 @@ known vertical {w} {h} a b f g =
       few-x = k .few-x;
       few-y = k .few-z;
       before = p-before w h vertical (a / 4) (b / 4) (k .inner);
+      side = ap (ltb 0) (column-of w (a / 4) (b / 4) (k .across)) ∙ lt-ltb 0 (a / 4) (k .inner);
       q = unit-q w h _ (unit-of w h f) vertical (a / 4) (b / 4) (k .across) (k .along);
       p = unit-p w h _ (unit-of w h f) vertical (a / 4) (b / 4) (k .across) (k .along);
       q-mark = unit-q w h _ (mark-of w h f) vertical (a / 4) (b / 4) (k .across) (k .along);
@@ -116,6 +123,7 @@ known horizontal {w} {h} a b f g =
       few-x = k .few-z;
       few-y = k .few-x;
       before = p-before w h horizontal (b / 4) (a / 4) (k .inner);
+      side = ap (ltb 0) (row-of w (a / 4) (b / 4) (k .along)) ∙ lt-ltb 0 (b / 4) (k .inner);
       q = unit-q w h _ (unit-of w h f) horizontal (b / 4) (a / 4) (k .across) (k .along);
       p = unit-p w h _ (unit-of w h f) horizontal (b / 4) (a / 4) (k .across) (k .along);
       q-mark = unit-q w h _ (mark-of w h f) horizontal (b / 4) (a / 4) (k .across) (k .along);
@@ -191,6 +199,15 @@ module _ (t : List ℕ) (first : ℕ) (c : Component) (d : Pass) (w : ℕ) where
     plan-empty (suc n) xs e = no-samples xs e ∙ sym (no-samples _ (window-long _ _ _ _ _ _ _ ∙ ap length (sym (plan-empty n xs e)) ∙ e))
 
 -- ---- by numbers that were read
+
+-- a unit of the maps
+pub there : {words : List ℕ} {motion refs : List ℤ} {k : ℕ} → Unit words motion refs k → There words motion refs k
+there u = record { word = u .word; mv = u .mv; refi = u .refi }
+
+-- a byte of the map says the row of an edge
+pub says-given : (d : Pass) (w : ℕ) (words : List ℕ) (motion refs : List ℤ) (rows : List ℕ) {q p k : ℕ} → RowsLent w words motion refs rows → hasSide d w k ≡ true
+    → q ≡ k → p ≡ k - stepAcross d w → Says d words motion refs rows q p
+says-given d w words motion refs rows {q} {p} {k} r s e f = rw (e, f) (λ l. row-said words motion refs w d k _ (r k l) s)
 
 pub known-given : {d : Pass} {w : ℕ} {words : List ℕ} {over : Over} {x y a b : ℕ} → x ≡ a → y ≡ b → Known d w words over a b → Known d w words over x y
 known-given e f k = rw (e, f) k

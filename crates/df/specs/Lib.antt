@@ -1,5 +1,6 @@
 pub mod Band
 pub mod Bands
+pub mod ByRows
 pub mod Deblock
 pub mod Demand3
 pub mod Edges

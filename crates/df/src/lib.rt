@@ -11,14 +11,13 @@ ghost use Rattle.df_rules.specs.Frame.{Frame};
 ghost use Rattle.df_rules.specs.Leaves.{Accepted};
 ghost use Rattle.df_rules.specs.Visit.{allDone};
 ghost use Rattle.df.specs.Deblock as Deblock;
+ghost use Rattle.df.specs.Plan.{RowsLent};
 use crate::pass::deblock_pass;
 use crate::place::Pass;
-use def::Answer;
 use def::Format;
 use def::Refusal;
 use def::set_cod;
 use df_check::Settings;
-use df_check::checked;
 use strength::entries;
 
 mod window; // window.rt: a unit's edge in all three planes, by eight lanes
@@ -27,9 +26,11 @@ mod plan; // plan.rt: the place of each edge's strength; no plane
 mod filter; // filter.rt: the edges of a list, filtered; no map
 mod pass; // pass.rt: a root's edges, and a pass over the picture
 mod band; // band.rt: a picture by bands
+mod by_rows; // by_rows.rt: rows read from a map
 
 pub use band::Banded;
 pub use band::Bands;
+pub use by_rows::deblock_by_rows;
 
 // How many edges each pass filtered, or why nothing was written.
 pub enum Deblocked {
@@ -61,7 +62,75 @@ pub(crate) struct Counts {
 }
 
 // Both passes over h rows of samples, below `top` rows of units: the vertical pass covers all of them first. Then every unit of
-// theirs is done.
+// theirs is done. The rows of edges are read from a map of them, where one is lent.
+pub(crate) fn passes_by(
+    format: Format,
+    short: bool,
+    w: usize,
+    h: usize,
+    top: usize,
+    y: &mut [u16],
+    u: &mut [u16],
+    v: &mut [u16],
+    words: &mut [u32],
+    splits: &[u8],
+    motion: &[i16],
+    refs: &[i8],
+    keep: &[u8],
+    rows: &[u8],
+    entries: &[u8],
+) -> Counts
+    requires { ⌜ Frame format (w / 4) (top + h / 4) (now y) (now u) (now v) (now words) (record { motion = now motion; refs = now refs; keep = now keep }) (now entries) × Accepted w h (now splits) × RowsLent (w / 4) (now words) (now motion) (now refs) (now rows) ⌝ }
+    ensures { λ r. ⌜ Both (record { words = now (words .entry); over = record { motion = now (motion .entry); refs = now (refs .entry); keep = now (keep .entry) } }) (now (entries .entry))
+        (w / 4) top (listFrom vertical short top (now (splits .entry)) (w / 4) (h / 4)) (listFrom horizontal short top (now (splits .entry)) (w / 4) (h / 4))
+        (record { y = now (y .entry); u = now (u .entry); v = now (v .entry) }) (record { y = now (y .exit); u = now (u .exit); v = now (v .exit) })
+        (now (words .exit)) (r .vertical) (r .horizontal) ⌝ }
+{
+    let m = deblock_pass(
+        format,
+        Pass::Vertical,
+        short,
+        w,
+        h,
+        top,
+        &mut *y,
+        &mut *u,
+        &mut *v,
+        &*words,
+        splits,
+        motion,
+        refs,
+        keep,
+        rows,
+        entries,
+    );
+    let n = deblock_pass(
+        format,
+        Pass::Horizontal,
+        short,
+        w,
+        h,
+        top,
+        &mut *y,
+        &mut *u,
+        &mut *v,
+        &*words,
+        splits,
+        motion,
+        refs,
+        keep,
+        rows,
+        entries,
+    );
+    let from = top * (w / 4);
+    all_done(&mut words[from..]);
+    Counts {
+        vertical: m,
+        horizontal: n,
+    }
+}
+
+// The same where no map is lent.
 pub(crate) fn both_passes(
     format: Format,
     short: bool,
@@ -84,49 +153,26 @@ pub(crate) fn both_passes(
         (record { y = now (y .entry); u = now (u .entry); v = now (v .entry) }) (record { y = now (y .exit); u = now (u .exit); v = now (v .exit) })
         (now (words .exit)) (r .vertical) (r .horizontal) ⌝ }
 {
-    let m = deblock_pass(
+    passes_by(
         format,
-        Pass::Vertical,
         short,
         w,
         h,
         top,
-        &mut *y,
-        &mut *u,
-        &mut *v,
-        &*words,
+        y,
+        u,
+        v,
+        words,
         splits,
         motion,
         refs,
         keep,
+        &splits[..0],
         entries,
-    );
-    let n = deblock_pass(
-        format,
-        Pass::Horizontal,
-        short,
-        w,
-        h,
-        top,
-        &mut *y,
-        &mut *u,
-        &mut *v,
-        &*words,
-        splits,
-        motion,
-        refs,
-        keep,
-        entries,
-    );
-    let from = top * (w / 4);
-    all_done(&mut words[from..]);
-    Counts {
-        vertical: m,
-        horizontal: n,
-    }
+    )
 }
 
-// evc_deblock: everything is checked before the first write.
+// evc_deblock: everything is checked before the first write. No map of edge rows is lent.
 pub fn deblock(
     w: usize,
     h: usize,
@@ -162,33 +208,9 @@ pub fn deblock(
         })
         (record { reading = Deblock.readingOf r; y = now (y .exit); u = now (u .exit); v = now (v .exit); words = now (words .exit) }) ⌝ }
 {
-    let found = checked(
+    deblock_by_rows(
         w,
         h,
-        &*y,
-        &*u,
-        &*v,
-        &*words,
-        splits,
-        motion.len(),
-        refs.len(),
-        keep,
-        table0.len(),
-        table1.len(),
-        strengths.len(),
-        settings,
-    );
-    if let Answer::Refused(r) = found {
-        return Deblocked::Refused(r);
-    }
-    let table = entries_by(settings, strengths, table0, table1);
-    let format = settings.format;
-    let n = both_passes(
-        format,
-        settings.limit == 5,
-        w,
-        h,
-        0,
         y,
         u,
         v,
@@ -197,10 +219,10 @@ pub fn deblock(
         motion,
         refs,
         keep,
-        &table,
-    );
-    Deblocked::Done {
-        vertical: n.vertical,
-        horizontal: n.horizontal,
-    }
+        &splits[..0],
+        table0,
+        table1,
+        strengths,
+        settings,
+    )
 }

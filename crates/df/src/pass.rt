@@ -8,7 +8,7 @@ ghost use Rattle.bands_rules.specs.Bands.{listFrom};
 ghost use Rattle.df_rules.specs.Frame.{Frame};
 ghost use Rattle.df_rules.specs.Leaves.{Accepted};
 ghost use Rattle.df.specs.Edges.{passOf};
-ghost use Rattle.df.specs.Plan.{ListedRoot, PassDone};
+ghost use Rattle.df.specs.Plan.{ListedRoot, PassDone, RowsLent};
 use crate::filter::Size;
 use crate::filter::filter_colour;
 use crate::filter::filter_luma;
@@ -59,9 +59,10 @@ pub(crate) fn deblock_pass(
     motion: &[i16],
     refs: &[i8],
     keep: &[u8],
+    rows: &[u8],
     entries: &[u8],
 ) -> usize
-    requires { ⌜ Frame format (w / 4) (top + h / 4) (now y) (now u) (now v) (now words) (record { motion = now motion; refs = now refs; keep = now keep }) (now entries) × Accepted w h (now splits) ⌝ }
+    requires { ⌜ Frame format (w / 4) (top + h / 4) (now y) (now u) (now v) (now words) (record { motion = now motion; refs = now refs; keep = now keep }) (now entries) × Accepted w h (now splits) × RowsLent (w / 4) (now words) (now motion) (now refs) (now rows) ⌝ }
     ensures { λ r. ⌜ PassDone (record { words = now (words .entry); over = record { motion = now (motion .entry); refs = now (refs .entry); keep = now (keep .entry) } }) (now (entries .entry))
         (passOf pass) (w / 4) (listFrom (passOf pass) short top (now (splits .entry)) (w / 4) (h / 4))
         (record { y = now (y .entry); u = now (u .entry); v = now (v .entry) }) (record { y = now (y .exit); u = now (u .exit); v = now (v .exit) }) r ⌝ }
@@ -84,6 +85,7 @@ pub(crate) fn deblock_pass(
             motion,
             refs,
             keep,
+            rows,
             &list,
             n,
             &mut places,

@@ -4,20 +4,19 @@ ghost use mathlib.Core.Path.{_≡_};
 ghost use Prim.Native.Nat.{_+_, _*_, _/_, _≤_, _<_};
 ghost use lib.ListN.{length, getD};
 ghost use Rattle.split.specs.Edges.{edge};
-ghost use Rattle.df_rules.specs.Strength.{motionAt, rowBy};
+ghost use Rattle.laws.specs.Bits.{fieldOf};
 ghost use Rattle.df_rules.specs.Frame.{Unit, Marked};
 ghost use Rattle.df_rules.specs.Places.{stepAcross, unitQ, unitP};
 ghost use Rattle.df.specs.Edges.{passOf};
-ghost use Rattle.df.specs.Plan.{placeBy, marksBy, Knowns, Planned};
+ghost use Rattle.df_rules.specs.Strength.{rowBy};
+ghost use Rattle.rows.specs.Rule.{firstBit};
+ghost use Rattle.df.specs.Plan.{placeBy, marksBy, Says, Knowns, Planned};
 use crate::place::Pass;
 use crate::place::step_across;
 use def::Pel;
-use def::get_cbfl;
-use def::get_if;
 use def::get_qp;
 use def::pel2scu;
-use line::Motion;
-use line::motion_row;
+use row::row_at;
 
 // A number of a list.
 pub(crate) fn number_at(list: &[u16], i: usize) -> usize
@@ -27,44 +26,49 @@ pub(crate) fn number_at(list: &[u16], i: usize) -> usize
     list[i] as usize
 }
 
-fn motion_at(motion: &[i16], refs: &[i8], k: usize) -> Motion
-    requires { ⌜ (4 * k + 4 ≤ length (now motion)) × (2 * k + 2 ≤ length (now refs)) ⌝ }
-    ensures { λ r. ⌜ r ≡ motionAt (now (motion .entry)) (now (refs .entry)) k ⌝ }
+// The row of a pass's edge in a byte of the map of edge rows.
+fn row_in(pass: Pass, byte: u8) -> usize
+    ensures { λ r. ⌜ (r ≡ fieldOf (firstBit (passOf pass)) 2 byte) × (r ≤ 3) ⌝ }
 {
-    let m = 4 * k;
-    let r = 2 * k;
-    Motion {
-        refi0: refs[r],
-        refi1: refs[r + 1],
-        x0: motion[m],
-        y0: motion[m + 1],
-        x1: motion[m + 2],
-        y1: motion[m + 3],
+    match pass {
+        Pass::Vertical => (byte % 4) as usize,
+        Pass::Horizontal => (byte / 4 % 4) as usize,
     }
 }
 
-// evc_get_tbl_qp_to_st: the strength row of the edge between the units q and p.
-fn row_at(words: &[u32], motion: &[i16], refs: &[i8], q: usize, p: usize) -> usize
-    requires { ⌜ Unit (now words) (now motion) (now refs) q × Unit (now words) (now motion) (now refs) p ⌝ }
+// The row of an edge: as the map has it, where one is lent, and else worked out.
+fn row_of(
+    pass: Pass,
+    words: &[u32],
+    motion: &[i16],
+    refs: &[i8],
+    rows: &[u8],
+    q: usize,
+    p: usize,
+) -> usize
+    requires { ⌜ Unit (now words) (now motion) (now refs) q × Unit (now words) (now motion) (now refs) p × Says (passOf pass) (now words) (now motion) (now refs) (now rows) q p ⌝ }
     ensures { λ r. ⌜ (r ≡ rowBy (now (words .entry)) (now (motion .entry)) (now (refs .entry)) q p) × (r ≤ 3) ⌝ }
 {
-    let a = words[q];
-    let b = words[p];
-    if get_if(a) | get_if(b) {
-        return 0;
+    if q < rows.len() {
+        return row_in(pass, rows[q]);
     }
-    if get_cbfl(a) | get_cbfl(b) {
-        return 1;
-    }
-    motion_row(motion_at(motion, refs, q), motion_at(motion, refs, p))
+    row_at(words, motion, refs, q, p)
 }
 
 // The place of an edge's strength in a plane's 208 entries, 52 * row + QP.
-fn place_at(words: &[u32], motion: &[i16], refs: &[i8], q: usize, p: usize) -> u8
-    requires { ⌜ Unit (now words) (now motion) (now refs) q × Unit (now words) (now motion) (now refs) p ⌝ }
+fn place_at(
+    pass: Pass,
+    words: &[u32],
+    motion: &[i16],
+    refs: &[i8],
+    rows: &[u8],
+    q: usize,
+    p: usize,
+) -> u8
+    requires { ⌜ Unit (now words) (now motion) (now refs) q × Unit (now words) (now motion) (now refs) p × Says (passOf pass) (now words) (now motion) (now refs) (now rows) q p ⌝ }
     ensures { λ r. ⌜ r ≡ placeBy (now (words .entry)) (now (motion .entry)) (now (refs .entry)) q p ⌝ }
 {
-    (52 * row_at(words, motion, refs, q, p) + get_qp(words[q])) as u8
+    (52 * row_of(pass, words, motion, refs, rows, q, p) + get_qp(words[q])) as u8
 }
 
 // The keep marks of an edge's units as one number: P's, and twice Q's.
@@ -99,19 +103,20 @@ pub(crate) fn plan(
     motion: &[i16],
     refs: &[i8],
     keep: &[u8],
+    rows: &[u8],
     list: &[u16],
     n: usize,
     places: &mut [u8],
     marks: &mut [u8],
 )
-    requires { ⌜ Knowns (passOf pass) columns (now words) (record { motion = now motion; refs = now refs; keep = now keep }) (now list) n (now places) (now marks) ⌝ }
+    requires { ⌜ Knowns (passOf pass) columns (now words) (record { motion = now motion; refs = now refs; keep = now keep }) (now rows) (now list) n (now places) (now marks) ⌝ }
     ensures { λ _. ⌜ Planned (record { words = now (words .entry); over = record { motion = now (motion .entry); refs = now (refs .entry); keep = now (keep .entry) } }) (passOf pass) columns (now (list .entry)) n (now (places .exit)) (now (marks .exit)) ⌝ }
 {
     for k in 0..n {
         let x = Pel(number_at(list, 2 * k));
         let y = Pel(number_at(list, 2 * k + 1));
         let u = units_at(pass, columns, x, y);
-        places[k] = place_at(words, motion, refs, u.q, u.p);
+        places[k] = place_at(pass, words, motion, refs, rows, u.q, u.p);
         marks[k] = marks_at(keep, u.q, u.p);
     }
 }

@@ -13,10 +13,11 @@ use lib.IntN.{ℤ}
 use lib.ListN.{length}
 use Rattle.laws.proofs.Bools.{and-false}
 use Rattle.laws.proofs.Calls.{all-at}
-use Rattle.row.specs.Between.{rowBetween, inMaps, rowIn, Unit}
+use Rattle.df_rules.specs.Strength.{rowBy}
+use Rattle.row.specs.Between.{inMaps, rowIn, There}
 
 module _ (words : List ℕ) (motion refs : List ℤ) where
-  pub unit-there : (k : ℕ) → inMaps (length words) (length motion) (length refs) k ≡ true → Unit words motion refs k
+  pub unit-there : (k : ℕ) → inMaps (length words) (length motion) (length refs) k ≡ true → There words motion refs k
   unfolding inMaps
   unit-there k e =
       let tests = ltb k (length words) ∷ ltb k (length motion / 4) ∷ ltb k (length refs / 2) ∷ [] in
@@ -25,7 +26,7 @@ module _ (words : List ℕ) (motion refs : List ℤ) where
       let c = ltb-true k (length refs / 2) (all-at tests 2 e) in
       record { word = a; mv = omega arith; refi = omega arith }
 
-  pub in-maps : (k : ℕ) → Unit words motion refs k → inMaps (length words) (length motion) (length refs) k ≡ true
+  pub in-maps : (k : ℕ) → There words motion refs k → inMaps (length words) (length motion) (length refs) k ≡ true
   unfolding inMaps
   in-maps k u =
       let b : k < length motion / 4 = omega (arith, u .mv) in
@@ -42,10 +43,10 @@ module _ (words : List ℕ) (motion refs : List ℤ) where
     none-p e = rw (and-false (inMaps (length words) (length motion) (length refs) q) (inMaps (length words) (length motion) (length refs) p) e)
 
     pub both-there : inMaps (length words) (length motion) (length refs) q ≡ true → inMaps (length words) (length motion) (length refs) p ≡ true
-        → rowBetween words motion refs q p ≡ rowIn words motion refs q p
+        → rowBy words motion refs q p ≡ rowIn words motion refs q p
     unfolding rowIn
     both-there e f = rw (e, f)
 
     -- of two units of the maps it is the rule's
-    pub row-in : Unit words motion refs q → Unit words motion refs p → rowIn words motion refs q p ≡ rowBetween words motion refs q p
+    pub row-in : There words motion refs q → There words motion refs p → rowIn words motion refs q p ≡ rowBy words motion refs q p
     row-in a b = sym (both-there (in-maps q a) (in-maps p b))

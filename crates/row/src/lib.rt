@@ -3,7 +3,8 @@
 ghost use mathlib.Core.Path.{_≡_};
 ghost use Prim.Native.Nat.{_+_, _*_, _≤_};
 ghost use lib.ListN.{length};
-ghost use Rattle.row.specs.Between.{motionOf, rowBetween, inMaps, rowIn, Unit};
+ghost use Rattle.df_rules.specs.Strength.{motionAt, rowBy};
+ghost use Rattle.row.specs.Between.{inMaps, rowIn, There};
 use def::get_cbfl;
 use def::get_if;
 use line::Motion;
@@ -16,9 +17,9 @@ fn in_maps(words: usize, motion: usize, refs: usize, k: usize) -> bool
     (k < words) & (k < motion / 4) & (k < refs / 2)
 }
 
-fn motion_of(motion: &[i16], refs: &[i8], k: usize) -> Motion
+fn motion_at(motion: &[i16], refs: &[i8], k: usize) -> Motion
     requires { ⌜ (4 * k + 4 ≤ length (now motion)) × (2 * k + 2 ≤ length (now refs)) ⌝ }
-    ensures { λ r. ⌜ r ≡ motionOf (now (motion .entry)) (now (refs .entry)) k ⌝ }
+    ensures { λ r. ⌜ r ≡ motionAt (now (motion .entry)) (now (refs .entry)) k ⌝ }
 {
     let m = 4 * k;
     let r = 2 * k;
@@ -34,8 +35,8 @@ fn motion_of(motion: &[i16], refs: &[i8], k: usize) -> Motion
 
 // The row of the edge between the units q and p of the maps.
 fn row_between(words: &[u32], motion: &[i16], refs: &[i8], q: usize, p: usize) -> usize
-    requires { ⌜ Unit (now words) (now motion) (now refs) q × Unit (now words) (now motion) (now refs) p ⌝ }
-    ensures { λ r. ⌜ (r ≡ rowBetween (now (words .entry)) (now (motion .entry)) (now (refs .entry)) q p) × (r ≤ 3) ⌝ }
+    requires { ⌜ There (now words) (now motion) (now refs) q × There (now words) (now motion) (now refs) p ⌝ }
+    ensures { λ r. ⌜ (r ≡ rowBy (now (words .entry)) (now (motion .entry)) (now (refs .entry)) q p) × (r ≤ 3) ⌝ }
 {
     let a = words[q];
     let b = words[p];
@@ -45,7 +46,7 @@ fn row_between(words: &[u32], motion: &[i16], refs: &[i8], q: usize, p: usize) -
     if get_cbfl(a) | get_cbfl(b) {
         return 1;
     }
-    motion_row(motion_of(motion, refs, q), motion_of(motion, refs, p))
+    motion_row(motion_at(motion, refs, q), motion_at(motion, refs, p))
 }
 
 // The same for any two numbers: 0 where one of them is no unit of the maps.

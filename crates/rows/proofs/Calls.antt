@@ -27,12 +27,12 @@ use Rattle.def.proofs.Ladders.{passes}
 use Rattle.def.proofs.Sizes.{sized}
 use Rattle.def.proofs.Units.{few-units}
 use Rattle.line.specs.declared.Motion.{Motion}
-use Rattle.rows.specs.Checks.{lengthTests, lengthsOk, checkMaps, checkUnit}
+use Rattle.rows.specs.Checks.{lengthTests, lengthsOk, checkMaps, rightOk, checkUnit}
 use Rattle.rows.specs.FillCall as fill
 use Rattle.rows.specs.FlagCall as flag
 use Rattle.rows.specs.Inside.{Lent, Placed}
 use Rattle.rows.specs.MotionCall as move
-use Rattle.rows.specs.Rule.{ruleMap, editedMap}
+use Rattle.rows.specs.Rule.{ruleMap, rightBytes, editedMap}
 
 module _ (w h : ℕ) (words : List ℕ) (motion refs : List ℤ) (rows : List ℕ) where
   pub record Accepted : Type 0 where
@@ -82,6 +82,17 @@ module _ (w h : ℕ) (words : List ℕ) (motion refs : List ℤ) (rows : List �
       let m = lengths (p .holds) (q .holds) in
       let k = placed w h x y (r .holds) in
       record { maps = m; unit = record { column = k .column; row = k .row; high = omega (arith, sized w h (p .holds) .high); whole = m .units } }
+
+-- ---- the test of a map
+
+module _ (w h : ℕ) (words : List ℕ) (motion refs : List ℤ) (rows : List ℕ) where
+  pub right-refused : (k : Answer) (r : Refusal) → k ≡ checkMaps w h (length words) (length motion) (length refs) (length rows) → k ≡ Refused r → false ≡ rightOk w h words motion refs rows
+  unfolding rightOk
+  right-refused k r e q = on-refusal (λ r. false) _ k _ r e q
+
+  pub right-done : (k : Answer) → k ≡ checkMaps w h (length words) (length motion) (length refs) (length rows) → k ≡ Done → rightBytes words motion refs (w / 4) rows ≡ rightOk w h words motion refs rows
+  unfolding rightOk
+  right-done k e q = on-done (λ r. false) _ k _ _ e q refl
 
 -- ---- the two ladders
 

@@ -26,7 +26,7 @@ use Rattle.line.specs.declared.Motion.{Motion}
 use Rattle.line.specs.Row.{rowOf}
 use Rattle.split.specs.Edges.{Pass, vertical, horizontal}
 use Rattle.df_rules.specs.Places.{stepAcross}
-use Rattle.row.specs.Between.{motionOf, rowBetween}
+use Rattle.df_rules.specs.Strength.{motionAt, rowBy}
 use Rattle.rows.specs.FillCall as fill
 use Rattle.rows.specs.FlagCall as flag
 use Rattle.rows.specs.Held.{Held, Right, fillOf, Edit, moves, flags, placeOf, motionInput, flagInput, numberOf, after, Near, itself, right, lower, Sets, Kept}
@@ -123,7 +123,7 @@ module _ (words : List ℕ) (motion refs : List ℤ) (c a : ℕ) where
 
 record But (a : ℕ) (words : List ℕ) (motion refs : List ℤ) (words′ : List ℕ) (motion′ refs′ : List ℤ) : Type 0 where
   word : (k : ℕ) → (k ≡ a → ⊥) → getD words′ k 0 ≡ getD words k 0
-  moved : (k : ℕ) → (k ≡ a → ⊥) → motionOf motion′ refs′ k ≡ motionOf motion refs k
+  moved : (k : ℕ) → (k ≡ a → ⊥) → motionAt motion′ refs′ k ≡ motionAt motion refs k
 
 -- a byte of the rule with another left row, or another top row
 left-again : (l t m : ℕ) → l ≤ 3 → withField 0 2 m (4 * t + l) ≡ 4 * t + m
@@ -147,8 +147,8 @@ fields l t l′ t′ false false p q r f g =
     ap (λ (z : ℕ). withField 2 2 z (withField 0 2 l 0)) (sym (g refl)) ∙ ap (λ (z : ℕ). withField 2 2 t′ (withField 0 2 z 0)) (sym (f refl))
 
 module _ {a : ℕ} {words : List ℕ} {motion refs : List ℤ} {words′ : List ℕ} {motion′ refs′ : List ℤ} (but : But a words motion refs words′ motion′ refs′) (c : ℕ) where
-  same-row : (q p : ℕ) → (q ≡ a → ⊥) → (p ≡ a → ⊥) → rowBetween words′ motion′ refs′ q p ≡ rowBetween words motion refs q p
-  unfolding rowBetween
+  same-row : (q p : ℕ) → (q ≡ a → ⊥) → (p ≡ a → ⊥) → rowBy words′ motion′ refs′ q p ≡ rowBy words motion refs q p
+  unfolding rowBy
   same-row q p m n = λ i. rowOf (but .word q m i) (but .word p n i) (but .moved q m i) (but .moved p n i)
 
   same-edge : (d : Pass) (k : ℕ) → edgeOf d c a k ≡ false → edgeRow words′ motion′ refs′ c d k ≡ edgeRow words motion refs c d k
@@ -162,7 +162,7 @@ module _ {a : ℕ} {words : List ℕ} {motion refs : List ℤ} {words′ : List 
     not-p true f g h = let z : _≡_ {A = ℕ} 0 1 = cc in omega arith
     not-p false f g h = eqb-false (k - stepAcross d c) a g h
 
-    go : (s : Bool) → hasSide d c k ≡ s → pick s (rowBetween words′ motion′ refs′ k (k - stepAcross d c)) 0 ≡ pick s (rowBetween words motion refs k (k - stepAcross d c)) 0
+    go : (s : Bool) → hasSide d c k ≡ s → pick s (rowBy words′ motion′ refs′ k (k - stepAcross d c)) 0 ≡ pick s (rowBy words motion refs k (k - stepAcross d c)) 0
     go true f =
         let g : (eqb k a || (true && eqb (k - stepAcross d c) a)) ≡ false = subst (λ (s : Bool). (eqb k a || (s && eqb (k - stepAcross d c) a)) ≡ false) f e in
         same-row k (k - stepAcross d c) (not-a (eqb k a) refl e) (not-p (eqb k a) refl g)

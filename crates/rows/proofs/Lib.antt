@@ -1,4 +1,5 @@
 pub mod Calls
 pub mod Edits
 pub mod Held
+pub mod Said
 pub mod Sides

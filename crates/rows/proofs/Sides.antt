@@ -10,7 +10,7 @@
 use Prim.Native.Nat.{ℕ, zero, suc, _+_, _-_, _*_, _/_, _%_, _≤_, _<_}
 use mathlib.Core.Path.{_≡_, sym, ap, _∙_}
 use mathlib.Core.Bool.{Bool, true, false, not}
-use mathlib.Core.List.{List}
+use mathlib.Core.List.{List, []}
 use native.Mathlib.Nat.{mod-self, mod-lt, mod-eq-of-lt, div-eq-of-lt, mod-add-div', mul-le-mul-right, mul-add-mod-self-right, mul-add-div-right, add-zero, mul-comm}
 use native.Mathlib.Decide.{decLt}
 use native.Mathlib.Omega.{arith}
@@ -24,9 +24,9 @@ use Rattle.laws.proofs.Flat.{next-row}
 use Rattle.laws.proofs.Places.{place-below}
 use Rattle.split.specs.Edges.{Pass, vertical, horizontal}
 use Rattle.df_rules.specs.Places.{stepAcross}
-use Rattle.df_rules.specs.Strength.{rowAt}
+use Rattle.df_rules.specs.Strength.{rowBy}
 use Rattle.df_rules.proofs.Strengths as strengths
-use Rattle.row.specs.Between.{rowBetween, rowIn, Unit}
+use Rattle.row.specs.Between.{rowIn, There}
 use Rattle.row.proofs.Units.{row-in}
 use Rattle.rows.specs.Inside.{Lent, Placed}
 use Rattle.rows.specs.Rule.{hasSide, edgeRow}
@@ -80,7 +80,7 @@ past-row c k some = go (decLt k c) where
     some-rows (suc r) e l h = omega arith
 
 module _ {c : ℕ} {words : List ℕ} {motion refs : List ℤ} (l : Lent c words motion refs) where
-  unit-in : (k : ℕ) → k < length words → Unit words motion refs k
+  unit-in : (k : ℕ) → k < length words → There words motion refs k
   unit-in k h = record { word = h; mv = omega (arith, l .long-motion); refi = omega (arith, l .long-refs) }
 
   pub some-edge : (d : Pass) (k p r : ℕ) (there : Bool) → k < length words → there ≡ hasSide d c k → not there ≡ false → p ≡ k - stepAcross d c
@@ -96,14 +96,13 @@ no-edge words motion refs c d k there e n = rw (sym e ∙ not-true there n)
 
 -- ---- a row is one of four
 
-pub row-few : (words : List ℕ) (motion refs : List ℤ) (q p : ℕ) → rowBetween words motion refs q p ≤ 3
-unfolding rowBetween rowAt
-row-few words motion refs q p = strengths.row-few (record { words = words; motion = motion; refs = refs }) q p
+pub row-few : (words : List ℕ) (motion refs : List ℤ) (q p : ℕ) → rowBy words motion refs q p ≤ 3
+row-few words motion refs q p = strengths.row-few (record { words = words; over = record { motion = motion; refs = refs; keep = [] } }) q p
 
 pub edge-few : (words : List ℕ) (motion refs : List ℤ) (c : ℕ) (d : Pass) (k : ℕ) → edgeRow words motion refs c d k ≤ 3
 unfolding edgeRow
 edge-few words motion refs c d k = go (hasSide d c k) where
-  go : (b : Bool) → pick b (rowBetween words motion refs k (k - stepAcross d c)) 0 ≤ 3
+  go : (b : Bool) → pick b (rowBy words motion refs k (k - stepAcross d c)) 0 ≤ 3
   go true = row-few words motion refs k (k - stepAcross d c)
   go false = omega arith
 

@@ -11,10 +11,11 @@ use lib.IntN.{ℤ}
 use lib.ListN.{length, getD}
 use Rattle.laws.specs.Bits.{withField}
 use Rattle.laws.specs.Index.{pick, tabulate}
+use Rattle.laws.specs.Scan.{allBelow}
 use Rattle.def.specs.Picture.{unitCount}
 use Rattle.split.specs.Edges.{Pass, vertical, horizontal}
 use Rattle.df_rules.specs.Places.{stepAcross}
-use Rattle.row.specs.Between.{rowBetween}
+use Rattle.df_rules.specs.Strength.{rowBy}
 
 -- a unit lies on that side of unit k
 abbrev pub hasSide : Pass → (c k : ℕ) → Bool
@@ -29,7 +30,7 @@ firstBit horizontal = 2
 module _ (words : List ℕ) (motion refs : List ℤ) (c : ℕ) where
   -- the row of unit k's edge on that side
   unfoldable pub edgeRow : Pass → ℕ → ℕ
-  edgeRow d k = pick (hasSide d c k) (rowBetween words motion refs k (k - stepAcross d c)) 0
+  edgeRow d k = pick (hasSide d c k) (rowBy words motion refs k (k - stepAcross d c)) 0
 
   -- the byte of unit k
   unfoldable pub ruleByte : ℕ → ℕ
@@ -43,6 +44,10 @@ module _ (words : List ℕ) (motion refs : List ℤ) (c : ℕ) where
 pub record RightMap (w h : ℕ) (words : List ℕ) (motion refs : List ℤ) (rows : List ℕ) : Type 0 where
   pub long : length rows ≡ unitCount w h
   pub right : (k : ℕ) → k < unitCount w h → getD rows k 0 ≡ ruleByte words motion refs (w / 4) k
+
+-- its test
+unfoldable pub rightBytes : List ℕ → (motion refs : List ℤ) → (c : ℕ) → List ℕ → Bool
+rightBytes words motion refs c rows = allBelow (λ (k : ℕ). eqb (getD rows k 0) (ruleByte words motion refs c k)) (length rows)
 
 -- ---- an edit of unit a
 

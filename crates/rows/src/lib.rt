@@ -9,14 +9,14 @@ ghost use Rattle.laws.specs.Index.{pick};
 ghost use Rattle.def.specs.Answers.{answerNumber};
 ghost use Rattle.def.specs.Word.{bit};
 ghost use Rattle.df_rules.specs.Places.{stepAcross};
-ghost use Rattle.rows.specs.Checks.{lengthsOk, checkMaps, checkUnit};
+ghost use Rattle.rows.specs.Checks.{lengthsOk, checkMaps, rightOk, checkUnit};
 ghost use Rattle.rows.specs.FillCall as FillCall;
 ghost use Rattle.rows.specs.FlagCall as FlagCall;
 ghost use Rattle.rows.specs.FlagCall.{withFlag};
 ghost use Rattle.rows.specs.Inside.{passOf, Lent, Placed, edgePut};
 ghost use Rattle.rows.specs.MotionCall as MotionCall;
 ghost use Rattle.rows.specs.MotionCall.{withMotion, withRefs};
-ghost use Rattle.rows.specs.Rule.{hasSide, firstBit, edgeRow, ruleByte, ruleMap, editedMap};
+ghost use Rattle.rows.specs.Rule.{hasSide, firstBit, edgeRow, ruleByte, ruleMap, rightBytes, editedMap};
 use def::Answer;
 use def::Refusal;
 use def::Scu;
@@ -265,6 +265,38 @@ pub fn fill_rows(
             fill(w / 4, words, motion, refs, rows);
             Answer::Done
         }
+    }
+}
+
+// Whether every byte is right. No way out at the first that is not: a map that is lent is right but for an error.
+fn all_right(columns: usize, words: &[u32], motion: &[i16], refs: &[i8], rows: &[u8]) -> bool
+    requires { ⌜ Lent columns (now words) (now motion) (now refs) × (length (now rows) ≡ length (now words)) ⌝ }
+    ensures { λ r. ⌜ r ≡ rightBytes (now (words .entry)) (now (motion .entry)) (now (refs .entry)) columns (now (rows .entry)) ⌝ }
+{
+    let n = rows.len();
+    let mut ok = true;
+    let mut x = 0;
+    for k in 0..n {
+        ok = ok & (rows[k] == rule_byte(columns, words, motion, refs, x, k));
+        x = next_column(columns, x);
+    }
+    ok
+}
+
+// Whether the map is right, of a picture of w by h.
+pub fn rows_right(
+    w: usize,
+    h: usize,
+    words: &[u32],
+    motion: &[i16],
+    refs: &[i8],
+    rows: &[u8],
+) -> bool
+    ensures { λ r. ⌜ r ≡ rightOk w h (now (words .entry)) (now (motion .entry)) (now (refs .entry)) (now (rows .entry)) ⌝ }
+{
+    match checked_maps(w, h, words.len(), motion.len(), refs.len(), rows.len()) {
+        Answer::Refused(_) => false,
+        Answer::Done => all_right(w / 4, words, motion, refs, rows),
     }
 }
 

@@ -1,48 +1,23 @@
--- `df::both_passes` meets its contract: the vertical pass, then the horizontal over what it left; then every unit is done. Assumes nothing.
-use Prim.Native.Nat.{ℕ, _+_, _*_, _/_, _≤_}
-use native.Mathlib.Nat.{add-mul, mul-le-mul-right}
+-- `df::both_passes` meets its contract: that of `passes_by`, with no byte of a map. Assumes nothing.
 use native.Mathlib.Omega.{arith}
-use lib.ListN.{length}
 use borrow.Author.Needs.{needs}
-use Rattle.df_rules.specs.Visit.{allDone}
-use Rattle.df_check.proofs.Fronts.{end-put}
-use Rattle.df.proofs.Turns.{both-done, frame-done}
 use Rattle.df.proofs.both_passes.Statement.{statement}
 use Rattle.df.proofs.both_passes.Tie as tie
 
--- the units above
-room : (s : tie.Start) → s .args .top * (s .args .w / 4) ≤ length (s .args .words .now)
-room s = omega (arith, s .pre .0 .long-words, add-mul (s .args .top) (s .args .h / 4) (s .args .w / 4))
-
-few : (s : tie.Start) → s .args .top * (s .args .w / 4) ≤ 1048576
-few s =
-    let high : s .args .top ≤ 1024 = omega (arith, s .pre .0 .high) in
-    omega (arith, mul-le-mul-right {m = s .args .top} {n = 1024} (s .args .w / 4) high, s .pre .0 .wide)
-
-mul-from : tie.Need-mul-from
-mul-from c = omega (arith, few (c .before .before .before .before .before .before .before .before .before .before .before .before .before .before .before .before .before .before .before .before .before .before .before .before .before .before .before .before .before))
-
-mul-all-done : tie.Need-mul-all-done
-mul-all-done c = omega (arith, few (c .before .before .before .before .before .before .before .before .before .before .before .before .before .before .before .before .before .before .before .before .before .before .before .before .before .before .before .before .before))
-
-sub-all-done : tie.Need-sub-all-done
-sub-all-done c = room (c .before .before .before .before .before .before .before .before .before .before .before .before .before .before .before .before .before .before .before .before .before .before .before .before .before .before .before .before .before)
-
-part-all-done-start : tie.Need-part-all-done-start
-part-all-done-start c = room (c .before .before .before .before .before .before .before .before .before .before .before .before .before .before .before .before .before .before .before .before .before .before .before .before .before .before .before .before .before)
-
-deblock-pass-requires : tie.Need-deblock-pass-requires
-deblock-pass-requires c κs = (c .before .before .before .before .before .before .before .before .before .before .before .pre .0, c .before .before .before .before .before .before .before .before .before .before .before .pre .1)
-
-deblock-pass-requires-2 : tie.Need-deblock-pass-requires-2
-deblock-pass-requires-2 c κs =
-    let s = c .before .before .before .before .before .before .before .before .before .before .before .before .before .before .before .before .before .before .before .before .before .before in
-    (frame-done (c .before .before .before .before .before .before .before .before .before .before .deblock-pass .ensures) (s .pre .0), s .pre .1)
+passes-by-requires : tie.Need-passes-by-requires
+passes-by-requires c κs = let p = c .before .before .before .before .before .before .before .before .before .before .before .before .pre in (p .0, p .1, λ k h. absurd (omega arith))
 
 returns : tie.Need-returns
-returns c =
-    let s = c .before .before .before .before .before .before .before .before .before .before .before .before .before .before .before .before .before .before .before .before .before .before .before .before .before .before .before .before .before .before .before .before .before in
-    both-done (c .before .before .before .before .before .before .before .before .before .before .before .before .before .before .before .before .before .before .before .before .before .deblock-pass .ensures) (c .before .before .before .before .before .before .before .before .before .before .deblock-pass2 .ensures) (end-put (s .args .top * (s .args .w / 4)) (s .args .words .now) allDone _ (c .before .before .all-done .ensures))
+returns c = c .before .before .before .before .before .before .before .before .passes-by .ensures
 
 pub both-passes-spec : {M : Type 1} → statement M
-both-passes-spec = tie.close (tie.spec deblock-pass-requires deblock-pass-requires-2 mul-from mul-all-done sub-all-done part-all-done-start (λ c. search needs) (λ c κs. search needs) (λ c. search needs) (λ c. search needs) (λ c. search needs) (λ c. search needs) returns)
+both-passes-spec =
+    tie.close
+    (tie.spec
+    (λ c. search needs)
+    passes-by-requires
+    (λ c. search needs)
+    (λ c. search needs)
+    (λ c. search needs)
+    (λ c. search needs)
+    returns)

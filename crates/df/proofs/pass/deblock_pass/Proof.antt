@@ -15,13 +15,13 @@ use Rattle.df.proofs.pass.deblock_pass.Statement.{statement}
 use Rattle.df.proofs.pass.deblock_pass.Tie as tie
 
 abbrev Inv-loop : tie.InvT-loop
-Inv-loop format pass short w h top y₀ u₀ v₀ words splits motion refs keep entries size roots list₀ places₀ marks₀ count₀ i₀ y u v list places marks count i =
+Inv-loop format pass short w h top y₀ u₀ v₀ words splits motion refs keep rows entries size roots list₀ places₀ marks₀ count₀ i₀ y u v list places marks count i =
     (i ≤ roots) × (length y ≡ length y₀) × (length u ≡ length u₀) × (length v ≡ length v₀) × (length list ≡ 512) × (length places ≡ 256) × (length marks ≡ 256)
     × Roots (record { words = words; over = record { motion = motion; refs = refs; keep = keep } }) entries (passOf pass) short top splits (w / 4) (h / 4) i
     (record { y = y₀; u = u₀; v = v₀ }) (record { y = y; u = u; v = v }) count
 
 abbrev μ-loop : tie.MeasureT-loop
-μ-loop format pass short w h top y₀ u₀ v₀ words splits motion refs keep entries size roots list₀ places₀ marks₀ count₀ i₀ y u v list places marks count i = roots - i
+μ-loop format pass short w h top y₀ u₀ v₀ words splits motion refs keep rows entries size roots list₀ places₀ marks₀ count₀ i₀ y u v list places marks count i = roots - i
 
 -- what decides
 abbrev maps : tie.Start Inv-loop μ-loop → Maps
@@ -34,50 +34,51 @@ few : (s : tie.Start Inv-loop μ-loop) → (s .args .w + 63) / 64 * ((s .args .h
 few s = few-roots (s .args .w) (s .args .h) (size s .wide) (size s .high)
 
 add-roots : tie.Need-add-roots Inv-loop μ-loop
-add-roots c = omega (arith, c .before .before .before .before .before .before .before .pre .0 .high)
+add-roots c = omega (arith, c .before .before .before .before .before .before .before .before .pre .0 .high)
 
 add-roots-2 : tie.Need-add-roots-2 Inv-loop μ-loop
-add-roots-2 c = omega (arith, size (c .before .before .before .before .before .before .before) .wide)
+add-roots-2 c = omega (arith, size (c .before .before .before .before .before .before .before .before) .wide)
 
 add-roots-3 : tie.Need-add-roots-3 Inv-loop μ-loop
-add-roots-3 c = omega (arith, size (c .before .before .before .before .before .before .before) .high)
+add-roots-3 c = omega (arith, size (c .before .before .before .before .before .before .before .before) .high)
 
 mul-roots : tie.Need-mul-roots Inv-loop μ-loop
-mul-roots c = omega (arith, few (c .before .before .before .before .before .before .before))
+mul-roots c = omega (arith, few (c .before .before .before .before .before .before .before .before))
 
 loop-holds : tie.Need-loop-holds Inv-loop μ-loop
-loop-holds c = (omega arith, refl, refl, refl, refl, refl, refl, roots-none _ _ (passOf (c .before .before .before .before .before .before .before .args .pass)) _ _ _ _ _ _)
+loop-holds c = (omega arith, refl, refl, refl, refl, refl, refl, roots-none _ _ (passOf (c .before .before .before .before .before .before .before .before .args .pass)) _ _ _ _ _ _)
 
 root-edges-requires : tie.Need-root-edges-requires Inv-loop μ-loop
-root-edges-requires c κs = (c .before .before .before .before .before .before .before .before .before .before .pre .1, c .before .loop-test .taken, c .before .before .loop .inv .4, c .before .before .before .before .before .before .before .before .before .before .pre .0 .high)
+root-edges-requires c κs = (c .before .before .before .before .before .before .before .before .before .before .before .pre .1, c .before .loop-test .taken, c .before .before .loop .inv .4, c .before .before .before .before .before .before .before .before .before .before .before .pre .0 .high)
 
 plan-requires : tie.Need-plan-requires Inv-loop μ-loop
 plan-requires c κs =
-    let s = c .before .before .before .before .before .before .before .before .before .before .before .before .before .before .before in
+    let s = c .before .before .before .before .before .before .before .before .before .before .before .before .before .before .before .before in
     let r = c .before .before .before .before .root-edges .ensures in
     record {
       wide = s .pre .0 .wide;
       long = omega (arith, r .long, r .few);
       fits = omega (arith, r .few, c .before .before .before .before .before .before .before .loop .inv .5);
       fits-marks = omega (arith, r .few, c .before .before .before .before .before .before .before .loop .inv .6);
+      right = s .pre .2;
       edges = λ k g. known (passOf (s .args .pass)) _ _ (s .pre .0) (r .units k g);
     }
 
 -- the picture, at a turn
-current : (c : tie.At-loop Inv-loop μ-loop) → let a = c .before .before .before .before .before .before .before .before .args in
+current : (c : tie.At-loop Inv-loop μ-loop) → let a = c .before .before .before .before .before .before .before .before .before .args in
     Framed (a .format) (a .w / 4) (a .top + a .h / 4) (record { motion = a .motion .now; refs = a .refs .now; keep = a .keep .now }) (a .entries .now) (record { y = c .loop .y; u = c .loop .u; v = c .loop .v }) (a .words .now)
-current c = let s = c .before .before .before .before .before .before .before .before in roots-frame (maps s) _ (passOf (s .args .pass)) _ _ _ _ _ (c .loop .i) _ _ _ (c .loop .inv .7) (s .pre .0)
+current c = let s = c .before .before .before .before .before .before .before .before .before in roots-frame (maps s) _ (passOf (s .args .pass)) _ _ _ _ _ (c .loop .i) _ _ _ (c .loop .inv .7) (s .pre .0)
 
 filter-luma-requires : tie.Need-filter-luma-requires Inv-loop μ-loop
 filter-luma-requires c κs =
-    let s = c .before .before .before .before .before .before .before .before .before .before .before .before .before .before .before .before .before .before .before .before .before .before in
+    let s = c .before .before .before .before .before .before .before .before .before .before .before .before .before .before .before .before .before .before .before .before .before .before .before in
     let r = c .before .before .before .before .before .before .before .before .before .before .before .root-edges .ensures in
     let p = c .before .before .before .before .before .before .plan in (
       luma-plane (current (c .before .before .before .before .before .before .before .before .before .before .before .before .before .before)),
       record {
         long = omega (arith, r .long, r .few);
-        fits = omega (arith, r .few, c .before .before .before .before .before .before .before .before .before .before .before .before .before .before .loop .inv .5, p .kept .1 .1 .1 .1 .1 .1 .1 .1 .0);
-        fits-marks = omega (arith, r .few, c .before .before .before .before .before .before .before .before .before .before .before .before .before .before .loop .inv .6, p .kept .1 .1 .1 .1 .1 .1 .1 .1 .1 .0);
+        fits = omega (arith, r .few, c .before .before .before .before .before .before .before .before .before .before .before .before .before .before .loop .inv .5, p .kept .1 .1 .1 .1 .1 .1 .1 .1 .1 .0);
+        fits-marks = omega (arith, r .few, c .before .before .before .before .before .before .before .before .before .before .before .before .before .before .loop .inv .6, p .kept .1 .1 .1 .1 .1 .1 .1 .1 .1 .1 .0);
         units = r .units;
         few = λ k g. plan-few (maps s) (passOf (s .args .pass)) _ _ _ _ _ (p .ensures) (s .pre .0 .qps) k g;
       },
@@ -86,15 +87,15 @@ filter-luma-requires c κs =
 
 filter-colour-requires : tie.Need-filter-colour-requires Inv-loop μ-loop
 filter-colour-requires c κs =
-    let s = c .before .before .before .before .before .before .before .before .before .before .before .before .before .before .before .before .before .before .before .before .before .before .before .before .before .before .before .before .before .before in
+    let s = c .before .before .before .before .before .before .before .before .before .before .before .before .before .before .before .before .before .before .before .before .before .before .before .before .before .before .before .before .before .before .before in
     let r = c .before .before .before .before .before .before .before .before .before .before .before .before .before .before .before .before .before .before .before .root-edges .ensures in
     let p = c .before .before .before .before .before .before .before .before .before .before .before .before .before .before .plan in (
       u-plane (current (c .before .before .before .before .before .before .before .before .before .before .before .before .before .before .before .before .before .before .before .before .before .before)),
       v-plane (current (c .before .before .before .before .before .before .before .before .before .before .before .before .before .before .before .before .before .before .before .before .before .before)),
       record {
         long = omega (arith, r .long, r .few);
-        fits = omega (arith, r .few, c .before .before .before .before .before .before .before .before .before .before .before .before .before .before .before .before .before .before .before .before .before .before .loop .inv .5, p .kept .1 .1 .1 .1 .1 .1 .1 .1 .0);
-        fits-marks = omega (arith, r .few, c .before .before .before .before .before .before .before .before .before .before .before .before .before .before .before .before .before .before .before .before .before .before .loop .inv .6, p .kept .1 .1 .1 .1 .1 .1 .1 .1 .1 .0);
+        fits = omega (arith, r .few, c .before .before .before .before .before .before .before .before .before .before .before .before .before .before .before .before .before .before .before .before .before .before .loop .inv .5, p .kept .1 .1 .1 .1 .1 .1 .1 .1 .1 .0);
+        fits-marks = omega (arith, r .few, c .before .before .before .before .before .before .before .before .before .before .before .before .before .before .before .before .before .before .before .before .before .before .loop .inv .6, p .kept .1 .1 .1 .1 .1 .1 .1 .1 .1 .1 .0);
         units = r .units;
         few = λ k g. plan-few (maps s) (passOf (s .args .pass)) _ _ _ _ _ (p .ensures) (s .pre .0 .qps) k g;
       },
@@ -102,17 +103,17 @@ filter-colour-requires c κs =
     )
 
 add-count : tie.Need-add-count Inv-loop μ-loop
-add-count c = omega (arith, few (c .before .before .before .before .before .before .before .before .before .before .before .before .before .before .before .before .before .before .before .before .before .before .before .before .before .before .before .before .before .before .before .before .before .before .before), c .before .before .before .before .before .before .before .before .before .before .before .before .before .before .before .before .before .before .before .before .before .before .before .before .before .before .before .loop .inv .7 .few, c .before .before .before .before .before .before .before .before .before .before .before .before .before .before .before .before .before .before .before .before .before .before .before .before .before .before .before .loop .inv .0, c .before .before .before .before .before .before .before .before .before .before .before .before .before .before .before .before .before .before .before .before .before .before .before .before .root-edges .ensures .few)
+add-count c = omega (arith, few (c .before .before .before .before .before .before .before .before .before .before .before .before .before .before .before .before .before .before .before .before .before .before .before .before .before .before .before .before .before .before .before .before .before .before .before .before), c .before .before .before .before .before .before .before .before .before .before .before .before .before .before .before .before .before .before .before .before .before .before .before .before .before .before .before .loop .inv .7 .few, c .before .before .before .before .before .before .before .before .before .before .before .before .before .before .before .before .before .before .before .before .before .before .before .before .before .before .before .loop .inv .0, c .before .before .before .before .before .before .before .before .before .before .before .before .before .before .before .before .before .before .before .before .before .before .before .before .root-edges .ensures .few)
 
 add-i : tie.Need-add-i Inv-loop μ-loop
-add-i c = omega (arith, few (c .before .before .before .before .before .before .before .before .before .before .before .before .before .before .before .before .before .before .before .before .before .before .before .before .before .before .before .before .before .before .before .before .before .before .before), c .before .before .before .before .before .before .before .before .before .before .before .before .before .before .before .before .before .before .before .before .before .before .before .before .before .before .loop-test .taken)
+add-i c = omega (arith, few (c .before .before .before .before .before .before .before .before .before .before .before .before .before .before .before .before .before .before .before .before .before .before .before .before .before .before .before .before .before .before .before .before .before .before .before .before), c .before .before .before .before .before .before .before .before .before .before .before .before .before .before .before .before .before .before .before .before .before .before .before .before .before .before .loop-test .taken)
 
 loop-less : tie.Need-loop-less Inv-loop μ-loop
 loop-less c = omega (arith, c .before .before .before .before .before .before .before .before .before .before .before .before .before .before .before .before .before .before .before .before .before .before .before .before .before .before .loop-test .taken)
 
 loop-again : tie.Need-loop-again Inv-loop μ-loop
 loop-again c =
-    let s = c .before .before .before .before .before .before .before .before .before .before .before .before .before .before .before .before .before .before .before .before .before .before .before .before .before .before .before .before .before .before .before .before .before .before .before in
+    let s = c .before .before .before .before .before .before .before .before .before .before .before .before .before .before .before .before .before .before .before .before .before .before .before .before .before .before .before .before .before .before .before .before .before .before .before .before in
     let l = c .before .before .before .before .before .before .before .before .before .before .before .before .before .before .before .before .before .before .before .before .before .before .before .before .before .before .before .loop in
     let ky = c .before .before .before .before .before .before .before .before .before .before .before .before .filter-luma .kept in
     let k = c .before .before .before .before .filter-colour .kept in
@@ -124,14 +125,14 @@ loop-again c =
       k .1 .1 .1 .0 ∙ l .inv .2,
       k .1 .1 .1 .1 .0 ∙ l .inv .3,
       r .long,
-      p .kept .1 .1 .1 .1 .1 .1 .1 .1 .0 ∙ l .inv .5,
-      p .kept .1 .1 .1 .1 .1 .1 .1 .1 .1 .0 ∙ l .inv .6,
+      p .kept .1 .1 .1 .1 .1 .1 .1 .1 .1 .0 ∙ l .inv .5,
+      p .kept .1 .1 .1 .1 .1 .1 .1 .1 .1 .1 .0 ∙ l .inv .6,
       roots-more _ _ (passOf (s .args .pass)) _ _ _ _ _ (l .i) _ _ _ _ _ _ _ _ _ _ (r .few) (r .same) (s .pre .0 .marks) (p .ensures) (l .inv .7) (c .before .before .before .before .before .before .before .before .before .before .before .before .filter-luma .ensures) (f .0) (f .1),
     )
 
 returns : tie.Need-returns Inv-loop μ-loop
 returns c =
-    let s = c .before .before .before .before .before .before .before .before .before in
+    let s = c .before .before .before .before .before .before .before .before .before .before in
     let l = c .before .loop in
     roots-all _ _ (passOf (s .args .pass)) _ _ _ _ _ (l .i) _ _ _ (omega (arith, l .inv .0, c .loop-test .left, roots-units (size s))) (l .inv .7)
 
