@@ -254,6 +254,15 @@ uint8_t lomsakeun_set_flag(
     size_t w, size_t h, size_t x, size_t y, bool coded, bool on, uint32_t *words, size_t words_len,
     const int16_t *motion, size_t motion_len, const int8_t *refs, size_t refs_len, uint8_t *rows, size_t rows_len);
 
+/* Deblocking that is lent such a map, or none, which has length 0. The planes, words and counts are the same. A map that is not right is 19, last. */
+uint8_t lomsakeun_deblock_by_rows(
+    size_t w, size_t h, uint16_t *y, size_t y_len, uint16_t *u, size_t u_len, uint16_t *v, size_t v_len,
+    uint32_t *words, size_t words_len, const uint8_t *splits, size_t splits_len,
+    const int16_t *motion, size_t motion_len, const int8_t *refs, size_t refs_len, const uint8_t *keep, size_t keep_len, const uint8_t *rows, size_t rows_len,
+    const int8_t *table0, size_t table0_len, const int8_t *table1, size_t table1_len,
+    const uint8_t *strengths, size_t strengths_len,
+    uint8_t limit, int8_t u_offset, int8_t v_offset, bool colour, size_t *vertical_count, size_t *horizontal_count);
+
 /* The text that `edgelist` prints for a sheet (sheet), and its length. */
 uint8_t lomsakeun_listing(const uint8_t *input, size_t input_len, uint8_t *out, size_t out_len, size_t *length);
 

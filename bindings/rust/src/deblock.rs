@@ -38,12 +38,25 @@ pub struct Settings {
 /// [`Sample`](Refusal::Sample).
 #[inline]
 pub fn deblock(picture: Picture, maps: Maps, settings: Settings) -> Result<(usize, usize), Refusal> {
+    deblock_by_rows(picture, maps, &[], settings)
+}
+
+/// The same, lent a map of edge rows, as [`fill_rows`](crate::fill_rows) fills it, or none, which is empty: the rows are read from it, and the planes,
+/// words and counts are the same. Refusals: those of [`deblock`], a map of another length with the other lengths, and [`Rows`](Refusal::Rows) last, for
+/// a map that is not right.
+#[inline]
+pub fn deblock_by_rows(
+    picture: Picture,
+    maps: Maps,
+    rows: &[u8],
+    settings: Settings,
+) -> Result<(usize, usize), Refusal> {
     let Picture { w, h, y, u, v, words } = picture;
     let Maps { splits, motion, refs, keep, tables: [table0, table1], strengths } = maps;
     let (mut vertical, mut horizontal) = (0, 0);
     // Each pointer comes from a slice that lives through the call, with its own length, or from a local.
     let number = unsafe {
-        sys::lomsakeun_deblock(
+        sys::lomsakeun_deblock_by_rows(
             w,
             h,
             y.as_mut_ptr(),
@@ -62,6 +75,8 @@ pub fn deblock(picture: Picture, maps: Maps, settings: Settings) -> Result<(usiz
             refs.len(),
             keep.as_ptr(),
             keep.len(),
+            rows.as_ptr(),
+            rows.len(),
             table0.as_ptr(),
             table0.len(),
             table1.as_ptr(),

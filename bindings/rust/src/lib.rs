@@ -57,7 +57,7 @@ mod tree;
 pub use bands::Bands;
 pub use blocks::{get_nbr, ipred_b, recon, recon_plane, Component};
 pub use chroma::{derived_chroma_qp_mapping_tables, Points};
-pub use deblock::{deblock, Maps, Settings};
+pub use deblock::{deblock, deblock_by_rows, Maps, Settings};
 pub use driver::{reconstruct, Blocks};
 pub use mend::{changes, mend, Change, CHANGES_LENGTH};
 pub use neighbours::{get_avail_inter, get_avail_intra, get_mpm, Neighbours};

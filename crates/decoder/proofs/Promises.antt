@@ -9,15 +9,15 @@
 use Prim.Native.Nat.{ℕ, _+_, _-_, _*_, _/_}
 use mathlib.Core.Logic.{inl, inr}
 use mathlib.Core.Path.{_≡_, refl, sym, _∙_}
-use mathlib.Core.Bool.{true, false, not, _||_}
+use mathlib.Core.Bool.{Bool, true, false, not, _||_}
 use mathlib.Core.List.{List, [], _∷_, _++_, map}
 use denote.Ref.{RefT, now, ptr}
 use lib.Dec.{ltb, leb, eqb}
 use lib.IntN.{ℤ, pos, negsuc}
 use lib.ListN.{length, replicate}
 use Rattle.laws.proofs.Calls.{one-outcome}
-use Rattle.laws.specs.Bits.{fieldOf}
-use Rattle.laws.specs.Call.{allOf}
+use Rattle.laws.specs.Bits.{fieldOf, withField}
+use Rattle.laws.specs.Call.{unless, allOf}
 use Rattle.laws.specs.Index.{tabulateFrom}
 use Rattle.laws.specs.Orders.{run}
 use Rattle.laws.specs.Scan.{allBelow}
@@ -30,8 +30,9 @@ use Rattle.def.specs.Word.{flagAt}
 use Rattle.def.specs.declared.Format.{Format}
 use Rattle.def.specs.declared.Format.the-variants.{Grey, Colour}
 use Rattle.def.specs.declared.Answer.{Answer}
+use Rattle.def.specs.declared.Answer.the-variants.{Done, Refused}
 use Rattle.def.specs.declared.Refusal.{Refusal}
-use Rattle.def.specs.declared.Refusal.the-variants.{Size, Length, Setting, Split, Leaf, Keep, Qp, Sample, Block, Mode, Points as BadPoints, Pivot, Sheet, Record, Band, Bits, Old}
+use Rattle.def.specs.declared.Refusal.the-variants.{Size, Length, Setting, Split, Leaf, Keep, Qp, Sample, Block, Mode, Points as BadPoints, Pivot, Sheet, Record, Band, Bits, Rows, Old}
 use Rattle.def.specs.declared.Component.the-variants.{Luma}
 use Rattle.def.specs.declared.Format.{Format}
 use Rattle.def.specs.declared.Format.the-variants.{Grey, Colour}
@@ -83,7 +84,10 @@ use Rattle.pack_rules.specs.PutCall as put-map
 use Rattle.df_check.specs.Checks as checks
 use Rattle.df_check.specs.Rows.{bandRows}
 use Rattle.df.specs.Band as band
+use Rattle.df.specs.ByRows as by-rows
 use Rattle.df.specs.Deblock as deblock
+use Rattle.rows.specs.Checks.{lengthsOk, checkMaps, rightOk}
+use Rattle.rows.specs.Rule.{edgeRow, ruleByte, rightBytes}
 use Rattle.df.proofs.Apart.{reading-apart as deblocked-apart, banded-apart}
 use Rattle.sheet_lines.specs.Lines.{startOf, lineOf, startsWith, isNumber, numberLine, edgeLine, oldEdge, sameLine, splitsLine, numberAfter, valueFrom, lineOk, firstBad, widthOf, heightOf, limitOf, oldOf, digitsOf}
 use Rattle.sheet_lines.specs.ReadCall as sheet
@@ -96,7 +100,7 @@ use Rattle.sheet.specs.Words.{newline}
 use Rattle.sheet.proofs.Outcomes.{reading-apart as printed-apart}
 use Rattle.decoder.specs.Promise.{ended, Sole, Refuses, refusalIn}
 use Rattle.decoder.proofs.Settled.{told, settled}
-use Rattle.decoder.proofs.Refusing.{Stops, last, rung, again, walk-rung, by-checks, root-stops, picture-stops, line-said, sheet-rung, digits-said}
+use Rattle.decoder.proofs.Refusing.{Stops, zeroth, longer, last, rung, again, walk-rung, by-checks, root-stops, picture-stops, line-said, sheet-rung, digits-said}
 use Rattle.decoder.proofs.Taking.{bits-rung, root-takes, picture-takes}
 use Rattle.decoder.proofs.checked_points.Kinds as checked-points-kinds
 use Rattle.decoder.proofs.checked_points.Reads as checked-points-reads
@@ -144,6 +148,8 @@ use Rattle.decoder.proofs.get_map.Kinds as get-map-kinds
 use Rattle.decoder.proofs.get_map.Reads as get-map-reads
 use Rattle.decoder.proofs.mend.Kinds as mend-kinds
 use Rattle.decoder.proofs.mend.Reads as mend-reads
+use Rattle.decoder.proofs.deblock_by_rows.Kinds as by-rows-kinds
+use Rattle.decoder.proofs.deblock_by_rows.Reads as by-rows-reads
 use Rattle.decoder.proofs.deblock.Kinds as deblock-kinds
 use Rattle.decoder.proofs.deblock.Reads as deblock-reads
 use Rattle.decoder.proofs.checked_leaves.Kinds as checked-leaves-kinds
@@ -770,6 +776,46 @@ deblock-refusals =
 pub checked-refusals : Refuses checks.checkOf answerNumber by-deblocking
 unfolding checks.checkOf checks.fromLengths checks.lengthsOk checks.settingsOk checks.offsetOk checks.keepOk checks.qpsOk checks.planesOk list.limitOk sizeOk walk byByte inTurn onward leafWalk samplesOk allBelow fieldOf
 checked-refusals = record { only = λ i. checks-stop i .by; shown = map deblock.checked filterings; given = refl }
+
+-- ---- the same by a map of edge rows
+
+pub deblock-by-rows-once : Sole 12 by-rows-kinds.ps by-rows-kinds.r by-rows-reads.Post (λ κs r x. ended r (now (x .1 .1 .0) ∷ now (x .1 .1 .1 .0) ∷ now (x .1 .1 .1 .1 .0) ∷ now (x .1 .1 .1 .1 .1 .0) ∷ []))
+deblock-by-rows-once κs a r r′ x x′ p q = settled by-rows.outcome (λ o. o .reading) (λ o. o .y ∷ o .u ∷ o .v ∷ o .words ∷ []) p q (deblocked-apart r r′)
+
+abbrev with-rows : List Refusal
+with-rows = by-deblocking ++ (Rows ∷ [])
+
+map-last : (t : Bool) → Stops with-rows (unless t (Refused Rows) Done)
+map-last true = record { by = zeroth with-rows }
+map-last false = record { by = inr (inr (inr (inr (inr (inr (inr (inr (inl refl)))))))) }
+
+then-map : (t : Bool) (k : Answer) → Stops by-deblocking k → Stops with-rows (afterChecks (λ r. Refused r) (unless t (Refused Rows) Done) k)
+then-map t Done p = map-last t
+then-map t (Refused r) p = record { by = longer by-deblocking (Rows ∷ []) (numberOf r) (p .by) }
+
+by-rows-stop : (i : by-rows.Input) → Stops with-rows (by-rows.check i)
+unfolding by-rows.check
+by-rows-stop i =
+    again (sizeOk (i .given .w) (i .given .h)) Size _ (inl refl)
+    (again (by-rows.rowsLengthOk (i .given .w) (i .given .h) (length (i .rows))) Length _ (inr (inl refl))
+    (then-map (by-rows.rowsOk i) (deblock.check (i .given)) (checks-stop (deblock.checked (i .given)))))
+
+abbrev lending : List ℕ → deblock.Input → by-rows.Input
+lending rows i = record { given = i; rows = rows }
+
+pub deblock-by-rows-refusals : Refuses by-rows.outcome (λ o. o .reading .number) with-rows
+unfolding by-rows.outcome by-rows.check by-rows.rowsLengthOk by-rows.rowsOk rightOk checkMaps lengthsOk rightBytes ruleByte edgeRow withField checks.checkOf checks.fromLengths checks.lengthsOk checks.settingsOk checks.offsetOk checks.keepOk checks.qpsOk checks.planesOk list.limitOk sizeOk walk byByte inTurn onward leafWalk samplesOk allBelow fieldOf
+deblock-by-rows-refusals =
+    record {
+      only = λ i. by-checks (λ o. o .reading .number) (deblock.refused (i .given)) (deblock.done (i .given)) with-rows (by-rows.check i) (λ r. refl) refl (by-rows-stop i);
+      shown = map (lending []) filterings ++ (lending (1 ∷ []) (filtering 4 (root 1) 5 0 0 0) ∷ []);
+      given = refl;
+    }
+
+-- a length that is neither is 2; no map and a right one are accepted
+pub deblock-by-rows-numbers : map (λ (rows : List ℕ). by-rows.outcome (lending rows (filtering 4 (root 1) 5 0 0 0)) .reading .number) ((0 ∷ 0 ∷ []) ∷ [] ∷ (0 ∷ []) ∷ []) ≡ 2 ∷ 0 ∷ 0 ∷ []
+unfolding by-rows.outcome by-rows.check by-rows.rowsLengthOk by-rows.rowsOk rightOk checkMaps lengthsOk rightBytes ruleByte edgeRow withField checks.checkOf checks.fromLengths checks.lengthsOk checks.settingsOk checks.offsetOk checks.keepOk checks.qpsOk checks.planesOk list.limitOk sizeOk walk byByte inTurn onward leafWalk samplesOk allBelow fieldOf
+deblock-by-rows-numbers = refl
 
 -- by the format: such a picture of a format, with n samples in U and in V, and U's offset
 abbrev formatted : Format → ℕ → List ℤ → ℤ → deblock.Input

@@ -87,6 +87,8 @@ use Rattle.decoder.proofs.motion_row.Kinds as motion-row-kinds
 use Rattle.decoder.proofs.motion_row.Reads as motion-row-reads
 use Rattle.decoder.proofs.row_at.Kinds as row-at-kinds
 use Rattle.decoder.proofs.row_at.Reads as row-at-reads
+use Rattle.decoder.proofs.rows_right.Kinds as rows-right-kinds
+use Rattle.decoder.proofs.rows_right.Reads as rows-right-reads
 
 pub pel2scu-once : Sole 0 pel2scu-kinds.ps pel2scu-kinds.r pel2scu-reads.Post (λ κs r x. r)
 pel2scu-once κs a r r′ x x′ p q = ap (λ (n : ℕ). record { 0 = n }) (p ∙ sym q)
@@ -192,6 +194,9 @@ motion-row-once κs a r r′ x x′ p q = p .0 ∙ sym (q .0)
 
 pub row-at-once : Sole 3 row-at-kinds.ps row-at-kinds.r row-at-reads.Post (λ κs r x. r)
 row-at-once κs a r r′ x x′ p q = p .0 ∙ sym (q .0)
+
+pub rows-right-once : Sole 4 rows-right-kinds.ps rows-right-kinds.r rows-right-reads.Post (λ κs r x. r)
+rows-right-once κs a r r′ x x′ p q = p ∙ sym q
 
 -- ---- bits and marks
 

@@ -10,7 +10,7 @@
 //     7 driver          reconstruct; checked_leaves, coded_y, coded_u, coded_v, mode_of, word_of
 //     8 walk            leaves, check, visiting_rank, list_edges, root_list; list_marks, take_marks, mark_place, mark_byte, root_count
 //       deblocking      deblock; Bands::first, deblock_band; checked, checked_band, band_rows, rows_above, entries, mask_of, line, lanes, motion_row
-//       edge rows       fill_rows, set_motion, set_flag; row_at
+//       edge rows       fill_rows, set_motion, set_flag, deblock_by_rows; row_at, rows_right
 //     the sheet         read, listing
 //     the compact map   put_map, get_map; write_to, write_map, read_from, read_map; get_bit, put_bit
 //     a torn map        mend
@@ -55,6 +55,7 @@ pub use df::Banded;
 pub use df::Bands;
 pub use df::Deblocked;
 pub use df::deblock;
+pub use df::deblock_by_rows;
 pub use df_check::Settings;
 pub use df_check::band_rows;
 pub use df_check::checked;
@@ -105,6 +106,7 @@ pub use recon::recon_plane;
 pub use row::row_at;
 pub use rows::Flag;
 pub use rows::fill_rows;
+pub use rows::rows_right;
 pub use rows::set_flag;
 pub use rows::set_motion;
 pub use samples::samples_ok;

@@ -5,6 +5,7 @@ use mathlib.Core.Path.{_≡_, ap, _∙_}
 use mathlib.Core.List.{List}
 use Rattle.df_check.specs.declared.Settings.{Settings}
 use Rattle.df.specs.Band as banding
+use Rattle.df.specs.ByRows as rowing
 use Rattle.df.specs.Deblock as deblocking
 use Rattle.df.specs.declared.Deblocked.{Deblocked}
 use Rattle.df.specs.declared.band.Banded.{Banded}
@@ -18,6 +19,14 @@ with i s = record { w = i .w; h = i .h; y = i .y; u = i .u; v = i .v; words = i 
 
 pub deblocked-gives : (i : deblocking.Input) (s : Settings) (a : Deblocked) (n vertical horizontal : ℕ) (y u v words : List ℕ) → s ≡ i .settings → record { reading = deblocking.readingOf a; y = y; u = u; v = v; words = words } ≡ deblocking.outcome (with i s) → Numbers a n vertical horizontal → record { reading = record { number = n; vertical = vertical; horizontal = horizontal }; y = y; u = u; v = v; words = words } ≡ deblocking.outcome i
 deblocked-gives i s a n vertical horizontal y u v words q p e = rw (e .0, e .1, e .2) (p ∙ ap (λ (t : Settings). deblocking.outcome (with i t)) q)
+
+-- ---- by a map of edge rows
+
+pub rowed-gives : (i : rowing.Input) (s : Settings) (a : Deblocked) (n vertical horizontal : ℕ) (y u v words : List ℕ) → s ≡ i .given .settings
+    → record { reading = deblocking.readingOf a; y = y; u = u; v = v; words = words } ≡ rowing.outcome (record { given = with (i .given) s; rows = i .rows }) → Numbers a n vertical horizontal
+    → record { reading = record { number = n; vertical = vertical; horizontal = horizontal }; y = y; u = u; v = v; words = words } ≡ rowing.outcome i
+rowed-gives i s a n vertical horizontal y u v words q p e =
+    rw (e .0, e .1, e .2) (p ∙ ap (λ (t : Settings). rowing.outcome (record { given = with (i .given) t; rows = i .rows })) q)
 
 -- ---- of a band
 

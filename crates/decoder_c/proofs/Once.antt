@@ -15,6 +15,9 @@ use Rattle.pack_rules.specs.GetCall as getting
 use Rattle.pack_rules.specs.PutCall as putting
 use Rattle.rank.specs.RankCall as ranking
 use Rattle.recon.specs.Recon as recon
+use Rattle.rows.specs.FillCall as filling
+use Rattle.rows.specs.FlagCall as flagging
+use Rattle.rows.specs.MotionCall as moving
 use Rattle.sheet.specs.Listing as printing
 use Rattle.split.specs.CheckCall as checking
 use Rattle.split.specs.LeavesCall as meeting
@@ -63,6 +66,14 @@ use Rattle.decoder_c.proofs.deblock.lomsakeun_deblock.Kinds as deblock-
 use Rattle.decoder_c.proofs.deblock.lomsakeun_deblock.Reads as deblock-reads
 use Rattle.decoder_c.proofs.deblock.lomsakeun_deblock_band.Kinds as deblock-band-kinds
 use Rattle.decoder_c.proofs.deblock.lomsakeun_deblock_band.Reads as deblock-band-reads
+use Rattle.decoder_c.proofs.deblock.lomsakeun_deblock_by_rows.Kinds as deblock-by-rows-kinds
+use Rattle.decoder_c.proofs.deblock.lomsakeun_deblock_by_rows.Reads as deblock-by-rows-reads
+use Rattle.decoder_c.proofs.edge_rows.lomsakeun_fill_rows.Kinds as fill-rows-kinds
+use Rattle.decoder_c.proofs.edge_rows.lomsakeun_fill_rows.Reads as fill-rows-reads
+use Rattle.decoder_c.proofs.edge_rows.lomsakeun_set_motion.Kinds as set-motion-kinds
+use Rattle.decoder_c.proofs.edge_rows.lomsakeun_set_motion.Reads as set-motion-reads
+use Rattle.decoder_c.proofs.edge_rows.lomsakeun_set_flag.Kinds as set-flag-kinds
+use Rattle.decoder_c.proofs.edge_rows.lomsakeun_set_flag.Reads as set-flag-reads
 use Rattle.decoder_c.proofs.reconstruct.lomsakeun_reconstruct.Kinds as reconstruct-kinds
 use Rattle.decoder_c.proofs.reconstruct.lomsakeun_reconstruct.Reads as reconstruct-reads
 use Rattle.decoder_c.proofs.streams.lomsakeun_read_header.Kinds as read-header-kinds
@@ -181,6 +192,33 @@ pub lomsakeun-deblock-band-once : Sole 14 deblock-band-kinds.ps deblock-band-kin
       words = now (x .1 .1 .1 .1 .1 .1 .1 .0);
     })
 lomsakeun-deblock-band-once κs a n n′ x x′ p q = p ∙ sym q
+
+pub lomsakeun-deblock-by-rows-once : Sole 14 deblock-by-rows-kinds.ps deblock-by-rows-kinds.r deblock-by-rows-reads.Post {O = deblocking.Outcome}
+    (λ κs n x. record {
+      reading = record {
+        number = n;
+        vertical = now (x .1 .1 .1 .1 .1 .1 .1 .1 .1 .1 .1 .1 .1 .1 .1 .1 .1 .1 .0);
+        horizontal = now (x .1 .1 .1 .1 .1 .1 .1 .1 .1 .1 .1 .1 .1 .1 .1 .1 .1 .1 .1 .0);
+      };
+      y = now (x .1 .1 .0);
+      u = now (x .1 .1 .1 .0);
+      v = now (x .1 .1 .1 .1 .0);
+      words = now (x .1 .1 .1 .1 .1 .0);
+    })
+lomsakeun-deblock-by-rows-once κs a n n′ x x′ p q = p ∙ sym q
+
+-- ---- edge rows
+
+pub lomsakeun-fill-rows-once : Sole 4 fill-rows-kinds.ps fill-rows-kinds.r fill-rows-reads.Post {O = filling.Outcome} (λ κs n x. record { number = n; rows = now (x .1 .1 .1 .1 .1 .0) })
+lomsakeun-fill-rows-once κs a n n′ x x′ p q = p ∙ sym q
+
+pub lomsakeun-set-motion-once : Sole 4 set-motion-kinds.ps set-motion-kinds.r set-motion-reads.Post {O = moving.Outcome}
+    (λ κs n x. let t = x .1 .1 .1 .1 .1 .1 .1 .1 .1 .1 .1 in record { number = n; motion = now (t .0); refs = now (t .1 .0); rows = now (t .1 .1 .0) })
+lomsakeun-set-motion-once κs a n n′ x x′ p q = p ∙ sym q
+
+pub lomsakeun-set-flag-once : Sole 4 set-flag-kinds.ps set-flag-kinds.r set-flag-reads.Post {O = flagging.Outcome}
+    (λ κs n x. let t = x .1 .1 .1 .1 .1 .1 in record { number = n; words = now (t .0); rows = now (t .1 .1 .1 .0) })
+lomsakeun-set-flag-once κs a n n′ x x′ p q = p ∙ sym q
 
 -- ---- reconstruct
 

@@ -2,6 +2,7 @@
 ghost use mathlib.Core.Path.{_≡_};
 ghost use Rattle.laws.specs.Call.{Gives};
 ghost use Rattle.df.specs.Band as banding;
+ghost use Rattle.df.specs.ByRows as rowing;
 ghost use Rattle.df.specs.Deblock as deblocking;
 ghost use Rattle.decoder_c.specs.Flags.{settingsOf};
 use crate::format_of;
@@ -108,6 +109,80 @@ pub extern "C" fn lomsakeun_deblock(
         motion,
         refs,
         keep,
+        table0,
+        table1,
+        strengths,
+        settings,
+    ));
+    *vertical_count = seen.vertical;
+    *horizontal_count = seen.horizontal;
+    seen.number
+}
+
+#[no_mangle]
+pub extern "C" fn lomsakeun_deblock_by_rows(
+    w: usize,
+    h: usize,
+    y: &mut [u16],
+    u: &mut [u16],
+    v: &mut [u16],
+    words: &mut [u32],
+    splits: &[u8],
+    motion: &[i16],
+    refs: &[i8],
+    keep: &[u8],
+    rows: &[u8],
+    table0: &[i8],
+    table1: &[i8],
+    strengths: &[u8],
+    limit: u8,
+    u_offset: i8,
+    v_offset: i8,
+    colour: bool,
+    vertical_count: &mut usize,
+    horizontal_count: &mut usize,
+) -> u8
+    ensures { λ n. ⌜ Gives rowing.outcome
+        (record {
+          given = record {
+            w = w;
+            h = h;
+            y = now (y .entry);
+            u = now (u .entry);
+            v = now (v .entry);
+            words = now (words .entry);
+            splits = now (splits .entry);
+            motion = now (motion .entry);
+            refs = now (refs .entry);
+            keep = now (keep .entry);
+            table0 = now (table0 .entry);
+            table1 = now (table1 .entry);
+            strengths = now (strengths .entry);
+            settings = settingsOf limit «u_offset» «v_offset» colour;
+          };
+          rows = now (rows .entry);
+        })
+        (record {
+          reading = record { number = n; vertical = now («vertical_count» .exit); horizontal = now («horizontal_count» .exit) };
+          y = now (y .exit);
+          u = now (u .exit);
+          v = now (v .exit);
+          words = now (words .exit);
+        }) ⌝ }
+{
+    let settings = settings_of(limit, u_offset, v_offset, colour);
+    let seen = counts_of(df::deblock_by_rows(
+        w,
+        h,
+        y,
+        u,
+        v,
+        words,
+        splits,
+        motion,
+        refs,
+        keep,
+        rows,
         table0,
         table1,
         strengths,

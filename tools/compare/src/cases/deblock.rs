@@ -48,7 +48,100 @@ impl Picture {
         Picture { planes: [y, vec![], vec![]], tables: [vec![], vec![]], offsets: [0, 0], colour: false, ..self }
     }
 
-    fn answer(number: u32, counts: (usize, usize), planes: &[Vec<u16>; 3], words: &[u32]) -> Line {
+    #[cfg(feature = "archive")]
+    /// The product's answer, by a map of edge rows if there is one.
+    pub fn lent(&self, rows: Option<&[u8]>, lending: Lending) -> Answer {
+        let [mut y, mut u, mut v] = self.planes.each_ref().map(|plane| Lent::new(lending, plane));
+        let mut words = Lent::new(lending, &self.words);
+        let (splits, motion) = (Lent::new(lending, &self.splits), Lent::new(lending, &self.motion));
+        let (refs, strengths) = (Lent::new(lending, &self.refs), Lent::new(lending, &self.strengths));
+        let keep = Lent::new(lending, &self.keep);
+        let map = Lent::new(lending, rows.unwrap_or(&[]));
+        let [t0, t1] = self.tables.each_ref().map(|table| Lent::new(lending, table));
+        let (mut vertical, mut horizontal) = (77, 78);
+        let number = unsafe {
+            match rows {
+                None => sys::lomsakeun_deblock(
+                    self.w,
+                    self.h,
+                    y.mut_ptr(),
+                    y.len(),
+                    u.mut_ptr(),
+                    u.len(),
+                    v.mut_ptr(),
+                    v.len(),
+                    words.mut_ptr(),
+                    words.len(),
+                    splits.ptr(),
+                    splits.len(),
+                    motion.ptr(),
+                    motion.len(),
+                    refs.ptr(),
+                    refs.len(),
+                    keep.ptr(),
+                    keep.len(),
+                    t0.ptr(),
+                    t0.len(),
+                    t1.ptr(),
+                    t1.len(),
+                    strengths.ptr(),
+                    strengths.len(),
+                    self.limit as u8,
+                    self.offsets[0] as i8,
+                    self.offsets[1] as i8,
+                    self.colour,
+                    &mut vertical,
+                    &mut horizontal,
+                ),
+                Some(_) => sys::lomsakeun_deblock_by_rows(
+                    self.w,
+                    self.h,
+                    y.mut_ptr(),
+                    y.len(),
+                    u.mut_ptr(),
+                    u.len(),
+                    v.mut_ptr(),
+                    v.len(),
+                    words.mut_ptr(),
+                    words.len(),
+                    splits.ptr(),
+                    splits.len(),
+                    motion.ptr(),
+                    motion.len(),
+                    refs.ptr(),
+                    refs.len(),
+                    keep.ptr(),
+                    keep.len(),
+                    map.ptr(),
+                    map.len(),
+                    t0.ptr(),
+                    t0.len(),
+                    t1.ptr(),
+                    t1.len(),
+                    strengths.ptr(),
+                    strengths.len(),
+                    self.limit as u8,
+                    self.offsets[0] as i8,
+                    self.offsets[1] as i8,
+                    self.colour,
+                    &mut vertical,
+                    &mut horizontal,
+                ),
+            }
+        };
+        splits.kept(&self.splits)?;
+        motion.kept(&self.motion)?;
+        refs.kept(&self.refs)?;
+        keep.kept(&self.keep)?;
+        map.kept(rows.unwrap_or(&[]))?;
+        t0.kept(&self.tables[0])?;
+        t1.kept(&self.tables[1])?;
+        strengths.kept(&self.strengths)?;
+        let line = Line::new().num(number).num(vertical).num(horizontal);
+        Ok(line.all(y.after()?).all(u.after()?).all(v.after()?).all(words.after()?))
+    }
+
+    pub fn answer(number: u32, counts: (usize, usize), planes: &[Vec<u16>; 3], words: &[u32]) -> Line {
         let line = Line::new().num(number).num(counts.0).num(counts.1);
         planes.iter().fold(line, |line, plane| line.all(plane)).all(words)
     }
@@ -102,56 +195,7 @@ impl Case for Picture {
 
     #[cfg(feature = "archive")]
     fn product(&self, lending: Lending) -> Answer {
-        let [mut y, mut u, mut v] = self.planes.each_ref().map(|plane| Lent::new(lending, plane));
-        let mut words = Lent::new(lending, &self.words);
-        let (splits, motion) = (Lent::new(lending, &self.splits), Lent::new(lending, &self.motion));
-        let (refs, strengths) = (Lent::new(lending, &self.refs), Lent::new(lending, &self.strengths));
-        let keep = Lent::new(lending, &self.keep);
-        let [t0, t1] = self.tables.each_ref().map(|table| Lent::new(lending, table));
-        let (mut vertical, mut horizontal) = (77, 78);
-        let number = unsafe {
-            sys::lomsakeun_deblock(
-                self.w,
-                self.h,
-                y.mut_ptr(),
-                y.len(),
-                u.mut_ptr(),
-                u.len(),
-                v.mut_ptr(),
-                v.len(),
-                words.mut_ptr(),
-                words.len(),
-                splits.ptr(),
-                splits.len(),
-                motion.ptr(),
-                motion.len(),
-                refs.ptr(),
-                refs.len(),
-                keep.ptr(),
-                keep.len(),
-                t0.ptr(),
-                t0.len(),
-                t1.ptr(),
-                t1.len(),
-                strengths.ptr(),
-                strengths.len(),
-                self.limit as u8,
-                self.offsets[0] as i8,
-                self.offsets[1] as i8,
-                self.colour,
-                &mut vertical,
-                &mut horizontal,
-            )
-        };
-        splits.kept(&self.splits)?;
-        motion.kept(&self.motion)?;
-        refs.kept(&self.refs)?;
-        keep.kept(&self.keep)?;
-        t0.kept(&self.tables[0])?;
-        t1.kept(&self.tables[1])?;
-        strengths.kept(&self.strengths)?;
-        let line = Line::new().num(number).num(vertical).num(horizontal);
-        Ok(line.all(y.after()?).all(u.after()?).all(v.after()?).all(words.after()?))
+        self.lent(None, lending)
     }
 }
 
