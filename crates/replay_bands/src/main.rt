@@ -241,8 +241,8 @@ fn every(s: &[u8]) {
 }
 
 // A call keeps the checker from looking into the array.
-fn room() -> [u8; 2400000] {
-    [0u8; 2400000]
+fn room() -> [u8; 2300000] {
+    [0u8; 2300000]
 }
 
 fn main() {

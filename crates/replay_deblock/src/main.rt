@@ -226,8 +226,8 @@ fn every(s: &[u8]) {
 }
 
 // A call keeps the checker from looking into the array.
-fn room() -> [u8; 6100000] {
-    [0u8; 6100000]
+fn room() -> [u8; 5500000] {
+    [0u8; 5500000]
 }
 
 fn main() {

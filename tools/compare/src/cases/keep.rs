@@ -3,7 +3,7 @@ use super::bands::{Band, Bands};
 use super::bands_cases::all_bands;
 use super::data::*;
 use super::deblock::{picture, Picture};
-use super::deblock_cases::{square, strip, varied};
+use super::deblock_cases::{square, varied};
 use super::tape::{Case, Line, Tape};
 use super::trees;
 #[cfg(feature = "archive")]
@@ -30,29 +30,22 @@ fn marked(rng: &mut Rng, picture: Picture) -> Picture {
     Picture { keep, ..picture }
 }
 
-/// One unit of four is kept, each in turn: its side stays, and the other moves; then two and three of them, in colour and in grey.
+/// Each set of four units kept: their sides stay, and the others move; and in grey those of one unit or of none.
 fn fours(rng: &mut Rng) -> Vec<Picture> {
     let four = Picture { strengths: vec![3; 208], ..picture(rng, 8, 8, trees::FINEST) };
     let maps = (0..16u8).map(|bits| (0..4).map(|unit| bits >> unit & 1).collect::<Vec<u8>>());
     let all: Vec<Picture> = maps.map(|keep| Picture { keep, ..four.clone() }).collect();
-    all.iter().cloned().chain(all.iter().map(|picture| picture.clone().grey())).collect()
+    all.iter().cloned().chain(all[..5].iter().map(|picture| picture.clone().grey())).collect()
 }
 
 /// Kept units of all kinds, whole.
 pub fn record(tape: &mut Tape) {
     let rng = &mut Rng::new(0x4ee9);
     fours(rng).iter().for_each(|case| tape.record(case));
-    for i in 0..40 {
-        let size = if i % 3 == 0 { strip(rng) } else { square(rng, 24) };
+    for i in 0..12 {
+        let size = square(rng, 16);
         let case = varied(rng, size, i);
         let case = if i % 4 == 3 { case.grey() } else { case };
-        tape.record(&marked(rng, case));
-    }
-    for (w, h) in [(4, 4), (64, 64), (68, 68), (4, 4096)] {
-        let mut case = picture(rng, w, h, trees::FINE);
-        if h == 4096 {
-            case.planes.iter_mut().flatten().for_each(|sample| *sample = rng.range(0, 9) as u16);
-        }
         tape.record(&marked(rng, case));
     }
     refusals(rng).iter().for_each(|case| tape.record(case));
@@ -68,7 +61,7 @@ pub fn record(tape: &mut Tape) {
 /// The bands of such pictures.
 pub fn record_bands(tape: &mut Tape) {
     let rng = &mut Rng::new(0x4eea);
-    for (w, h) in [(4, 132), (12, 200), (64, 68), (8, 72)] {
+    for (w, h) in [(4, 132), (8, 72)] {
         let taste = trees::taste(rng);
         let drawn = picture(rng, w, h, taste);
         all_bands(tape, marked(rng, drawn));
@@ -90,7 +83,7 @@ fn refusals(rng: &mut Rng) -> Vec<Picture> {
     let good = picture(rng, 12, 8, trees::FINE);
     let mut all = Vec::new();
     for at in 0..6 {
-        for mark in [2, 3, 128, 255] {
+        for mark in [2, 255] {
             let mut bad = good.clone();
             bad.keep[at] = mark;
             all.push(bad);
