@@ -245,6 +245,9 @@ fn every(
 fn opened(file: i32, run: Run, window: Window, pgm: bool) -> u8 {
     let mut head = [0u8; 256];
     let n = y4m_file::first_line(file, &mut head);
+    if y4m_file::unreadable(file, n) {
+        return 2;
+    }
     match decoder::read_header(&head[..n]) {
         HeaderRead::Refused(r, at) => told(decoder::refusal_number(r), at),
         HeaderRead::Read {

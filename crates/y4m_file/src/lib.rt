@@ -78,6 +78,18 @@ fn read_fails(file: i32) -> bool {
     one_more(file, &mut byte) == 2
 }
 
+// Whether a file's first line has no bytes because the file cannot be read, as a directory cannot. That is told.
+pub fn unreadable(file: i32, n: usize) -> bool {
+    if n != 0 {
+        return false;
+    }
+    if !read_fails(file) {
+        return false;
+    }
+    say::line(b"the file cannot be read");
+    true
+}
+
 // ---- a frame
 
 // Where a frame of n bytes offends, from its own start on.

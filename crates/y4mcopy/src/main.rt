@@ -34,6 +34,9 @@ fn put_header(w: usize, h: usize, f: usize, g: usize, a: usize, b: usize) -> u8 
 fn copied(file: i32) -> u8 {
     let mut head = [0u8; 256];
     let n = y4m_file::first_line(file, &mut head);
+    if y4m_file::unreadable(file, n) {
+        return 2;
+    }
     match y4m_header::read_header(&head[..n]) {
         HeaderRead::Refused(r, at) => {
             y4m_file::refused(def::refusal_number(r), at);

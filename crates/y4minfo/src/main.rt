@@ -14,6 +14,9 @@ fn fraction(name: &[u8], n: usize, m: usize) {
 fn info(file: i32) -> u8 {
     let mut head = [0u8; 256];
     let n = y4m_file::first_line(file, &mut head);
+    if y4m_file::unreadable(file, n) {
+        return 2;
+    }
     match y4m_header::read_header(&head[..n]) {
         HeaderRead::Refused(r, at) => {
             let number = def::refusal_number(r);
