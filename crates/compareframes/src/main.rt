@@ -1,0 +1,372 @@
+// Compares two YUV4MPEG2 streams: equal, or the first sample that differs, by its frame, plane, place and both values; and draws that frame's differences as a
+// PGM picture over the grid of units. It reads, compares and writes; nothing is decided here.
+use decoder::HeaderRead;
+use libc::STDOUT_FILENO;
+
+mod picture;
+mod rooms;
+
+// Both files, and what their headers say.
+struct Job {
+    a: i32,
+    b: i32,
+    w: usize,
+    h: usize,
+    // where the first frames start
+    next_a: usize,
+    next_b: usize,
+    // where the picture's name is among the arguments, 0 for none
+    picture: usize,
+}
+
+// ---- a frame of each
+
+// Where two planes differ first: their length where they do not.
+fn differs(a: &[u16], b: &[u16]) -> usize {
+    let mut i = 0;
+    while i < a.len() {
+        if b.len() <= i {
+            return i;
+        }
+        if a[i] != b[i] {
+            return i;
+        }
+        i += 1;
+    }
+    i
+}
+
+fn sample(p: &[u16], at: usize) -> usize {
+    if at < p.len() { wide(p[at]) } else { 0 }
+}
+
+fn wide(v: u16) -> usize {
+    v as usize
+}
+
+// A sample of both streams, in a plane of rows of w: `plane=Y x=12 y=7 a=512 b=514`.
+fn tell(frame: usize, name: &[u8], w: usize, at: usize, a: &[u16], b: &[u16]) {
+    y4m_file::field(b"frame=", frame);
+    io::write_all(STDOUT_FILENO, b" plane=");
+    io::write_all(STDOUT_FILENO, name);
+    if 0 < w {
+        y4m_file::field(b" x=", at % w);
+        y4m_file::field(b" y=", at / w);
+    }
+    y4m_file::field(b" a=", sample(a, at));
+    y4m_file::field(b" b=", sample(b, at));
+    y4m_file::end_line();
+}
+
+// Whether a plane differs; it is told.
+fn plane_differs(frame: usize, name: &[u8], w: usize, a: &[u16], b: &[u16]) -> bool {
+    let at = differs(a, b);
+    if at < a.len() {
+        tell(frame, name, w, at, a, b);
+        return true;
+    }
+    false
+}
+
+// ---- the streams
+
+fn failed(name: &[u8]) -> u8 {
+    say::words(name);
+    say::line(b" cannot be read");
+    2
+}
+
+fn refused(name: &[u8], number: u8, place: usize) -> u8 {
+    say::words(name);
+    say::words(b", ");
+    y4m_file::refused(number, place);
+    1
+}
+
+fn ended(name: &[u8], frames: usize) -> u8 {
+    io::write_all(STDOUT_FILENO, name);
+    y4m_file::field(b" ends after frame ", frames);
+    y4m_file::end_line();
+    1
+}
+
+fn equal(frames: usize) -> u8 {
+    y4m_file::field(b"equal frames=", frames);
+    y4m_file::end_line();
+    0
+}
+
+// What is told where not both streams have a frame more, and the exit status; 255 where both have. `before`: the bytes of the frames before this one.
+fn both(job: Job, a: y4m_file::Turn, b: y4m_file::Turn, frames: usize, before: usize) -> u8 {
+    if a.failed {
+        return failed(b"the first stream");
+    }
+    if b.failed {
+        return failed(b"the second stream");
+    }
+    if a.number != 0 {
+        let place = std::num::wrapping_add_usize(job.next_a, before);
+        return refused(
+            b"the first stream",
+            a.number,
+            std::num::wrapping_add_usize(place, a.at),
+        );
+    }
+    if b.number != 0 {
+        let place = std::num::wrapping_add_usize(job.next_b, before);
+        return refused(
+            b"the second stream",
+            b.number,
+            std::num::wrapping_add_usize(place, b.at),
+        );
+    }
+    if a.more & b.more {
+        return 255;
+    }
+    if a.more {
+        return ended(b"b", frames);
+    }
+    if b.more {
+        return ended(b"a", frames);
+    }
+    equal(frames)
+}
+
+fn progress(frames: usize) {
+    if frames % 100 == 99 {
+        say::words(b"frames=");
+        say::number(frames + 1);
+        say::line(b"");
+    }
+}
+
+// The planes of a frame: 255 where they are the same, else the exit status.
+fn planes(
+    job: Job,
+    frame: usize,
+    ya: &[u16],
+    ua: &[u16],
+    va: &[u16],
+    yb: &[u16],
+    ub: &[u16],
+    vb: &[u16],
+) -> u8 {
+    let half = job.w / 2;
+    if plane_differs(frame, b"Y", job.w, ya, yb) {
+        return picture::drawn(job, ya, yb);
+    }
+    if plane_differs(frame, b"U", half, ua, ub) {
+        return picture::drawn(job, ya, yb);
+    }
+    if plane_differs(frame, b"V", half, va, vb) {
+        return picture::drawn(job, ya, yb);
+    }
+    255
+}
+
+// What reading the next frame of each came to.
+struct Got {
+    a: y4m_file::Turn,
+    b: y4m_file::Turn,
+}
+
+fn next(
+    job: Job,
+    bytes: &mut [u8],
+    ya: &mut [u16],
+    ua: &mut [u16],
+    va: &mut [u16],
+    yb: &mut [u16],
+    ub: &mut [u16],
+    vb: &mut [u16],
+) -> Got {
+    let a = y4m_file::next_frame(job.a, job.w, job.h, bytes, ya, ua, va);
+    let b = y4m_file::next_frame(job.b, job.w, job.h, bytes, yb, ub, vb);
+    Got { a, b }
+}
+
+// The next frame of each: 255 where both have one and they are the same, else the exit status.
+fn one_frame(
+    job: Job,
+    frame: usize,
+    before: usize,
+    bytes: &mut [u8],
+    ya: &mut [u16],
+    ua: &mut [u16],
+    va: &mut [u16],
+    yb: &mut [u16],
+    ub: &mut [u16],
+    vb: &mut [u16],
+) -> u8 {
+    let got = next(job, bytes, ya, ua, va, yb, ub, vb);
+    let a = got.a;
+    let b = got.b;
+    let status = both(job, a, b, frame, before);
+    if status != 255 {
+        return status;
+    }
+    planes(job, frame, ya, ua, va, yb, ub, vb)
+}
+
+// Frame by frame. A proved loop has to end, and nothing says that a stream does: it counts frames up to a number that no run uses up.
+fn every(
+    job: Job,
+    bytes: &mut [u8],
+    ya: &mut [u16],
+    ua: &mut [u16],
+    va: &mut [u16],
+    yb: &mut [u16],
+    ub: &mut [u16],
+    vb: &mut [u16],
+) -> u8 {
+    let mut frames: usize = 0;
+    let mut before: usize = 0;
+    while frames < 1000000000000 {
+        let status = one_frame(job, frames, before, bytes, ya, ua, va, yb, ub, vb);
+        if status != 255 {
+            return status;
+        }
+        progress(frames);
+        frames += 1;
+        before = std::num::wrapping_add_usize(before, bytes.len());
+    }
+    2
+}
+
+// ---- the call
+
+// A header's size and the place after it; w is 0 where it is refused or cannot be read, and that is told.
+struct Headed {
+    w: usize,
+    h: usize,
+    next: usize,
+}
+
+fn no_head() -> Headed {
+    Headed {
+        w: 0,
+        h: 0,
+        next: 0,
+    }
+}
+
+fn head(name: &[u8], file: i32) -> Headed {
+    let mut line = [0u8; 256];
+    let n = y4m_file::first_line(file, &mut line);
+    if y4m_file::unreadable(file, n) {
+        return no_head();
+    }
+    match decoder::read_header(&line[..n]) {
+        HeaderRead::Refused(r, at) => {
+            refused(name, decoder::refusal_number(r), at);
+            no_head()
+        }
+        HeaderRead::Read {
+            w,
+            h,
+            f: _,
+            g: _,
+            a: _,
+            b: _,
+            next,
+        } => Headed { w, h, next },
+    }
+}
+
+fn sizes_differ(a: Headed, b: Headed) -> u8 {
+    y4m_file::field(b"sizes differ: a ", a.w);
+    y4m_file::field(b"x", a.h);
+    y4m_file::field(b", b ", b.w);
+    y4m_file::field(b"x", b.h);
+    y4m_file::end_line();
+    1
+}
+
+fn compared(a: i32, b: i32, picture: usize) -> u8 {
+    let first = head(b"the first stream", a);
+    if first.w == 0 {
+        return 1;
+    }
+    let second = head(b"the second stream", b);
+    if second.w == 0 {
+        return 1;
+    }
+    if (first.w != second.w) | (first.h != second.h) {
+        return sizes_differ(first, second);
+    }
+    rooms::frames(
+        Job {
+            a,
+            b,
+            w: first.w,
+            h: first.h,
+            next_a: first.next,
+            next_b: second.next,
+            picture,
+        },
+        false,
+    )
+}
+
+fn help() {
+    say::line(b"usage: compare-frames A B [--picture FILE]");
+    say::line(
+        b"Compares two YUV4MPEG2 streams of 10 bits: equal, or the first sample that differs.",
+    );
+    say::line(
+        b"--picture FILE  writes that frame's luma differences as a PGM picture over the grid of units",
+    );
+    say::line(
+        b"status: 0 equal, 1 different or refused, 2 bad usage or a failure of input or output",
+    );
+}
+
+fn open_arg(at: usize) -> i32 {
+    let mut path = io::buffer();
+    let n = os::arg(at, &mut path);
+    let file = os::open_read(&path[..n]);
+    if file < 0 {
+        os::fail(&path[..n]);
+    }
+    file
+}
+
+// Whether the arguments name a picture.
+fn picture_asked(count: usize) -> bool {
+    if count != 5 {
+        return false;
+    }
+    let mut word = io::buffer();
+    let n = os::arg(3, &mut word);
+    words::is(&word[..n], b"--picture")
+}
+
+fn run(picture: usize) -> u8 {
+    let a = open_arg(1);
+    if a < 0 {
+        return 2;
+    }
+    let b = open_arg(2);
+    if b < 0 {
+        libc::close(a);
+        return 2;
+    }
+    let status = compared(a, b, picture);
+    libc::close(a);
+    libc::close(b);
+    status
+}
+
+fn main() {
+    let count = os::arg_count();
+    if picture_asked(count) {
+        say::status(run(4));
+        return;
+    }
+    if count != 3 {
+        help();
+        say::status(2);
+        return;
+    }
+    say::status(run(0));
+}
