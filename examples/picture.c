@@ -30,18 +30,19 @@ int main(void) {
     static uint8_t splits[LOMSAKEUN_SPLITS_PER_ROOT];
     splits[136] = splits[256 + 68] = splits[512 + 34] = splits[768 + 17] = 1;
 
-    /* Five leaves, four of 4x4 and one of 8x8. Each is predicted by DC at QP 37; the last has a residual in Y, 24 in each of its samples. */
-    static const uint8_t leaves[5 * 4] = {0, 37, 0, 0, 0, 37, 0, 0, 0, 37, 0, 0, 0, 37, 0, 0, 0, 37, 1, 0};
+    /* Five leaves, four of 4x4 and one of 8x8. Each is predicted by DC at QP 37; the last has a residual in Y, 24 in each of its samples.
+       The second is kept, by its last byte: deblocking leaves its samples as they are. */
+    static const uint8_t leaves[5 * 4] = {0, 37, 0, 0, 0, 37, 0, 1, 0, 37, 0, 0, 0, 37, 0, 0, 0, 37, 1, 0};
     static int16_t residual[64];
     for (int i = 0; i < 64; i++) residual[i] = 24;
 
     /* No leaf takes the lent prediction, but it has to be there. What the picture's planes and maps hold at entry counts for nothing. */
     static uint16_t lent_y[LUMA], lent_u[CHROMA], lent_v[CHROMA], y[LUMA], u[CHROMA], v[CHROMA];
     static uint32_t words[UNITS];
-    static uint8_t modes[UNITS];
+    static uint8_t modes[UNITS], keep[UNITS];
     done("the picture", lomsakeun_reconstruct(
-        W, H, splits, sizeof splits, leaves, sizeof leaves, residual, 64, lent_y, LUMA, lent_u, CHROMA, lent_v, CHROMA, false,
-        y, LUMA, u, CHROMA, v, CHROMA, words, UNITS, modes, UNITS));
+        W, H, true, splits, sizeof splits, leaves, sizeof leaves, residual, 64, lent_y, LUMA, lent_u, CHROMA, lent_v, CHROMA, false,
+        y, LUMA, u, CHROMA, v, CHROMA, words, UNITS, modes, UNITS, keep, UNITS));
     print("reconstructed", y);
 
     /* One pivot at QP 16 maps each chroma QP to itself. */
@@ -58,7 +59,7 @@ int main(void) {
     size_t vertical, horizontal;
     done("deblocking", lomsakeun_deblock(
         W, H, y, LUMA, u, CHROMA, v, CHROMA, words, UNITS, splits, sizeof splits, motion, 4 * UNITS, refs, sizeof refs,
-        t0, sizeof t0, t1, sizeof t1, strengths, sizeof strengths, 6, 0, 0, &vertical, &horizontal));
+        keep, UNITS, t0, sizeof t0, t1, sizeof t1, strengths, sizeof strengths, 6, 0, 0, true, &vertical, &horizontal));
     print("deblocked", y);
     printf("%zu vertical edges, %zu horizontal\n", vertical, horizontal);
 }

@@ -23,22 +23,25 @@ fn main() -> Result<(), Refusal> {
     }
 
     // Five leaves, four of 4x4 and one of 8x8. Each is predicted by DC at QP 37; the last has a residual in Y, 24 in each of its samples.
-    let leaves = [[0, 37, 0, 0], [0, 37, 0, 0], [0, 37, 0, 0], [0, 37, 0, 0], [0, 37, 1, 0]].concat();
+    // The second is kept, by its last byte: deblocking leaves its samples as they are.
+    let leaves = [[0, 37, 0, 0], [0, 37, 0, 1], [0, 37, 0, 0], [0, 37, 0, 0], [0, 37, 1, 0]].concat();
     let residual = [24i16; 64];
 
     // No leaf takes the lent prediction, but it has to be there. What the picture's planes and maps hold at entry counts for nothing.
     let lent = vec![0u16; W * H];
     let chroma = W * H / 4;
     let (mut y, mut u, mut v) = (vec![0u16; W * H], vec![0u16; chroma], vec![0u16; chroma]);
-    let (mut words, mut modes) = ([0u32; UNITS], [0u8; UNITS]);
+    let (mut words, mut modes, mut keep) = ([0u32; UNITS], [0u8; UNITS], [0u8; UNITS]);
     let blocks = Blocks {
         splits: &splits,
         leaves: &leaves,
         residual: &residual,
         predictions: [&lent, &lent[..chroma], &lent[..chroma]],
         constrained: false,
+        colour: true,
     };
-    reconstruct(blocks, Picture { w: W, h: H, y: &mut y, u: &mut u, v: &mut v, words: &mut words }, &mut modes)?;
+    let picture = Picture { w: W, h: H, y: &mut y, u: &mut u, v: &mut v, words: &mut words };
+    reconstruct(blocks, picture, &mut modes, &mut keep)?;
     print("reconstructed", &y);
 
     // One pivot at QP 16 maps each chroma QP to itself.
@@ -51,10 +54,11 @@ fn main() -> Result<(), Refusal> {
         splits: &splits,
         motion: &[0; 4 * UNITS],
         refs: &[0; 2 * UNITS],
+        keep: &keep,
         tables: [&t0, &t1],
         strengths: &[3; 208],
     };
-    let settings = Settings { limit: 6, u_offset: 0, v_offset: 0 };
+    let settings = Settings { limit: 6, u_offset: 0, v_offset: 0, colour: true };
     let picture = Picture { w: W, h: H, y: &mut y, u: &mut u, v: &mut v, words: &mut words };
     let (vertical, horizontal) = deblock(picture, maps, settings)?;
     print("deblocked", &y);
