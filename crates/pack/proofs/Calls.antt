@@ -1,4 +1,4 @@
--- The outcomes of `put_map` and `get_map`, by what their checks find.
+-- The outcomes of `put_map`, `get_map` and `take_map`, by what their checks find.
 -- Assumes nothing.
 use mathlib.Core.Bool.{Bool, true, false}
 use mathlib.Core.List.{List, []}
@@ -25,6 +25,7 @@ use Rattle.marks_rules.specs.Pictures.{upto}
 use Rattle.pack_rules.specs.Form.{bitsIn, startOf, endOf, digitsFrom, packed, roomOk, fillOk}
 use Rattle.pack_rules.specs.GetCall as get-call
 use Rattle.pack_rules.specs.PutCall as put-call
+use Rattle.pack_rules.specs.TakeCall as take-call
 use Rattle.split.proofs.Roots.{roots-units, some-wide}
 use Rattle.split.specs.Picture.{across, roots, pictureWalk}
 use Rattle.pack.specs.Taken.{Mapped, Accepted, Span}
@@ -105,3 +106,27 @@ module _ (i : get-call.Input) where
         get-stopped Bits
         (ap (λ (ds : List ℕ). upto (i .w / 4) (i .h / 4) ds (roots (i .w / 4) (i .h / 4)) .walk .answer) none
         ∙ none-read (i .w / 4) (i .h / 4) (roots (i .w / 4) (i .h / 4)) (some-wide s) refl some)
+
+-- ---- take_map
+
+module _ (i : take-call.Input) where
+  pub take-refused : (r : Refusal) → Refused r ≡ take-call.check i → record { number = numberOf r; at = i .from; map = i .map } ≡ take-call.outcome i
+  unfolding take-call.outcome
+  take-refused r e = rw (sym e)
+
+  module _ (z : Mapped (i .w) (i .h) (length (i .map))) where
+    take-checked : (t : Bool) → take-call.placesOk (i .from) (i .to) ≡ t → take-call.check i ≡ unless t (Refused Bits) (take-call.descent i .walk .answer)
+    unfolding take-call.check
+    take-checked t e = rw (z .size, eq-eqb _ _ (z .bytes), e)
+
+    -- places that no slice has
+    pub take-off : take-call.placesOk (i .from) (i .to) ≡ false → record { number = 16; at = i .from; map = i .map } ≡ take-call.outcome i
+    take-off e = take-refused Bits (sym (take-checked false e))
+
+    module _ (e : take-call.placesOk (i .from) (i .to) ≡ true) where
+      pub take-stopped : (r : Refusal) → take-call.descent i .walk .answer ≡ Refused r → record { number = numberOf r; at = i .from; map = i .map } ≡ take-call.outcome i
+      take-stopped r f = take-refused r (sym (take-checked true e ∙ f))
+
+      pub take-done : (o : take-call.Outcome) → take-call.descent i .walk .answer ≡ Done → o ≡ take-call.done i → o ≡ take-call.outcome i
+      unfolding take-call.outcome
+      take-done o d f = f ∙ sym (ap (afterChecks (take-call.refused i) (take-call.done i)) (take-checked true e ∙ d))

@@ -6,6 +6,7 @@ ghost use Rattle.def.specs.Answers.{answerNumber};
 ghost use Rattle.laws.specs.Call.{Gives};
 ghost use Rattle.pack_rules.specs.GetCall as GetCall;
 ghost use Rattle.pack_rules.specs.PutCall as PutCall;
+ghost use Rattle.pack_rules.specs.TakeCall as TakeCall;
 ghost use Rattle.pack_rules.specs.Form.{bitsIn};
 ghost use Rattle.pack.specs.Held.{written, wrote, taken, passed};
 ghost use Rattle.pack.specs.Taken.{Accepted, Mapped, Span};
@@ -160,6 +161,45 @@ pub fn get_map(w: usize, h: usize, src: &[u8], at: usize, map: &mut [u8]) -> Pla
         };
     }
     get_taken(w, h, src, (at + 7) / 8 * 8, end, at, map)
+}
+
+// The split map of a picture of w by h by its digits alone, the bits from one place up to another: what is left behind them is the caller's to judge.
+pub fn take_map(w: usize, h: usize, src: &[u8], from: usize, to: usize, map: &mut [u8]) -> Placed
+    ensures { λ r. ⌜ Gives TakeCall.outcome
+        (record { w = w; h = h; src = now (src .entry); from = from; to = to; map = now (map .entry) })
+        (record { number = answerNumber (r .answer); at = r .at; map = now (map .exit) }) ⌝ }
+{
+    if !size_ok(w, h) {
+        return Placed {
+            answer: Answer::Refused(Refusal::Size),
+            at: from,
+        };
+    }
+    if map.len() != 1024 * root_count(w, h) {
+        return Placed {
+            answer: Answer::Refused(Refusal::Length),
+            at: from,
+        };
+    }
+    if !((from <= to) & (to <= 4611686018427387904)) {
+        return Placed {
+            answer: Answer::Refused(Refusal::Bits),
+            at: from,
+        };
+    }
+    match map_taken(w, h, src, from, to) {
+        Marked::Refused(r) => Placed {
+            answer: Answer::Refused(r),
+            at: from,
+        },
+        Marked::Done(n) => {
+            fill_map(w, h, src, from, to, map);
+            Placed {
+                answer: Answer::Done,
+                at: from + n,
+            }
+        }
+    }
 }
 
 // ---- a writer and a reader: a lent part of the buffer, and the position in it, in bits

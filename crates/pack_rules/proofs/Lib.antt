@@ -1,1 +1,3 @@
+pub mod Grown
 pub mod Kept
+pub mod Owned

@@ -1,4 +1,5 @@
--- What is proved of every map that is written: it can be read back from any buffer that holds its bits, and no other byte moves.
+-- What is proved of every map that is written: it can be read back from any buffer that holds its bits, and no other byte moves. And of every map that is
+-- read, from whatever bits.
 -- Assumes nothing: these are definitions.
 use mathlib.Core.List.{List, _++_, List·Memᴰ}
 use mathlib.Core.Logic.{_⊎_}
@@ -57,3 +58,8 @@ pub record Kept (i : put-call.Input) : Type 0 where
   -- a map that is written behind it leaves it where it is
   pub next : (k : put-call.Input) → put-call.check k ≡ Done → k .buf ≡ put-call.outcome i .buf → k .at ≡ put-call.outcome i .at
       → Holds (put-call.outcome k .buf) (i .at) (put-call.digits i)
+
+-- of every call that `get_map` accepts: the map that it leaves is walked as the digits say, and to the end
+pub record Reads (i : get-call.Input) : Type 0 where
+  pub walked : pictureWalk (get-call.outcome i .map) (i .w / 4) (i .h / 4) ≡ get-call.descent i .walk
+  pub accepted : pictureWalk (get-call.outcome i .map) (i .w / 4) (i .h / 4) .answer ≡ Done

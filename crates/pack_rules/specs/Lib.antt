@@ -2,3 +2,4 @@ pub mod Form
 pub mod GetCall
 pub mod Kept
 pub mod PutCall
+pub mod TakeCall
