@@ -10,7 +10,7 @@ use Prim.Native.Nat.{ℕ, _-_, _/_, _%_, _≤_, _<_}
 use native.Mathlib.Omega.{arith}
 use borrow.Author.Tests.{leb-true, eqb-true, eq-eqb, ne-eqb}
 use lib.Dec.{eqb}
-use lib.ListN.{length, take, drop, drop-of-length-le, length-drop}
+use lib.ListN.{length, take, drop}
 use Rattle.laws.proofs.Calls.{all-at}
 use Rattle.def.specs.declared.Answer.the-variants.{Done, Refused}
 use Rattle.def.specs.declared.Refusal.{Refusal}
@@ -22,7 +22,7 @@ use Rattle.split.specs.Walk.{Walk}
 use Rattle.sheet_lines.specs.Lines.{firstBad}
 use Rattle.sheet_lines.proofs.Answers.{Whole, Bad}
 use Rattle.sheet.specs.Descent.{pictureDescent}
-use Rattle.sheet.specs.Taken.{Sides, RootsMet}
+use Rattle.sheet.specs.Taken.{Sides, Met, Stopped}
 use Rattle.sheet.specs.Text.{sideTests, sidesOk, foundBy, foundOf, foundIn, refusedText, listedText, printed, textOf}
 use Rattle.sheet.proofs.Room.{leaves-met}
 
@@ -64,16 +64,16 @@ module _ (w h limit : ℕ) (digits : List ℕ) where
       pub not-old : (old : Bool) → old ≡ false → printed (foundOf w h limit false digits) ≡ printed (foundOf w h limit old digits)
       not-old old e = ap (λ (o : Bool). printed (foundOf w h limit o digits)) (sym e)
 
-      pub walk-no : (r : Refusal) → pictureDescent (w / 4) (h / 4) digits .walk .answer ≡ Refused r → refusedText r 5 ≡ printed (foundOf w h limit false digits)
+      pub walk-no : (r : Refusal) → Stopped (w / 4) (h / 4) digits r → refusedText r 5 ≡ printed (foundOf w h limit false digits)
       unfolding foundOf foundBy
-      walk-no r e = rw (sides, limited, e)
+      walk-no r e = rw (sides, limited, e .found) (ap (λ (q : Refusal). refusedText q 5) (e .said))
 
-      module _ (map : List ℕ) (next : ℕ) (met : RootsMet (w / 4) (h / 4) digits map (roots (w / 4) (h / 4)) next) where
+      module _ (map : List ℕ) (next : ℕ) (met : Met (w / 4) (h / 4) digits map next) where
         pub left-over : next < length digits → refusedText Sheet 5 ≡ printed (foundOf w h limit false digits)
         unfolding foundOf foundBy
         left-over l =
             let e : eqb (length (pictureDescent (w / 4) (h / 4) digits .left)) 0 ≡ false =
-            ne-eqb (length (pictureDescent (w / 4) (h / 4) digits .left)) 0 (λ z. (let q = ap length (met .left) in let n = length-drop next digits in omega arith)) in
+            ne-eqb (length (pictureDescent (w / 4) (h / 4) digits .left)) 0 (λ z. omega (arith, met .left)) in
             rw (sides, limited, met .done, e)
 
         -- the walk of the map ends, and its leaves are those of the digits
@@ -86,7 +86,7 @@ module _ (w h limit : ℕ) (digits : List ℕ) where
         pub all-listed : length digits ≤ next → listedText (edgeList vertical (eqb limit 5) map (w / 4) (h / 4)) (edgeList horizontal (eqb limit 5) map (w / 4) (h / 4)) ≡ printed (foundOf w h limit false digits)
         unfolding foundOf foundBy
         all-listed l =
-            let e : eqb (length (pictureDescent (w / 4) (h / 4) digits .left)) 0 ≡ true = eq-eqb _ 0 (ap length (met .left ∙ drop-of-length-le digits l)) in
+            let e : eqb (length (pictureDescent (w / 4) (h / 4) digits .left)) 0 ≡ true = eq-eqb (length (pictureDescent (w / 4) (h / 4) digits .left)) 0 (omega (arith, met .left)) in
             rw (sides, limited, met .done, e, leaves)
 
 -- ---- a sheet, by what its lines say

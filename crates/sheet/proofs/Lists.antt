@@ -35,7 +35,7 @@ use Rattle.sheet.proofs.Texts.{near-places, listed-text}
 units : (short : Bool) (s : List ℕ) (w h : ℕ) → 1 ≤ w → pictureWalk s w h .answer ≡ Done → (d : Pass) → length (edgeList d short s w h) ≤ w * h
 units short s w h pos e d = omega (arith, demand-3 short s w h pos e .fits d, edges-twice (edgeList d short s w h))
 
-size-fits : (w h : ℕ) → Sides w h → sizeOk w h ≡ true
+pub size-fits : (w h : ℕ) → Sides w h → sizeOk w h ≡ true
 unfolding sizeOk
 size-fits w h s =
     simp (le-leb 4 w (s .some-wide), le-leb w 4096 (omega arith), eq-eqb (w % 4) 0 (s .units-wide), le-leb 4 h (s .some-high), le-leb h 4096 (omega arith), eq-eqb (h % 4) 0 (s .units-high))

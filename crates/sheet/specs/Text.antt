@@ -16,7 +16,8 @@ use Rattle.split.specs.Edges.{Pass, vertical, horizontal, Edge, visitOf, nearEd
 use Rattle.split.specs.ListCall.{limitOk}
 use Rattle.split.specs.Walk.{Leaf}
 use Rattle.sheet_lines.specs.Lines.{firstBad, widthOf, heightOf, limitOf, oldOf, digitsOf}
-use Rattle.sheet.specs.Descent.{Descent, pictureDescent}
+use Rattle.marks_rules.specs.Descent.{Descent}
+use Rattle.sheet.specs.Descent.{pictureDescent, asSheet}
 use Rattle.sheet.specs.Words.{refusedKey, lineKey, verticalCount, horizontalCount, newline}
 
 -- ---- what is found in a sheet
@@ -40,7 +41,7 @@ edgesOf d short l = each (nearEdge d) (each (visitOf d short) l)
 -- what the walk meets, digits that ran out among it; then digits that are left over; then the edges
 unfoldable pub foundBy : Bool → Descent → Found
 foundBy short d =
-    afterChecks (λ (r : Refusal). refused r 5)
+    afterChecks (λ (r : Refusal). refused (asSheet r) 5)
     (unless (eqb (length (d .left)) 0) (refused Sheet 5)
     (listed (edgesOf vertical short (d .walk .list)) (edgesOf horizontal short (d .walk .list))))
     (d .walk .answer)

@@ -1,7 +1,7 @@
 // The sheet and its listing, bytes to bytes. There is no Rust beside it.
 ghost use mathlib.Core.Path.{_≡_};
 ghost use mathlib.Core.Bool.{true, false};
-ghost use Prim.Native.Nat.{_*_, _/_};
+ghost use Prim.Native.Nat.{_*_, _/_, _≤_};
 ghost use lib.ListN.{length};
 ghost use Rattle.laws.specs.Call.{Gives};
 ghost use Rattle.split.specs.ListCall.{limitOk};
@@ -103,7 +103,7 @@ fn print_tree(
     map: &mut [u8],
     out: &mut [u8],
 ) -> usize
-    requires { ⌜ (sidesOk w h ≡ true) × (limitOk limit ≡ true) × (binary (now digits) ≡ true) × (length (now map) ≡ 1024 * roots (w / 4) (h / 4)) × (length (now out) ≡ 81920) ⌝ }
+    requires { ⌜ (sidesOk w h ≡ true) × (limitOk limit ≡ true) × (binary (now digits) ≡ true) × (length (now digits) ≤ 4096) × (length (now map) ≡ 1024 * roots (w / 4) (h / 4)) × (length (now out) ≡ 81920) ⌝ }
     ensures { λ r. ⌜ Starts (printed (foundOf w h limit false (now (digits .entry)))) (now (out .entry)) (now (out .exit)) r ⌝ }
 {
     match take_picture(digits, w, h, map) {
@@ -119,7 +119,7 @@ fn print_tree(
 
 // The digits of a sheet, after its size, its limit and its age.
 fn print_digits(digits: &[u8], w: usize, h: usize, limit: usize, old: bool, out: &mut [u8]) -> usize
-    requires { ⌜ (binary (now digits) ≡ true) × (length (now out) ≡ 81920) ⌝ }
+    requires { ⌜ (binary (now digits) ≡ true) × (length (now digits) ≤ 4096) × (length (now out) ≡ 81920) ⌝ }
     ensures { λ r. ⌜ Starts (printed (foundOf w h limit old (now (digits .entry)))) (now (out .entry)) (now (out .exit)) r ⌝ }
 {
     if !sides_ok(w, h) {

@@ -95,14 +95,16 @@ pub record Whole (s : List ℕ) (w h limit : ℕ) (old : Bool) (from to : ℕ) :
   pub aged : old ≡ oldOf s
   pub ordered : from ≤ to
   pub inside : to ≤ length s
+  pub short : to ≤ 4096
   pub digits : take (to - from) (drop from s) ≡ digitsOf s
   pub two : binary (take (to - from) (drop from s)) ≡ true
 
-splits-at : (s : List ℕ) → lineOk Splits s (startOf s 4) ≡ true → (startOf s 4 + length (line s 4) < length s) × (length splitsKey ≤ length (line s 4)) × (binary (digitsOf s) ≡ true)
+splits-at : (s : List ℕ) → lineOk Splits s (startOf s 4) ≡ true → (startOf s 4 + length (line s 4) < length s) × (startOf s 4 + length (line s 4) < 4096) × (length splitsKey ≤ length (line s 4)) × (binary (digitsOf s) ≡ true)
 unfolding lineOk splitsLine
 splits-at s e =
     let f = all-at (lineTests Splits s (startOf s 4)) 2 e in (
       ltb-true _ _ (all-at (lineTests Splits s (startOf s 4)) 0 e),
+      ltb-true _ _ (all-at (lineTests Splits s (startOf s 4)) 1 e),
       key-fits splitsKey (line s 4) (both-left (startsWith splitsKey (line s 4)) (binary (digitsOf s)) f),
       both-right (startsWith splitsKey (line s 4)) (binary (digitsOf s)) f,
     )
@@ -118,7 +120,7 @@ whole-sheet s w h limit old from to e = go (eqb (firstBad s) 0) refl e where
       let t : startOf s 4 + length (line s 4) ≡ to = cc in
       let p = splits-at s (fifth s d) in
       let q : take (to - from) (drop from s) ≡ digitsOf s = rw (sym f, sym t) (digits-part s (startOf s 4) (length (line s 4)) (length splitsKey) refl) in
-      record { good = d; width = cc; height = cc; limited = cc; aged = cc; ordered = omega arith; inside = omega arith; digits = q; two = ap binary q ∙ p .2 }
+      record { good = d; width = cc; height = cc; limited = cc; aged = cc; ordered = omega arith; inside = omega arith; short = omega arith; digits = q; two = ap binary q ∙ p .3 }
   go false g z = absurd (let y : _≡_ {A = ℕ} 0 1 = cc in omega arith)
 
 -- and where one is not: n is its number

@@ -45,8 +45,9 @@ print-tree-requires c κs =
       sides (c .before .before .before .before .before .before),
       limited (c .before .before .before .before .before),
       p .0,
-      length-take-le _ _ (room (c .before .before)) ∙ ap (λ (n : ℕ). 1024 * n) (c .before .before .before .root-count .ensures .0),
       p .1,
+      length-take-le _ _ (room (c .before .before)) ∙ ap (λ (n : ℕ). 1024 * n) (c .before .before .before .root-count .ensures .0),
+      p .2,
     )
 
 returns-4 : tie.Need-returns-4

@@ -2,21 +2,20 @@
 use mathlib.Core.Path.{subst, _∙_}
 use Prim.Native.Nat.{_/_}
 use borrow.Author.Needs.{needs}
-use Rattle.split.specs.Picture.{roots}
-use Rattle.sheet.specs.Taken.{Pictured, RootsMet}
+use Rattle.sheet.specs.Taken.{Pictured, Met}
 use Rattle.sheet.proofs.Founds.{sided, walk-no, left-over, walked, all-listed}
 use Rattle.sheet.proofs.Puts.{starts-as}
 use Rattle.sheet.proofs.print_tree.Statement.{statement}
 use Rattle.sheet.proofs.print_tree.Tie as tie
 
 -- where the digits were taken: the map is walked as they say
-met : (c : tie.After-known-told2) → let a = c .before .before .before .before .before .before .before .before .before .before .args in RootsMet (a .w / 4) (a .h / 4) (a .digits .now) (c .before .before .before .before .before .take-picture .last .1 .1 .1 .0) (roots (a .w / 4) (a .h / 4)) (c .before .next .given .0 .0)
+met : (c : tie.After-known-told2) → let a = c .before .before .before .before .before .before .before .before .before .before .args in Met (a .w / 4) (a .h / 4) (a .digits .now) (c .before .before .before .before .before .take-picture .last .1 .1 .1 .0) (c .before .next .given .0 .0)
 met c =
     let a = c .before .before .before .before .before .before .before .before .before .before .args in
     subst (Pictured (a .w / 4) (a .h / 4) (a .digits .now) (c .before .before .before .before .before .take-picture .last .1 .1 .1 .0)) (c .before .next .given .1) (c .before .before .before .before .before .take-picture .ensures)
 
 take-picture-requires : tie.Need-take-picture-requires
-take-picture-requires c κs = let p = c .before .before .before .before .pre in (sided _ _ (p .0), p .2, p .3)
+take-picture-requires c κs = let p = c .before .before .before .before .pre in (sided _ _ (p .0), p .2, p .3, p .4)
 
 returns : tie.Need-returns
 returns c =
@@ -28,7 +27,7 @@ print-edges-requires : tie.Need-print-edges-requires
 print-edges-requires c κs =
     let k = c .before .before .before in
     let p = k .before .before .before .before .before .before .before .before .before .before .pre in
-    (record { sides = sided _ _ (p .0); limited = p .1; long = k .before .before .before .before .before .take-picture .kept .1 .1 .1 .0 ∙ p .3; accepted = walked _ _ _ _ (p .0) (p .1) _ _ (met k) }, p .4)
+    (record { sides = sided _ _ (p .0); limited = p .1; long = k .before .before .before .before .before .take-picture .kept .1 .1 .1 .0 ∙ p .4; accepted = walked _ _ _ _ (p .0) (p .1) _ _ (met k) }, p .5)
 
 returns-2 : tie.Need-returns-2
 returns-2 c =

@@ -1,97 +1,44 @@
--- `sheet::tree::take_picture` meets its contract: the roots so far have taken their digits. Assumes nothing.
-use mathlib.Core.Path.{_≡_, sym, ap, subst, _∙_}
-use mathlib.Core.Bool.{true}
-use Prim.Native.Nat.{ℕ, _+_, _-_, _*_, _/_, _≤_}
-use native.Mathlib.Nat.{le-antisymm}
-use native.Mathlib.Omega.{arith}
+-- `sheet::tree::take_picture` meets its contract: the digits are put as bits, and taken as a map's are. Assumes nothing.
+use mathlib.Core.List.{List}
+use mathlib.Core.Path.{_≡_, sym, ap, _∙_}
+use Prim.Native.Nat.{_-_}
 use borrow.Author.Needs.{needs}
-use borrow.Rule.Slice.PartMut.{same-len-mid}
 use lib.ListN.{length}
-use Rattle.sheet_lines.specs.Lines.{binary}
-use Rattle.sheet.specs.Taken.{RootsMet}
-use Rattle.sheet.proofs.Pictures.{Grid, grid, column-fits, row-fits, start-fits, end-fits, forth, end-in, next-fits, within, fewer, root-block, roots-none, own-length, root-more, root-stop}
+use Rattle.bits.specs.Bits.{bitsFrom}
+use Rattle.sheet.specs.Descent.{valuesOf}
+use Rattle.sheet.proofs.Pictures.{values-bits}
+use Rattle.sheet.proofs.Takes.{picture-met, picture-stopped}
 use Rattle.sheet.proofs.tree.take_picture.Statement.{statement}
 use Rattle.sheet.proofs.tree.take_picture.Tie as tie
 
-abbrev Inv-loop : tie.InvT-loop
-Inv-loop digits w h map₀ across count next₀ i₀ map next i =
-    (i ≤ count) × (length map ≡ 1024 * count) × (binary digits ≡ true) × Grid w h across count × RootsMet (w / 4) (h / 4) digits map i next
+-- the bits are the digits' values
+values : (c : tie.After-put-digits) → let d = c .before .before .before .before .args .digits .now in bitsFrom (c .put-digits .last .1 .0) 0 (length d - 0) ≡ valuesOf d
+values c =
+    let s = c .before .before .before .before in
+    ap (λ (b : List _). bitsFrom b 0 (length (s .args .digits .now) - 0)) (c .put-digits .ensures) ∙ values-bits (s .args .digits .now) (s .pre .1) _ (s .pre .2)
 
-abbrev μ-loop : tie.MeasureT-loop
-μ-loop digits w h map₀ across count next₀ i₀ map next i = count - i
-
-loop-holds : tie.Need-loop-holds Inv-loop μ-loop
-loop-holds c =
-    let p = c .before .before .before .pre in
-    let g = grid _ _ _ (p .0) (c .root-count .ensures .0) (c .root-count .ensures .1) in
-    (omega arith, p .2 ∙ ap (λ (n : ℕ). 1024 * n) (sym (g .all)), p .1, g, roots-none _ _ _ _)
-
-take-block-requires : tie.Need-take-block-requires Inv-loop μ-loop
-take-block-requires c κs =
-    let l = c .before .before .loop in
-    (root-block _ _ _ _ _ (l .inv .3) (c .before .loop-test .taken), l .inv .2, l .inv .4 .within, own-length _ (l .i) _ (c .before .loop-test .taken) (l .inv .1))
-
-same-length : tie.Need-same-length Inv-loop μ-loop
-same-length c =
-    let l = c .before .before .before .before .before .before .before .before .loop in
-    let p = c .before .before .before .before .before .before .before .before .before .before .before .before .pre in
-    let k = c .before .before .before .before .before .take-block in
-    same-len-mid (1024 * l .i) (1024 * l .i + 1024 - 1024 * l .i) (l .map) (k .last .1 .1 .1 .1 .1 .1 .1 .1 .0) (k .kept .1 .1 .1 .1 .1 .1 .1 .1 .0) ∙ l .inv .1 ∙ ap (λ (n : ℕ). 1024 * n) (l .inv .3 .all) ∙ sym (p .2)
-
-returns : tie.Need-returns Inv-loop μ-loop
+returns : tie.Need-returns
 returns c =
-    let l = c .before .before .before .before .before .before .before .before .loop in
-    root-stop (l .inv .3) _ _ _ _ _ (c .before .before .before .before .before .before .before .loop-test .taken) (l .inv .1) (l .inv .4) _ (c .before .before .before .before .before .take-block .ensures) _ (c .before .r .given .1)
+    let s = c .before .before .before .before .before .before .before .before .before .before .before .before .before .before in
+    picture-stopped (s .args .w) (s .args .h) (s .args .digits .now) _ (s .args .map .now) (s .pre .0) (s .pre .2) (s .pre .3) _ _ _ (c .before .before .before .before .before .before .take-map .ensures) (values (c .before .before .before .before .before .before .before .before .before .before)) _ _ (c .before .before .answer .given .1) (c .as-sheet .ensures)
 
-loop-again : tie.Need-loop-again Inv-loop μ-loop
-loop-again c =
-    let l = c .before .before .before .before .before .before .before .before .loop in
-    let b = c .before .before .before .before .before .take-block in
-    let k = b .kept .1 .1 .1 .1 .1 .1 .1 .1 .0 in (
-      within _ _ (c .before .before .before .before .before .before .before .loop-test .taken),
-      same-len-mid (1024 * l .i) (1024 * l .i + 1024 - 1024 * l .i) (l .map) (b .last .1 .1 .1 .1 .1 .1 .1 .1 .0) k ∙ l .inv .1,
-      l .inv .2,
-      l .inv .3,
-      root-more (l .inv .3) _ _ _ _ _ (c .before .before .before .before .before .before .before .loop-test .taken) (l .inv .1) (l .inv .4) _ (b .ensures) _ k (c .before .taken .given .1),
-    )
-
-same-length-2 : tie.Need-same-length-2 Inv-loop μ-loop
-same-length-2 c =
-    let l = c .before .loop in
-    l .inv .1 ∙ ap (λ (n : ℕ). 1024 * n) (l .inv .3 .all) ∙ sym (c .before .before .before .before .before .pre .2)
-
-returns-2 : tie.Need-returns-2 Inv-loop μ-loop
+returns-2 : tie.Need-returns-2
 returns-2 c =
-    let l = c .before .loop in
-    let e : l .i ≡ _ = le-antisymm (l .inv .0) (c .loop-test .left) in
-    let a = c .before .before .before .before .before .args in
-    subst (λ (n : ℕ). RootsMet (a .w / 4) (a .h / 4) (a .digits .now) (l .map) n (l .next)) (e ∙ l .inv .3 .all) (l .inv .4)
+    let s = c .before .before .before .before .before .before .before .before .before .before .before .before in
+    picture-met (s .args .w) (s .args .h) (s .args .digits .now) _ (s .args .map .now) (s .pre .0) (s .pre .2) (s .pre .3) _ _ _ (c .before .before .before .before .take-map .ensures) (values (c .before .before .before .before .before .before .before .before)) (c .enum-told .given .1)
 
 pub take-picture-spec : {M : Type 1} → statement M
 take-picture-spec =
     tie.close
     (tie.spec
-    Inv-loop
-    μ-loop
     (λ c. search needs)
-    (λ c κs. c .before .before .pre .0)
-    loop-holds
-    (λ c. c .before .loop .inv .3 .some)
-    (λ c. record { fits = column-fits (c .before .loop .inv .3) _ (c .loop-test .taken) })
-    (λ c. c .before .loop .inv .3 .some)
-    (λ c. record { fits = row-fits (c .before .loop .inv .3) _ (c .loop-test .taken) })
-    (λ c. record { fits = start-fits (c .before .loop .inv .3) _ (c .loop-test .taken) })
-    (λ c. record { fits = end-fits (c .before .loop .inv .3) _ (c .loop-test .taken) })
-    (λ c. forth _)
-    (λ c. forth _)
-    (λ c. end-in (c .before .loop .inv .3) _ (c .loop-test .taken) (c .before .loop .map) (c .before .loop .inv .1))
-    take-block-requires
-    (λ c. c .match .keys1)
-    (λ c. c .match .keys2)
-    same-length
+    (λ c κs. search needs)
+    (λ c. search needs)
+    (λ c κs. search needs)
+    (λ c. search needs)
+    (λ c κs. search needs)
+    (λ c. search needs)
+    (λ c. search needs)
     returns
-    (λ c. record { fits = next-fits (c .before .before .before .before .before .before .before .before .loop .inv .3) _ (c .before .before .before .before .before .before .before .loop-test .taken) })
-    (λ c. fewer _ _ (c .before .before .before .before .before .before .before .loop-test .taken))
-    loop-again
-    same-length-2
+    (λ c. search needs)
     returns-2)
