@@ -81,6 +81,7 @@ use Rattle.pack.specs.declared.Writer.{Writer}
 use Rattle.pack_rules.specs.Form as compact
 use Rattle.pack_rules.specs.GetCall as get-map
 use Rattle.pack_rules.specs.PutCall as put-map
+use Rattle.pack_rules.specs.TakeCall as take-map
 use Rattle.df_check.specs.Checks as checks
 use Rattle.df_check.specs.Rows.{bandRows}
 use Rattle.df.specs.Band as band
@@ -93,15 +94,14 @@ use Rattle.sheet_lines.specs.Lines.{startOf, lineOf, startsWith, isNumber, numb
 use Rattle.sheet_lines.specs.ReadCall as sheet
 use Rattle.sheet_lines.specs.Words.{widthKey, heightKey, limitKey, ownEdge, sourceEdge, splitsKey}
 use Rattle.sheet_lines.proofs.Answers.{reading-apart as sheet-apart}
-use Rattle.sheet.specs.Descent.{descents, descend}
 use Rattle.sheet.specs.Listing as listing
 use Rattle.sheet.specs.Text.{sidesOk, foundBy, foundOf, foundIn}
 use Rattle.sheet.specs.Words.{newline}
 use Rattle.sheet.proofs.Outcomes.{reading-apart as printed-apart}
 use Rattle.decoder.specs.Promise.{ended, Sole, Refuses, refusalIn}
 use Rattle.decoder.proofs.Settled.{told, settled}
-use Rattle.decoder.proofs.Refusing.{Stops, zeroth, longer, last, rung, again, walk-rung, by-checks, root-stops, picture-stops, line-said, sheet-rung, digits-said}
-use Rattle.decoder.proofs.Taking.{bits-rung, root-takes, picture-takes}
+use Rattle.decoder.proofs.Refusing.{Stops, zeroth, longer, last, rung, again, walk-rung, by-checks, root-stops, picture-stops, line-said, sheet-rung}
+use Rattle.decoder.proofs.Taking.{bits-rung, root-takes, picture-takes, digits-said}
 use Rattle.decoder.proofs.checked_points.Kinds as checked-points-kinds
 use Rattle.decoder.proofs.checked_points.Reads as checked-points-reads
 use Rattle.decoder.proofs.derived_chroma_qp_mapping_tables.Kinds as tables-kinds
@@ -146,6 +146,8 @@ use Rattle.decoder.proofs.put_map.Kinds as put-map-kinds
 use Rattle.decoder.proofs.put_map.Reads as put-map-reads
 use Rattle.decoder.proofs.get_map.Kinds as get-map-kinds
 use Rattle.decoder.proofs.get_map.Reads as get-map-reads
+use Rattle.decoder.proofs.take_map.Kinds as take-map-kinds
+use Rattle.decoder.proofs.take_map.Reads as take-map-reads
 use Rattle.decoder.proofs.mend.Kinds as mend-kinds
 use Rattle.decoder.proofs.mend.Reads as mend-reads
 use Rattle.decoder.proofs.deblock_by_rows.Kinds as by-rows-kinds
@@ -673,6 +675,25 @@ get-map-refusals =
       given = refl;
     }
 
+pub take-map-once : Sole 2 take-map-kinds.ps take-map-kinds.r take-map-reads.Post (λ κs r x. ended r (now (x .1 .1 .1 .1 .1 .0) ∷ []))
+take-map-once κs a r r′ x x′ p q = settled take-map.outcome (λ o. record { number = o .number; at = o .at }) (λ o. o .map ∷ []) p q (placed-apart r r′)
+
+abbrev digits-of : (w from to : ℕ) → List ℕ → take-map.Input
+digits-of w from to map = record { w = w; h = 4; src = 0 ∷ []; from = from; to = to; map = map }
+
+pub take-map-refusals : Refuses take-map.outcome (λ o. o .number) (Size ∷ Length ∷ Bits ∷ Bits ∷ Leaf ∷ [])
+unfolding take-map.outcome take-map.check take-map.placesOk sizeOk descendBy descentsBy descendOn byByte inTurn onward leafWalk bitAt fieldOf tabulateFrom
+take-map-refusals =
+    record {
+      only = λ i.
+          by-checks (λ o. o .number) (take-map.refused i) (take-map.done i) (Size ∷ Length ∷ Bits ∷ Bits ∷ Leaf ∷ []) (take-map.check i) (λ r. refl) refl
+          (rung (sizeOk (i .w) (i .h)) Size _
+          (rung (eqb (length (i .map)) (1024 * rootCount (i .w) (i .h))) Length _
+          (rung (take-map.placesOk (i .from) (i .to)) Bits _ (picture-takes (i .w / 4) (i .h / 4) (take-map.digits i)))));
+      shown = digits-of 0 0 0 [] ∷ digits-of 4 0 0 [] ∷ digits-of 4 1 0 (root 0) ∷ digits-of 4 0 0 (root 0) ∷ digits-of 4 0 8 (root 0) ∷ [];
+      given = refl;
+    }
+
 -- a writer and a reader come from no table of the checker: these are over the contract's own words
 pub write-map-once : (i : Writer) (w h : ℕ) (s : List ℕ) (r r′ : Answer) (x x′ : Writer) → Wrote i w h s r x → Wrote i w h s r′ x′ → (r ≡ r′) × (x ≡ x′)
 write-map-once = write-sole
@@ -948,7 +969,7 @@ sheet-of w limit edge splits =
 
 -- what is printed for a sheet that is refused: for a line; the sides; the limit; an old sheet; digits that ran out, a leaf, or digits left over
 pub sheet-refusals : Refuses foundIn refusalIn (Sheet ∷ Size ∷ Setting ∷ Old ∷ Sheet ∷ Leaf ∷ Sheet ∷ [])
-unfolding foundIn foundOf foundBy sidesOk list.limitOk firstBad lineOk startOf lineOf numberLine startsWith isNumber allBelow edgeLine oldEdge sameLine splitsLine numberAfter valueFrom descents descend byByte onward leafWalk
+unfolding foundIn foundOf foundBy sidesOk list.limitOk firstBad lineOk startOf lineOf numberLine startsWith isNumber allBelow edgeLine oldEdge sameLine splitsLine numberAfter valueFrom descendBy descentsBy descendOn byByte inTurn onward leafWalk
 sheet-refusals =
     record {
       only = λ s.

@@ -1,18 +1,17 @@
 -- Laws of the refusals that a call gives: by the rungs of its ladder, and by its walk.
 --     last, rung, again, by-checks
 --     root-stops, picture-stops    a walk is refused for a split byte or a leaf
---     sheet-stops    by the digits of a sheet, for the sheet or a leaf: 4 never comes from a sheet
 --     walk-rung    a walk among the rungs: its refusals, above those of what comes after it
 --     line-said    what is read from a sheet
---     sheet-rung, digits-said    what is found in a sheet
+--     sheet-rung    what is found in a sheet
 -- Assumes nothing.
-use Prim.Native.Nat.{ℕ, zero, suc, _+_, _-_, _^_}
+use Prim.Native.Nat.{ℕ, zero, suc, _+_, _^_}
 use mathlib.Core.Path.{_≡_, refl, sym, subst}
 use mathlib.Core.Bool.{Bool, true, false}
 use mathlib.Core.List.{List, [], _∷_, _++_}
 use mathlib.Core.Logic.{inl, inr}
-use lib.Dec.{ltb, leb, eqb}
-use lib.ListN.{length, getD}
+use lib.Dec.{ltb, leb}
+use lib.ListN.{getD}
 use Rattle.laws.specs.Call.{unless}
 use Rattle.laws.specs.Index.{pick}
 use Rattle.def.specs.Answers.{answerNumber, afterChecks}
@@ -26,8 +25,7 @@ use Rattle.split.specs.Walk.{Leaf, Walk, met, nothing, onward, inTurn, leafWalk
 use Rattle.sheet_lines.specs.ReadCall.{readingOf}
 use Rattle.sheet_lines.specs.declared.Sheet as lines
 use Rattle.sheet_lines.specs.declared.Sheet.the-variants.{Malformed}
-use Rattle.sheet.specs.Descent.{Descent, descents, runOut, byDigit, descend, rootDescent, pictureDescent}
-use Rattle.sheet.specs.Text.{Found, refused, listed, foundBy}
+use Rattle.sheet.specs.Text.{Found, refused}
 use Rattle.decoder.specs.Promise.{OneOf, refusalIn}
 
 -- an answer is done, or one of some refusals
@@ -113,44 +111,6 @@ module _ (rs : List Refusal) where
       fine)
       fine
 
-  -- ---- by the digits of a sheet
-
-  record Finishes (d : Descent) : Type 0 where
-    by : Ends (d .walk)
-
-  all-turns : (f : ℕ → List ℕ → Descent) → ((i : ℕ) (ds : List ℕ) → Finishes (f i ds)) → (n : ℕ) (ds : List ℕ) → Finishes (descents f n ds)
-  unfolding descents
-  all-turns f h zero ds = record { by = fine }
-  all-turns f h (suc n) ds =
-      let a = descents f n ds in
-      record { by = then (a .walk .answer) (a .walk .list) (f n (a .left) .walk) (all-turns f h n ds .by .by) (h n (a .left) .by) }
-
-  by-number : (n : ℕ) (a b c : Descent) → Finishes a → Finishes b → Finishes c → Finishes (byByte n a b c)
-  unfolding byByte
-  by-number zero a b c p q r = p
-  by-number (suc zero) a b c p q r = q
-  by-number (suc (suc n)) a b c p q r = r
-
-  by-digit : Finishes runOut → (ds : List ℕ) (whole cut : List ℕ → Descent) → ((l : List ℕ) → Finishes (whole l)) → ((l : List ℕ) → Finishes (cut l)) → Finishes (byDigit ds whole cut)
-  by-digit out [] whole cut p q = out
-  by-digit out (d ∷ ds) whole cut p q = by-number (d - 48) _ _ _ (p ds) (q ds) out
-
-  chosen : (t : Bool) (a b : Descent) → Finishes a → Finishes b → Finishes (pick t a b)
-  chosen true a b p q = p
-  chosen false a b p q = q
-
-  descent-ends : Finishes runOut → Ends (met [] (Refused PastPicture)) → (w h k x y : ℕ) (ds : List ℕ) → Finishes (descend w h k x y ds)
-  unfolding descend
-  descent-ends out past w h zero x y ds = record { by = picked (ltb x w) _ _ (picked (ltb y h) _ _ (leaf-ends past w h 1 x y) fine) fine }
-  descent-ends out past w h (suc k) x y ds =
-      chosen (ltb x w) _ _
-      (chosen (ltb y h) _ _
-      (by-digit out ds _ _
-      (λ l. record { by = leaf-ends past w h (2 ^ suc k) x y })
-      (λ l. all-turns _ (λ n m. descent-ends out past w h k _ _ m) 4 l))
-      (record { by = fine }))
-      (record { by = fine })
-
 abbrev byWalk : List Refusal
 byWalk = Split ∷ PastPicture ∷ []
 
@@ -171,16 +131,6 @@ pub walk-rung : (rs : List Refusal) (k a : Answer) → Stops byWalk a → Stops 
 walk-rung rs k Done p q = record { by = inr (inr (q .by)) }
 walk-rung rs k (Refused r) p q = record { by = longer byWalk rs (numberOf r) (p .by) }
 
--- digits that ran out, a leaf, digits that are left over
-abbrev bySheet : List Refusal
-bySheet = Sheet ∷ PastPicture ∷ Sheet ∷ []
-
-pub sheet-stops : (w h : ℕ) (ds : List ℕ) → Stops bySheet (pictureDescent w h ds .walk .answer)
-sheet-stops w h ds =
-    all-turns bySheet (rootDescent w h)
-    (λ i m. descent-ends bySheet (record { by = record { by = record { by = inl refl } } }) (record { by = record { by = inr (inl refl) } }) w h 4 _ _ m)
-    (roots w h) ds .by .by
-
 -- what is read from a sheet is 12, or its lines
 pub line-said : (t : Bool) (n : ℕ) (k : lines.Sheet) → readingOf k .number ≡ 0 → OneOf (Sheet ∷ []) (readingOf (unless t (Malformed n) k) .number)
 line-said true n k e = inr e
@@ -193,13 +143,3 @@ pub record Says (rs : List Refusal) (f : Found) : Type 0 where
 pub sheet-rung : {rs : List Refusal} (t : Bool) (r : Refusal) (n : ℕ) (k : Found) → Says rs k → Says (r ∷ rs) (unless t (refused r n) k)
 sheet-rung true r n k p = record { by = inr (p .by) }
 sheet-rung false r n k p = record { by = inl refl }
-
-pub digits-said : (short : Bool) (w h : ℕ) (ds : List ℕ) → Says bySheet (foundBy short (pictureDescent w h ds))
-unfolding foundBy
-digits-said short w h ds = go (d .walk .answer) (sheet-stops w h ds) (sheet-rung (eqb (length (d .left)) 0) Sheet 5 (listed _ _) (record { by = zeroth (PastPicture ∷ Sheet ∷ []) })) where
-  d : Descent
-  d = pictureDescent w h ds
-
-  go : (a : Answer) {k : Found} → Stops bySheet a → Says bySheet k → Says bySheet (afterChecks (λ (r : Refusal). refused r 5) k a)
-  go Done p q = q
-  go (Refused r) p q = record { by = p .by }

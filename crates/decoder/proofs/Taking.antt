@@ -1,20 +1,26 @@
--- What a map by its bits is refused for: bits that run out, or a leaf.
+-- What a map by its digits is refused for: digits that run out, or a leaf.
 --     root-takes, picture-takes    a root, and a picture
 --     bits-rung    a descent among the rungs: its refusals, above those of what comes after it
+--     digits-said    by the digits of a sheet, for the sheet or a leaf: 4 never comes from a sheet
 -- Assumes nothing.
 use Prim.Native.Nat.{ℕ, zero, suc, _+_, _^_, _<_}
-use mathlib.Core.Path.{_≡_, refl, sym, ap, subst}
+use mathlib.Core.Path.{_≡_, refl, sym, ap, _∙_, subst}
 use mathlib.Core.Bool.{Bool, true, false}
 use mathlib.Core.List.{List, [], _∷_, _++_}
 use mathlib.Core.Logic.{inl, inr}
-use lib.Dec.{leb}
+use native.Mathlib.Omega.{arith}
+use borrow.Author.Tests.{eq-eqb}
+use lib.Dec.{eqb, leb}
+use lib.ListN.{length}
 use Rattle.laws.specs.Call.{unless}
+use Rattle.laws.specs.Index.{pick}
 use Rattle.def.specs.Answers.{answerNumber, afterChecks}
 use Rattle.def.specs.Refusals.{numberOf}
 use Rattle.def.specs.declared.Refusal.{Refusal}
-use Rattle.def.specs.declared.Refusal.the-variants.{Leaf as PastPicture, Bits}
+use Rattle.def.specs.declared.Refusal.the-variants.{Leaf as PastPicture, Sheet, Bits}
 use Rattle.def.specs.declared.Answer.{Answer}
 use Rattle.def.specs.declared.Answer.the-variants.{Done, Refused}
+use Rattle.def.proofs.Answers.{number-some}
 use Rattle.split.specs.Picture.{roots, rootX, rootY}
 use Rattle.split.specs.Walk.{Walk, met, leaf, leafWalk}
 use Rattle.split.proofs.Walks.{onward-done}
@@ -22,8 +28,10 @@ use Rattle.marks_rules.specs.Descent.{Descent, descendOn, descendThen, descents
 use Rattle.marks_rules.specs.Pictures.{upto}
 use Rattle.marks_rules.proofs.Blocks.{partX, partY, by-start}
 use Rattle.marks_rules.proofs.Descents.{partOf, descend-x, descend-y, descend-none, descend-leaf, descend-cut, descend-bad, unit-quiet}
+use Rattle.sheet.specs.Descent.{pictureDescent, asSheet}
+use Rattle.sheet.specs.Text.{Found, refused, listed, foundBy}
 use Rattle.decoder.specs.Promise.{OneOf}
-use Rattle.decoder.proofs.Refusing.{Stops, zeroth, longer}
+use Rattle.decoder.proofs.Refusing.{Stops, zeroth, longer, Says, sheet-rung}
 
 abbrev pub byBits : List Refusal
 byBits = Bits ∷ PastPicture ∷ []
@@ -84,3 +92,24 @@ picture-takes w h ds = all-end (rootDescent w h) (λ i l. record { by = root-tak
 pub bits-rung : (rs : List Refusal) (k a : Answer) → Stops byBits a → Stops rs k → Stops (byBits ++ rs) (afterChecks Refused k a)
 bits-rung rs k Done p q = record { by = inr (inr (q .by)) }
 bits-rung rs k (Refused r) p q = record { by = longer byBits rs (numberOf r) (p .by) }
+
+-- ---- the digits of a sheet
+
+-- digits that ran out, a leaf, digits that are left over
+abbrev bySheet : List Refusal
+bySheet = Sheet ∷ PastPicture ∷ Sheet ∷ []
+
+said : (r : Refusal) → OneOf byBits (numberOf r) → OneOf bySheet (numberOf (asSheet r))
+said r (inl e) = inl (ap (λ (b : Bool). numberOf (pick b Sheet r)) (eq-eqb (numberOf r) 16 e))
+said r (inr (inl e)) = inr (inl (ap (λ (n : ℕ). numberOf (pick (eqb n 16) Sheet r)) e ∙ e))
+said r (inr (inr e)) = absurd (omega (arith, number-some r))
+
+pub digits-said : (short : Bool) (w h : ℕ) (ds : List ℕ) → Says bySheet (foundBy short (pictureDescent w h ds))
+unfolding foundBy
+digits-said short w h ds = go (d .walk .answer) (picture-takes w h _) (sheet-rung (eqb (length (d .left)) 0) Sheet 5 (listed _ _) (record { by = zeroth (PastPicture ∷ Sheet ∷ []) })) where
+  d : Descent
+  d = pictureDescent w h ds
+
+  go : (a : Answer) {k : Found} → Stops byBits a → Says bySheet k → Says bySheet (afterChecks (λ (r : Refusal). refused (asSheet r) 5) k a)
+  go Done p q = q
+  go (Refused r) p q = record { by = said r (p .by) }

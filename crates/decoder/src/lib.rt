@@ -12,7 +12,7 @@
 //       deblocking      deblock; Bands::first, deblock_band; checked, checked_band, band_rows, rows_above, entries, mask_of, line, lanes, motion_row
 //       edge rows       fill_rows, set_motion, set_flag, deblock_by_rows; row_at, rows_right
 //     the sheet         read, listing
-//     the compact map   put_map, get_map; write_to, write_map, read_from, read_map; get_bit, put_bit
+//     the compact map   put_map, get_map; take_map; write_to, write_map, read_from, read_map; get_bit, put_bit
 //     a torn map        mend
 //     streams           read_header, write_header, read_frame, write_frame, import_frame
 // Inside are those that a caller needs none of. They are public because another crate calls them, and total like the rest: checked_points, start_qp, delta_in,
@@ -97,6 +97,7 @@ pub use pack::get_map;
 pub use pack::put_map;
 pub use pack::read_from;
 pub use pack::read_map;
+pub use pack::take_map;
 pub use pack::write_map;
 pub use pack::write_to;
 pub use rank::Rank;
