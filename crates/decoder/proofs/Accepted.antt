@@ -52,7 +52,6 @@ use Rattle.pack_rules.specs.PutCall as put-map
 use Rattle.sheet_lines.specs.Lines.{startOf, lineOf, startsWith, isNumber, numberLine, edgeLine, oldEdge, sameLine, splitsLine, numberAfter, valueFrom, lineOk, firstBad}
 use Rattle.sheet_lines.specs.ReadCall as sheet
 use Rattle.sheet_lines.specs.Words.{widthKey, heightKey, limitKey, ownEdge, splitsKey}
-use Rattle.sheet.specs.Descent.{descents, descend}
 use Rattle.sheet.specs.Listing as listing
 use Rattle.sheet.specs.Text.{sidesOk, foundBy, foundOf, foundIn}
 use Rattle.sheet.specs.Words.{newline}
@@ -171,5 +170,5 @@ pub accepted-sheets :
     ∷ []
     ≡ replicate 3 0
 unfolding sheet.outcome sheet.readOf listing.outcome listing.check foundIn foundOf foundBy sidesOk list.limitOk firstBad lineOk startOf lineOf numberLine startsWith
-    isNumber allBelow edgeLine oldEdge sameLine splitsLine numberAfter valueFrom descents descend byByte onward leafWalk
+    isNumber allBelow edgeLine oldEdge sameLine splitsLine numberAfter valueFrom descendBy descentsBy descendOn byByte onward leafWalk
 accepted-sheets = refl
