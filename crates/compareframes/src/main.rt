@@ -46,16 +46,16 @@ fn wide(v: u16) -> usize {
 
 // A sample of both streams, in a plane of rows of w: `plane=Y x=12 y=7 a=512 b=514`.
 fn tell(frame: usize, name: &[u8], w: usize, at: usize, a: &[u16], b: &[u16]) {
-    y4m_file::field(b"frame=", frame);
+    say::field(b"frame=", frame);
     io::write_all(STDOUT_FILENO, b" plane=");
     io::write_all(STDOUT_FILENO, name);
     if 0 < w {
-        y4m_file::field(b" x=", at % w);
-        y4m_file::field(b" y=", at / w);
+        say::field(b" x=", at % w);
+        say::field(b" y=", at / w);
     }
-    y4m_file::field(b" a=", sample(a, at));
-    y4m_file::field(b" b=", sample(b, at));
-    y4m_file::end_line();
+    say::field(b" a=", sample(a, at));
+    say::field(b" b=", sample(b, at));
+    say::end_line();
 }
 
 // Whether a plane differs; it is told.
@@ -85,14 +85,14 @@ fn refused(name: &[u8], number: u8, place: usize) -> u8 {
 
 fn ended(name: &[u8], frames: usize) -> u8 {
     io::write_all(STDOUT_FILENO, name);
-    y4m_file::field(b" ends after frame ", frames);
-    y4m_file::end_line();
+    say::field(b" ends after frame ", frames);
+    say::end_line();
     1
 }
 
 fn equal(frames: usize) -> u8 {
-    y4m_file::field(b"equal frames=", frames);
-    y4m_file::end_line();
+    say::field(b"equal frames=", frames);
+    say::end_line();
     0
 }
 
@@ -274,11 +274,11 @@ fn head(name: &[u8], file: i32) -> Headed {
 }
 
 fn sizes_differ(a: Headed, b: Headed) -> u8 {
-    y4m_file::field(b"sizes differ: a ", a.w);
-    y4m_file::field(b"x", a.h);
-    y4m_file::field(b", b ", b.w);
-    y4m_file::field(b"x", b.h);
-    y4m_file::end_line();
+    say::field(b"sizes differ: a ", a.w);
+    say::field(b"x", a.h);
+    say::field(b", b ", b.w);
+    say::field(b"x", b.h);
+    say::end_line();
     1
 }
 
