@@ -12,8 +12,8 @@
  *
  * Bytes of stack that each call was measured to need, its arguments and its return address among them (tools/stack/run,
  * docs/SPEED.md): derived_chroma_qp_mapping_tables 272, get_avail_intra 72, get_avail_inter 80, get_mpm 56, get_nbr 624, ipred_b 144,
- * recon 24, recon_plane 241, check 2,400, leaves 2,456, visiting_rank 272, list_edges 4,328, reconstruct 13,232, deblock 6,656,
- * listing 53,568.
+ * recon 24, recon_plane 241, check 2,400, leaves 2,456, visiting_rank 272, list_edges 4,248, reconstruct 13,232, deblock 7,856,
+ * listing 53,472.
  *
  * Sizes, lengths and their order are in specs/ of the crate that each call names; w and h are the picture's sides in luma samples. */
 #ifndef LOMSAKEUN_DECODER_H
