@@ -329,3 +329,32 @@ module _ (j : band.Input) (fine : band.check j ≡ Done) (pos : 1 ≤ band.wide 
         all-u = colour-any f (4 * (skip * w)) _ _ (j .u) (t .long-u) (chroma-rows skip w) (t .u);
         all-v = colour-any f (4 * (skip * w)) _ _ (j .v) (t .long-v) (chroma-rows skip w) (t .v);
       }
+
+  -- ---- both, by the rows as the call has them: s of the rows above are not handed on, r are, and the band has o rows of samples
+
+  module _ {s r o : ℕ} (es : s ≡ skip) (er : r ≡ top) (eo : o ≡ 4 * n) where
+    pub asked : (l : List ℕ) → length l ≡ 624
+        → (Frame f w (r + o / 4) (drop (16 * (s * w)) (j .y)) (drop (inFormat f (4 * (s * w))) (j .u)) (drop (inFormat f (4 * (s * w))) (j .v)) (drop (s * w) (j .words))
+        (record { motion = drop (4 * (s * w)) (j .motion); refs = drop (2 * (s * w)) (j .refs); keep = drop (s * w) (j .keep) }) l
+        × Accepted (j .w) o (j .splits))
+        × ((16 * (s * w) ≤ length (j .y)) × (inFormat f (4 * (s * w)) ≤ length (j .u)) × (inFormat f (4 * (s * w)) ≤ length (j .v)) × (s * w ≤ length (j .words))
+        × (4 * (s * w) ≤ length (j .motion)) × (2 * (s * w) ≤ length (j .refs)) × (s * w ≤ length (j .keep)) × (s * w ≤ 16384))
+    asked l e =
+        let k = skipped in
+        rw (es, er, eo, walked-rows) ((framed l e, accepted), (within _ _ (k .y), within _ _ (k .u), within _ _ (k .v), within _ _ (k .words), within _ _ (k .motion), within _ _ (k .refs), within _ _ (k .keep), k .few))
+      where
+        within : (a b : ℕ) {c : ℕ} → a + b ≡ c → a ≤ c
+        within a b e = omega arith
+
+    pub done-by : {l : List ℕ} → l ≡ entriesIn → (y u v words : List ℕ) (ver hor : ℕ)
+        → (take (16 * (s * w)) y ≡ take (16 * (s * w)) (j .y)) × (take (inFormat f (4 * (s * w))) u ≡ take (inFormat f (4 * (s * w))) (j .u))
+        × (take (inFormat f (4 * (s * w))) v ≡ take (inFormat f (4 * (s * w))) (j .v)) × (take (s * w) words ≡ take (s * w) (j .words))
+        × Both
+        (record { words = drop (s * w) (j .words); over = record { motion = drop (4 * (s * w)) (j .motion); refs = drop (2 * (s * w)) (j .refs); keep = drop (s * w) (j .keep) } })
+        l w r (listFrom vertical short r (j .splits) w (o / 4)) (listFrom horizontal short r (j .splits) w (o / 4))
+        (record { y = drop (16 * (s * w)) (j .y); u = drop (inFormat f (4 * (s * w))) (j .u); v = drop (inFormat f (4 * (s * w))) (j .v) })
+        (record { y = drop (16 * (s * w)) y; u = drop (inFormat f (4 * (s * w))) u; v = drop (inFormat f (4 * (s * w))) v }) (drop (s * w) words) ver hor
+        → (record { reading = record { number = 0; vertical = ver; horizontal = hor; next = j .next + 1 }; y = y; u = u; v = v; words = words }) ≡ band.outcome j
+    done-by {l} el y u v words ver hor g =
+        let b = rw (es, er, eo, walked-rows, el) at g in
+        band-done (16 * (skip * w)) (inFormat f (4 * (skip * w))) (luma-rows skip w) (ap (inFormat f) (chroma-rows skip w)) y u v words ver hor (b .0) (b .1) (b .2) (b .3) (b .4)

@@ -1,6 +1,6 @@
 -- `df::both_passes` meets its contract: that of `passes_by`, with no byte of a map. Assumes nothing.
+use mathlib.Core.Path.{refl}
 use native.Mathlib.Omega.{arith}
-use borrow.Author.Needs.{needs}
 use Rattle.df.proofs.both_passes.Statement.{statement}
 use Rattle.df.proofs.both_passes.Tie as tie
 
@@ -14,10 +14,10 @@ pub both-passes-spec : {M : Type 1} → statement M
 both-passes-spec =
     tie.close
     (tie.spec
-    (λ c. search needs)
+    (λ c. refl)
     passes-by-requires
-    (λ c. search needs)
-    (λ c. search needs)
-    (λ c. search needs)
-    (λ c. search needs)
+    (λ c. c .before .before .before .before .before .before .before .before .passes-by .kept .1 .1 .1 .1 .1 .0)
+    (λ c. c .before .before .before .before .before .before .before .before .passes-by .kept .1 .1 .1 .1 .1 .1 .0)
+    (λ c. c .before .before .before .before .before .before .before .before .passes-by .kept .1 .1 .1 .1 .1 .1 .1 .0)
+    (λ c. c .before .before .before .before .before .before .before .before .passes-by .kept .1 .1 .1 .1 .1 .1 .1 .1 .0)
     returns)

@@ -1,9 +1,11 @@
 -- `df::passes_by` meets its contract: the vertical pass, then the horizontal over what it left; then every unit is done. Assumes nothing.
 use Prim.Native.Nat.{ℕ, _+_, _*_, _/_, _≤_}
-use native.Mathlib.Nat.{add-mul, mul-le-mul-right}
+use mathlib.Core.Path.{_∙_}
+use native.Mathlib.Nat.{add-mul, mul-le-mul-right, le-refl}
 use native.Mathlib.Omega.{arith}
+use mir.Syntax.{w64}
+use mir.Val.{Fits}
 use lib.ListN.{length}
-use borrow.Author.Needs.{needs}
 use Rattle.df_rules.specs.Visit.{allDone}
 use Rattle.df_check.proofs.Fronts.{end-put}
 use Rattle.df.proofs.Turns.{both-done, frame-done}
@@ -19,17 +21,11 @@ few s =
     let high : s .args .top ≤ 1024 = omega (arith, s .pre .0 .high) in
     omega (arith, mul-le-mul-right {m = s .args .top} {n = 1024} (s .args .w / 4) high, s .pre .0 .wide)
 
-mul-from : tie.Need-mul-from
-mul-from c = omega (arith, few (c .before .before .before .before .before .before .before .before .before .before .before .before .before .before .before .before .before .before .before .before .before .before .before .before .before .before .before .before .before .before))
+fits : {n : ℕ} → n ≤ 1048576 → Fits w64 n
+fits l = omega arith
 
-mul-all-done : tie.Need-mul-all-done
-mul-all-done c = omega (arith, few (c .before .before .before .before .before .before .before .before .before .before .before .before .before .before .before .before .before .before .before .before .before .before .before .before .before .before .before .before .before .before))
-
-sub-all-done : tie.Need-sub-all-done
-sub-all-done c = room (c .before .before .before .before .before .before .before .before .before .before .before .before .before .before .before .before .before .before .before .before .before .before .before .before .before .before .before .before .before .before)
-
-part-all-done-start : tie.Need-part-all-done-start
-part-all-done-start c = room (c .before .before .before .before .before .before .before .before .before .before .before .before .before .before .before .before .before .before .before .before .before .before .before .before .before .before .before .before .before .before)
+bytes : {n : ℕ} → n ≤ 1048576 → Fits w64 (n * 4)
+bytes l = omega arith
 
 deblock-pass-requires : tie.Need-deblock-pass-requires
 deblock-pass-requires c κs = let p = c .before .before .before .before .before .before .before .before .before .before .before .before .pre in (p .0, p .1, p .2)
@@ -45,4 +41,19 @@ returns c =
     both-done (c .before .before .before .before .before .before .before .before .before .before .before .before .before .before .before .before .before .before .before .before .before .deblock-pass .ensures) (c .before .before .before .before .before .before .before .before .before .before .deblock-pass2 .ensures) (end-put (s .args .top * (s .args .w / 4)) (s .args .words .now) allDone _ (c .before .before .all-done .ensures))
 
 pub passes-by-spec : {M : Type 1} → statement M
-passes-by-spec = tie.close (tie.spec deblock-pass-requires deblock-pass-requires-2 mul-from mul-all-done sub-all-done part-all-done-start (λ c. search needs) (λ c κs. search needs) (λ c. search needs) (λ c. search needs) (λ c. search needs) (λ c. search needs) returns)
+passes-by-spec =
+    tie.close
+    (tie.spec
+    deblock-pass-requires
+    deblock-pass-requires-2
+    (λ c. fits (few (c .before .before .before .before .before .before .before .before .before .before .before .before .before .before .before .before .before .before .before .before .before .before .before .before .before .before .before .before .before .before)))
+    (λ c. bytes (few (c .before .before .before .before .before .before .before .before .before .before .before .before .before .before .before .before .before .before .before .before .before .before .before .before .before .before .before .before .before .before)))
+    (λ c. room (c .before .before .before .before .before .before .before .before .before .before .before .before .before .before .before .before .before .before .before .before .before .before .before .before .before .before .before .before .before .before))
+    (λ c. room (c .before .before .before .before .before .before .before .before .before .before .before .before .before .before .before .before .before .before .before .before .before .before .before .before .before .before .before .before .before .before))
+    (λ c. le-refl _)
+    (λ c κs. tt)
+    (λ c. c .before .before .before .before .before .before .before .before .before .before .deblock-pass2 .kept .1 .1 .1 .1 .1 .1 .0 ∙ c .before .before .before .before .before .before .before .before .before .before .before .before .before .before .before .before .before .before .before .before .before .deblock-pass .kept .1 .1 .1 .1 .1 .1 .0)
+    (λ c. c .before .before .before .before .before .before .before .before .before .before .deblock-pass2 .kept .1 .1 .1 .1 .1 .1 .1 .0 ∙ c .before .before .before .before .before .before .before .before .before .before .before .before .before .before .before .before .before .before .before .before .before .deblock-pass .kept .1 .1 .1 .1 .1 .1 .1 .0)
+    (λ c. c .before .before .before .before .before .before .before .before .before .before .deblock-pass2 .kept .1 .1 .1 .1 .1 .1 .1 .1 .0 ∙ c .before .before .before .before .before .before .before .before .before .before .before .before .before .before .before .before .before .before .before .before .before .deblock-pass .kept .1 .1 .1 .1 .1 .1 .1 .1 .0)
+    (λ c. search)
+    returns)

@@ -3,10 +3,10 @@
 use Prim.Native.Nat.{ℕ, zero, suc, _+_, _-_, _*_, _/_, _≤_}
 use mathlib.Core.Path.{_≡_, refl, sym, ap, _∙_}
 use native.Mathlib.Omega.{arith}
-use borrow.Author.Needs.{needs}
+use mir.Syntax.{w64}
+use mir.Val.{Fits}
 use denote.Ref.{now}
 use lib.ListN.{length}
-use Rattle.def.specs.Formats.{inFormat}
 use Rattle.def.specs.declared.Answer.the-variants.{Done}
 use Rattle.def.proofs.Sizes.{sized}
 use Rattle.strength.proofs.Strengths.{entries-long}
@@ -14,7 +14,7 @@ use Rattle.df_check.specs.Rows.{bandRows, rowsAbove}
 use Rattle.df_check.proofs.Bands.{few-rows}
 use Rattle.split.proofs.Roots.{some-wide}
 use Rattle.df.specs.Band.{Input, check, wide}
-use Rattle.df.proofs.BandCalls.{near, near-skip, band-refused, accepted, framed, Skipped, skipped, band-done, luma-rows, chroma-rows}
+use Rattle.df.proofs.BandCalls.{near, band-refused, asked, done-by}
 use Rattle.df.proofs.Joined.{told, next-few}
 use Rattle.df.proofs.band.Bands.deblock_band.Statement.{statement}
 use Rattle.df.proofs.band.Bands.deblock_band.Tie as tie
@@ -72,61 +72,62 @@ skip-is c = ap (λ (n : ℕ). n - n / 16) (c .rows-above .ensures) ∙ rest-abov
 own-is : (c : tie.After-rows-above) → 4 * c .before .band-rows .result ≡ 4 * bandRows (c .before .before .before .before .before .before .before .before .before .before .before .before .before .before .before .before .before .args .h / 4) (c .before .before .before .before .before .before .before .before .before .before .before .before .before .before .before .before .before .args .band)
 own-is c = ap (λ (n : ℕ). 4 * n) (c .before .band-rows .ensures)
 
-own-units : (c : tie.After-rows-above) → 4 * c .before .band-rows .result / 4 ≡ bandRows (c .before .before .before .before .before .before .before .before .before .before .before .before .before .before .before .before .before .args .h / 4) (c .before .before .before .before .before .before .before .before .before .before .before .before .before .before .before .before .before .args .band)
-own-units c = omega (arith, c .before .band-rows .ensures)
+own-fits : (h k : ℕ) {r : ℕ} → r ≡ bandRows h k → Fits w64 (4 * r)
+own-fits h k e = omega (arith, few-rows h k)
 
-mul-own : tie.Need-mul-own
-mul-own c = let a = c .before .before .before .before .before .before .before .before .before .before .before .before .before .before .before .before .before .args in omega (arith, c .before .band-rows .ensures, few-rows (a .h / 4) (a .band))
+next-fits : {n : ℕ} → n ≤ 64 → Fits w64 (n + 1)
+next-fits l = omega arith
+
+sixteenth : (n : ℕ) → n / 16 ≤ n
+sixteenth n = omega arith
+
+-- the entries are as many as the passes ask for
+long : (c : tie.After-entries-by) → length (c .entries-by .result) ≡ 624
+long c = ap length (c .entries-by .ensures) ∙ entries-long _ _ _ _ _
 
 band-passes-requires : tie.Need-band-passes-requires
 unfolding inputOf
 band-passes-requires c κs =
     let d = c .before .before .before .before .before .before in
-    let e = fine (c .before .before .before .before .before .before .before .before .before) in
-    let p = some (c .before .before .before .before .before .before .before .before .before) in
-    let i = inputOf (c .before .before .before .before .before .before .before .before .before .before .before .before .before .before .before .before .before .before .before .before .before .before .before) in
-    let f = framed i e p _ (ap length (c .before .before .before .before .before .before .before .before .entries-by .ensures) ∙ entries-long _ _ _ _ _) in
-    let k = skipped i e p in
-    rw (skip-is d, top-is d, own-units d, own-is d)
-    ((f, accepted i e p), (omega (arith, k .y), omega (arith, k .u), omega (arith, k .v), omega (arith, k .words), omega (arith, k .motion), omega (arith, k .refs), omega (arith, k .keep), k .few))
+    let g = c .before .before .before .before .before .before .before .before .before in
+    let t = c .before .before .before .before .before .before .before .before in
+    asked (inputOf (c .before .before .before .before .before .before .before .before .before .before .before .before .before .before .before .before .before .before .before .before .before .before .before)) (fine g) (some g) (skip-is d) (top-is d) (own-is d) (t .entries-by .result) (long t)
 
 add-after : tie.Need-add-after
 unfolding inputOf
-add-after c = omega (arith, next-few (told (inputOf (c .before .before .before .before .before .before .before .before .before .before .before .before .before .before .before .before .before .before .before .before .before .before .before .before .before .before .before .before .before .before .before .before)) (fine (c .before .before .before .before .before .before .before .before .before .before .before .before .before .before .before .before .before .before))))
+add-after c = next-fits (next-few (told (inputOf (c .before .before .before .before .before .before .before .before .before .before .before .before .before .before .before .before .before .before .before .before .before .before .before .before .before .before .before .before .before .before .before .before)) (fine (c .before .before .before .before .before .before .before .before .before .before .before .before .before .before .before .before .before .before))))
 
 returns-2 : tie.Need-returns-2
 unfolding inputOf
 returns-2 c =
     let d = c .before .before .before .before .before .before .before .before .before .before .before .before .before .before .before in
-    let i = inputOf (c .before .before .before .before .before .before .before .before .before .before .before .before .before .before .before .before .before .before .before .before .before .before .before .before .before .before .before .before .before .before .before .before) in
-    let e = fine (c .before .before .before .before .before .before .before .before .before .before .before .before .before .before .before .before .before .before) in
-    let p = some (c .before .before .before .before .before .before .before .before .before .before .before .before .before .before .before .before .before .before) in
-    let s = rowsAbove (c .before .before .before .before .before .before .before .before .before .before .before .before .before .before .before .before .before .before .before .before .before .before .before .before .before .before .before .before .before .before .before .before .args .band) - 1 in
-    let b = rw (skip-is d, top-is d, own-units d, c .before .before .before .before .before .before .before .before .before .before .before .before .before .before .before .before .before .entries-by .ensures) at (c .before .before .before .before .before .before .before .before .band-passes .ensures) in
-    band-done i e p _ _ (luma-rows s (wide i)) (ap (inFormat (i .settings .format)) (chroma-rows s (wide i))) _ _ _ _ _ _ (b .0) (b .1) (b .2) (b .3) (b .4)
+    let g = c .before .before .before .before .before .before .before .before .before .before .before .before .before .before .before .before .before .before in
+    let b = c .before .before .before .before .before .before .before .before .band-passes in
+    done-by (inputOf (c .before .before .before .before .before .before .before .before .before .before .before .before .before .before .before .before .before .before .before .before .before .before .before .before .before .before .before .before .before .before .before .before)) (fine g) (some g) (skip-is d) (top-is d) (own-is d) (c .before .before .before .before .before .before .before .before .before .before .before .before .before .before .before .before .before .entries-by .ensures)
+    (b .last .1 .1 .1 .1 .1 .1 .0) (b .last .1 .1 .1 .1 .1 .1 .1 .0) (b .last .1 .1 .1 .1 .1 .1 .1 .1 .0) (b .last .1 .1 .1 .1 .1 .1 .1 .1 .1 .0) (b .result .vertical) (b .result .horizontal) (b .ensures)
 
 pub deblock-band-spec : {M : Type 1} → statement M
 deblock-band-spec =
     tie.close
     (tie.spec
-    (λ c κs. search needs)
-    (λ c. search needs)
-    (λ c. search needs)
-    (λ c. search needs)
-    (λ c. search needs)
-    (λ c. search needs)
+    (λ c κs. tt)
+    (λ c. search)
+    (λ c. refl)
+    (λ c. refl)
+    (λ c. refl)
+    (λ c. refl)
     returns
-    (λ c. search needs)
-    (λ c κs. search needs)
-    (λ c κs. search needs)
-    (λ c κs. search needs)
-    (λ c. search needs)
-    mul-own
-    (λ c. search needs)
+    (λ c. search)
+    (λ c κs. tt)
+    (λ c κs. tt)
+    (λ c κs. tt)
+    (λ c. sixteenth (c .rows-above .result))
+    (λ c. own-fits _ _ (c .before .band-rows .ensures))
+    (λ c. sym (long (c .before .before .before .before .before .before .before .before)))
     band-passes-requires
     add-after
-    (λ c. search needs)
-    (λ c. search needs)
-    (λ c. search needs)
-    (λ c. search needs)
+    (λ c. c .before .before .before .before .before .before .before .before .band-passes .kept .1 .1 .1 .1 .1 .1 .0)
+    (λ c. c .before .before .before .before .before .before .before .before .band-passes .kept .1 .1 .1 .1 .1 .1 .1 .0)
+    (λ c. c .before .before .before .before .before .before .before .before .band-passes .kept .1 .1 .1 .1 .1 .1 .1 .1 .0)
+    (λ c. c .before .before .before .before .before .before .before .before .band-passes .kept .1 .1 .1 .1 .1 .1 .1 .1 .1 .0)
     returns-2)
