@@ -33,7 +33,7 @@ use Rattle.df_check.specs.Checks as checks
 use Rattle.df_check.specs.Rows.{bandRows}
 use Rattle.df.specs.Band as band
 use Rattle.df.specs.Deblock as deblock
-use Rattle.df.specs.Luma.{withoutColour}
+use Rattle.df_laws.specs.Luma.{withoutColour}
 use Rattle.mend.specs.MendCall as mend
 use Rattle.split.specs.CheckCall as check
 use Rattle.split.specs.LeavesCall as leaves

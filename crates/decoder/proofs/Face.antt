@@ -5,4 +5,4 @@
 -- Assumes nothing.
 pub use Rattle.def.proofs.Answers.{number-apart, number-some}
 pub use Rattle.samples.proofs.Samples.{sample-any, samples-pass}
-pub use Rattle.df.proofs.Finished.{finished}
+pub use Rattle.df_laws.proofs.Finished.{finished}

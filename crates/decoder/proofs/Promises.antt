@@ -89,7 +89,7 @@ use Rattle.df.specs.ByRows as by-rows
 use Rattle.df.specs.Deblock as deblock
 use Rattle.rows.specs.Checks.{lengthsOk, checkMaps, rightOk}
 use Rattle.rows.specs.Rule.{edgeRow, ruleByte, rightBytes}
-use Rattle.df.proofs.Apart.{reading-apart as deblocked-apart, banded-apart}
+use Rattle.df_laws.proofs.Apart.{reading-apart as deblocked-apart, banded-apart}
 use Rattle.sheet_lines.specs.Lines.{startOf, lineOf, startsWith, isNumber, numberLine, edgeLine, oldEdge, sameLine, splitsLine, numberAfter, valueFrom, lineOk, firstBad, widthOf, heightOf, limitOf, oldOf, digitsOf}
 use Rattle.sheet_lines.specs.ReadCall as sheet
 use Rattle.sheet_lines.specs.Words.{widthKey, heightKey, limitKey, ownEdge, sourceEdge, splitsKey}

@@ -13,6 +13,6 @@ pub use Rattle.def.specs.declared.Refusal.{Refusal}
 pub use Rattle.def.specs.declared.Refusal.the-variants as refusals
 pub use Rattle.samples.specs.Samples.{sampleOk}
 unfoldable pub use Rattle.samples.specs.Samples.{samplesOk}
-pub use Rattle.df.specs.Bands as bands
+pub use Rattle.df_laws.specs.Bands as bands
 pub use Rattle.df.specs.Deblock as deblocking
-pub use Rattle.df.specs.Finished.{Finished}
+pub use Rattle.df_laws.specs.Finished.{Finished}

@@ -1,15 +1,13 @@
 -- The call of a band: from both passes over its part of what is lent to the outcome of the rule.
 -- Assumes nothing.
-use Prim.Native.Nat.{ℕ, zero, suc, _+_, _-_, _*_, _/_, _≤_, _<_}
+use Prim.Native.Nat.{ℕ, zero, suc, _+_, _-_, _*_, _/_, _≤_}
 use mathlib.Core.Path.{_≡_, refl, sym, ap, ap₂, _∙_, subst}
 use mathlib.Core.List.{List, [], _∷_, _++_, map, append-nil, append-assoc, List·Memᴰ}
 use mathlib.Core.Bool.{Bool, true}
 use mathlib.Core.Logic.{inl, inr}
 use native.Mathlib.Nat.{add-mul, mul-comm, mul-assoc, mul-le-mul}
 use native.Mathlib.Omega.{arith}
-use borrow.Author.Tests.{leb-true}
-use lib.Dec.{eqb, leb}
-use lib.IntN.{ℤ}
+use lib.Dec.{eqb}
 use lib.ListN.{length, getD, take, drop, length-drop, drop-of-length-le, take-append-drop}
 use lib.Seq.{take-all, take-add, drop-drop, take-nil, drop-nil}
 use Rattle.def.proofs.Sizes.{sized}
@@ -22,8 +20,6 @@ use Rattle.def.specs.declared.Format.{Format}
 use Rattle.def.specs.declared.Format.the-variants.{Grey, Colour}
 use Rattle.def.specs.declared.Component.{Component}
 use Rattle.def.specs.declared.Component.the-variants.{Luma, Chroma}
-use Rattle.laws.proofs.Flat.{flat-within}
-use Rattle.laws.proofs.Scans.{scan-at}
 use Rattle.samples.specs.Samples.{samplesOk}
 use Rattle.samples.proofs.Samples.{sample-any}
 use Rattle.split.specs.Edges.{Pass, vertical, horizontal, Edge}
@@ -32,7 +28,7 @@ use Rattle.strength.specs.Entries.{entriesOf}
 use Rattle.strength.proofs.Strengths.{luma-entry, u-entry, v-entry}
 use Rattle.df_check.proofs.Bands.{band-size, few-above, few-rows}
 use Rattle.df_check.proofs.Passed.{word-any, mark-any}
-use Rattle.df_rules.specs.Filter.{Planes, inY, inU, inV, filterAll, finished}
+use Rattle.df_rules.specs.Filter.{Planes, inY, inU, inV, finished}
 use Rattle.df_rules.specs.Frame.{Frame}
 use Rattle.df_rules.specs.Leaves.{Accepted}
 use Rattle.df_rules.specs.Places.{unitQ, unitP}
@@ -41,12 +37,13 @@ use Rattle.df_rules.specs.Visit.{allDone}
 use Rattle.df_rules.specs.Strength.{Maps, rowAt, qpAt, strengthOf, strength}
 use Rattle.df_rules.proofs.Planes.{planes-finished, no-samples, finished-none}
 use Rattle.df_rules.proofs.Strengths.{row-few}
-use Rattle.bands_rules.specs.Bands.{edgeDown, listFrom, mapPart, mapsPart, placesOf, inPart, doneFrom, Both}
+use Rattle.bands_rules.specs.Bands.{edgeDown, listFrom, mapPart, mapsPart, placesOf, doneFrom, Both}
 use Rattle.df_check.specs.Rows.{rowsAbove}
 use Rattle.bands_rules.proofs.Lists.{Lies, list-in}
 use Rattle.bands_rules.proofs.Parts.{Keeps, finished-part, list-down}
 use Rattle.df.specs.Band as band
-use Rattle.df.proofs.Joined.{Told, told, is-done, stepOf, places-step}
+use Rattle.df.proofs.Lengths.{stepOf, places-step}
+use Rattle.df.proofs.Told.{Told, told, is-done}
 
 -- of the rows above those that are handed to the passes, and those that are not
 abbrev pub near : ℕ → ℕ

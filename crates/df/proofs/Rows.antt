@@ -4,6 +4,7 @@
 --     rows-copied    so are four rows that are copied
 --     gathered    rows of a plane as lanes
 --     beside-luma, beside-chroma    in which pass a unit's lines lie side by side
+--     rows-within    where the four rows lie
 -- Assumes nothing.
 use Prim.Native.Nat.{ℕ, zero, suc, _+_, _*_, _≤_, _<_}
 use mathlib.Core.Path.{_≡_, refl, sym, ap, _∙_, subst}
@@ -23,7 +24,7 @@ use Rattle.df_rules.specs.Frame.{unitsAlong}
 use Rattle.df_rules.specs.Lanes.{samplesAt, putLine, putLines}
 use Rattle.df_rules.specs.Window.{putIf}
 use Rattle.df.specs.declared.window.Place.{Place}
-use Rattle.df.specs.Edges.{placeOf, Beside, Gathered}
+use Rattle.df.specs.Edges.{placeOf, Inside, Beside, Gathered}
 use Rattle.df.specs.Rows.{putRow, putRowIf}
 use Rattle.df.proofs.Lanes.{gather-none, gather-more}
 
@@ -162,3 +163,7 @@ beside-chroma vertical w h c a p l e n = absurd (odd (sym (ap (λ (q : Place). q
   odd : 2 * w ≡ 1 → ⊥
   odd e = omega arith
 beside-chroma horizontal w h c a p l e n = subst (λ (q : Place). Beside q 2) (sym e) (record { beside = refl; room = omega arith })
+
+-- lines that lie side by side in a plane: their four rows do
+pub rows-within : (p : Place) (k : ℕ) (xs : List ℕ) → p .next ≡ 1 → Inside p k xs → p .at + (k + 1) + 3 * p .step ≤ length xs
+rows-within p k xs e h = let m : k * p .next ≡ k = ap (λ (n : ℕ). k * n) e ∙ mul-one k in omega arith

@@ -1,12 +1,6 @@
 pub mod Band
-pub mod Bands
 pub mod ByRows
 pub mod Deblock
-pub mod Demand3
 pub mod Edges
-pub mod Finished
-pub mod Luma
-pub mod Moved
 pub mod Plan
 pub mod Rows
-pub mod Unmarked

@@ -1,6 +1,5 @@
 -- `df::deblock` meets its contract: that of `deblock_by_rows`, with no byte of a map. Assumes nothing.
-use mathlib.Core.Path.{_∙_}
-use borrow.Author.Needs.{needs}
+use mathlib.Core.Path.{refl, _∙_}
 use denote.Ref.{now}
 use Rattle.df.specs.Deblock.{Input}
 use Rattle.df.proofs.ByRows.{without}
@@ -36,10 +35,10 @@ pub deblock-spec : {M : Type 1} → statement M
 deblock-spec =
     tie.close
     (tie.spec
-    (λ c. search needs)
-    (λ c κs. search needs)
-    (λ c. search needs)
-    (λ c. search needs)
-    (λ c. search needs)
-    (λ c. search needs)
+    (λ c. refl)
+    (λ c κs. tt)
+    (λ c. c .before .before .before .before .before .before .before .before .deblock-by-rows .kept .1 .1 .0)
+    (λ c. c .before .before .before .before .before .before .before .before .deblock-by-rows .kept .1 .1 .1 .0)
+    (λ c. c .before .before .before .before .before .before .before .before .deblock-by-rows .kept .1 .1 .1 .1 .0)
+    (λ c. c .before .before .before .before .before .before .before .before .deblock-by-rows .kept .1 .1 .1 .1 .1 .0)
     returns)

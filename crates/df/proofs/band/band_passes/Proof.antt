@@ -78,8 +78,8 @@ module _ (f : Format) (w n k : ℕ) (e : k ≡ inFormat f (4 * n)) (y u v words 
   passed top ups levels y₁ u₁ v₁ words₁ ver hor ly lu lv lw b =
       record {
         planes = (λ i. record { y = end-drop (16 * n) y y₁ ly i; u = left-at e u u₁ lu i; v = left-at e v v₁ lv i })
-        ∙ b .planes
-        ∙ (λ i. filterAll (maps-left i) t horizontal w levels (filterAll (maps-left i) t vertical w ups (planes-left i)));
+            ∙ b .planes
+            ∙ (λ i. filterAll (maps-left i) t horizontal w levels (filterAll (maps-left i) t vertical w ups (planes-left i)));
         ups-counted = b .ups-counted;
         levels-counted = b .levels-counted;
         marks = end-drop n words words₁ lw ∙ b .marks ∙ ap (λ (m : Maps). doneFrom (top * w) (m .words)) maps-left;
@@ -107,9 +107,9 @@ returns c =
       front-at (k .ensures) (a .v .now) (b .last .1 .1 .1 .1 .1 .1 .1 .0) (r .2),
       take-put n (length (a .words .now) - n) (a .words .now) (b .last .1 .1 .1 .1 .1 .1 .1 .1 .0) (r .3),
       passed (a .format) (a .w / 4) n (k .result) (k .ensures) (a .y .now) (a .u .now) (a .v .now) (a .words .now) (a .motion .now) (a .refs .now) (a .keep .now) (a .entries .now) (a .top)
-      (listFrom vertical (a .short) (a .top) (a .splits .now) (a .w / 4) (a .h / 4)) (listFrom horizontal (a .short) (a .top) (a .splits .now) (a .w / 4) (a .h / 4))
-      (b .last .1 .1 .1 .1 .1 .0) (b .last .1 .1 .1 .1 .1 .1 .0) (b .last .1 .1 .1 .1 .1 .1 .1 .0) (b .last .1 .1 .1 .1 .1 .1 .1 .1 .0) (b .result .vertical) (b .result .horizontal)
-      (r .0) (r .1) (r .2) (r .3) (b .ensures),
+          (listFrom vertical (a .short) (a .top) (a .splits .now) (a .w / 4) (a .h / 4)) (listFrom horizontal (a .short) (a .top) (a .splits .now) (a .w / 4) (a .h / 4))
+          (b .last .1 .1 .1 .1 .1 .0) (b .last .1 .1 .1 .1 .1 .1 .0) (b .last .1 .1 .1 .1 .1 .1 .1 .0) (b .last .1 .1 .1 .1 .1 .1 .1 .1 .0) (b .result .vertical) (b .result .horizontal)
+          (r .0) (r .1) (r .2) (r .3) (b .ensures),
     )
 
 -- the units that are not looked at: few, so that what is counted of them fits a machine word

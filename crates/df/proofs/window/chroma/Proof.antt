@@ -1,13 +1,13 @@
 -- `df::window::chroma` meets its contract: by rows, or by lines, into lanes and back. Assumes nothing.
 use Prim.Native.Nat.{ℕ, _+_}
 use mathlib.Core.Path.{_≡_, refl, sym, ap, _∙_}
-use native.Mathlib.Omega.{arith}
 use borrow.Author.Needs.{needs}
+use lib.Dec.{lit≤}
 use lib.ListN.{length}
 use Rattle.lanes.specs.Lanes.{laneOf}
 use Rattle.df_rules.specs.Lanes.{putLines}
 use Rattle.df.proofs.Lanes.{chroma-done}
-use Rattle.df.proofs.Rows.{gathered, lines-long}
+use Rattle.df.proofs.Rows.{gathered, lines-long, rows-within}
 use Rattle.df.proofs.window.chroma.Statement.{statement}
 use Rattle.df.proofs.window.chroma.Tie as tie
 
@@ -15,25 +15,25 @@ copy-rows-requires : tie.Need-copy-rows-requires
 copy-rows-requires c κs =
     let s = c .before .before .before .before .before .before .before in
     let b = s .pre .0 (c .before .before .if1 .taken) in
-    (omega arith, search needs, omega (arith, b .beside, s .pre .1 .inside))
+    (lit≤ tt, search needs, rows-within (s .args .p) 1 (s .args .u .now) (b .beside) (s .pre .1 .inside))
 
 copy-rows-requires-2 : tie.Need-copy-rows-requires-2
 copy-rows-requires-2 c κs =
     let s = c .before .before .before .before .before .before .before .before .before .before .before in
     let b = s .pre .0 (c .before .before .before .before .before .before .if1 .taken) in
-    (omega arith, search needs, omega (arith, b .beside, s .pre .2 .inside))
+    (lit≤ tt, search needs, rows-within (s .args .p) 1 (s .args .v .now) (b .beside) (s .pre .2 .inside))
 
 copy-rows-requires-3 : tie.Need-copy-rows-requires-3
 copy-rows-requires-3 c κs =
     let s = c .before .before .before .before .before .before .before .before .before .before .before .before .before .before .before .before in
     let b = s .pre .0 (c .before .before .before .before .before .before .before .before .before .before .before .if1 .taken) in
-    (b .room, omega (arith, b .beside, s .pre .1 .inside), search needs)
+    (b .room, rows-within (s .args .p) 1 (s .args .u .now) (b .beside) (s .pre .1 .inside), search needs)
 
 copy-rows-requires-4 : tie.Need-copy-rows-requires-4
 copy-rows-requires-4 c κs =
     let s = c .before .before .before .before .before .before .before .before .before .before .before .before .before .before .before .before .before .before .before .before .before in
     let b = s .pre .0 (c .before .before .before .before .before .before .before .before .before .before .before .before .before .before .before .before .if1 .taken) in
-    (b .room, omega (arith, b .beside, s .pre .2 .inside), search needs)
+    (b .room, rows-within (s .args .p) 1 (s .args .v .now) (b .beside) (s .pre .2 .inside), search needs)
 
 returns : tie.Need-returns
 returns c =
@@ -44,8 +44,8 @@ returns c =
     let r = c .before .before .before .before .before .before .before .before .before .before .lanes in
     let tu = c .before .before .before .before .before .before .before .before .before .before .before .before .before .before .before .before .copy-rows .ensures in
     chroma-done (a .p) (a .su) (a .sv) _ _ _ (r .result) (a .u .now) (a .v .now) _ _ (c .before .before .before .before .before .before .before .before .before .before .before .before .before .before .before .before .before .before .before .before .before .before .before .before .pre .1) (c .before .before .before .before .before .before .before .before .before .before .before .before .before .before .before .before .before .before .before .before .before .before .before .before .pre .2)
-    (gathered _ (a .p) (a .u .now) _ _ 0 2 m (b .beside) (omega arith) refl tu)
-    (gathered _ (a .p) (a .v .now) _ _ 2 2 m (b .beside) (omega arith) (ap length tu ∙ lines-long _ _ 8 1 0 2 _) (c .before .before .before .before .before .before .before .before .before .before .before .before .copy-rows2 .ensures)) (r .ensures)
+    (gathered _ (a .p) (a .u .now) _ _ 0 2 m (b .beside) (lit≤ tt) refl tu)
+    (gathered _ (a .p) (a .v .now) _ _ 2 2 m (b .beside) (lit≤ tt) (ap length tu ∙ lines-long _ _ 8 1 0 2 _) (c .before .before .before .before .before .before .before .before .before .before .before .before .copy-rows2 .ensures)) (r .ensures)
     (c .before .before .before .before .before .before .before .copy-rows3 .ensures ∙ (λ i. putLines (k i) (λ (j : ℕ). laneOf (r .result) (0 + j)) (a .p .step) (sym (b .beside) i) (a .p .at) 2 (a .u .now)))
     (c .before .before .copy-rows4 .ensures ∙ (λ i. putLines (k i) (λ (j : ℕ). laneOf (r .result) (2 + j)) (a .p .step) (sym (b .beside) i) (a .p .at) 2 (a .v .now)))
 
@@ -59,19 +59,40 @@ returns-2 c =
     (c .before .before .scatter2 .ensures ∙ (λ i. putLines (k i) (λ (j : ℕ). laneOf (r .result) (2 + j)) (a .p .step) (a .p .next) (a .p .at) 2 (a .v .now)))
 
 gather-requires : tie.Need-gather-requires
-gather-requires c κs = (omega arith, c .before .before .before .before .before .before .pre .1 .inside)
+gather-requires c κs = (lit≤ tt, c .before .before .before .before .before .before .pre .1 .inside)
 
 gather-requires-2 : tie.Need-gather-requires-2
-gather-requires-2 c κs = (omega arith, c .before .before .before .before .before .before .before .before .pre .2 .inside)
+gather-requires-2 c κs = (lit≤ tt, c .before .before .before .before .before .before .before .before .pre .2 .inside)
 
 scatter-requires : tie.Need-scatter-requires
-scatter-requires c κs = (omega arith, c .before .before .before .before .before .before .before .before .before .before .before .before .pre .1 .inside)
+scatter-requires c κs = (lit≤ tt, c .before .before .before .before .before .before .before .before .before .before .before .before .pre .1 .inside)
 
 scatter-requires-2 : tie.Need-scatter-requires-2
-scatter-requires-2 c κs = (omega arith, c .before .before .before .before .before .before .before .before .before .before .before .before .before .before .before .before .before .pre .2 .inside)
+scatter-requires-2 c κs = (lit≤ tt, c .before .before .before .before .before .before .before .before .before .before .before .before .before .before .before .before .before .pre .2 .inside)
 
 pub chroma-spec : {M : Type 1} → statement M
 chroma-spec =
     tie.close
-    (tie.spec (λ c κs. search needs) (λ c κs. search needs) (λ c. search needs) copy-rows-requires (λ c. search needs) copy-rows-requires-2 (λ c κs. search needs) (λ c. search needs) copy-rows-requires-3 (λ c. search needs) copy-rows-requires-4
-    (λ c. search needs) (λ c. search needs) returns gather-requires gather-requires-2 (λ c κs. search needs) scatter-requires scatter-requires-2 (λ c. search needs) (λ c. search needs) returns-2)
+    (tie.spec
+    (λ c κs. tt)
+    (λ c κs. tt)
+    (λ c. refl)
+    copy-rows-requires
+    (λ c. search needs)
+    copy-rows-requires-2
+    (λ c κs. tt)
+    (λ c. search needs)
+    copy-rows-requires-3
+    (λ c. search needs)
+    copy-rows-requires-4
+    (λ c. c .before .before .before .before .before .before .before .copy-rows3 .kept .0)
+    (λ c. c .before .before .copy-rows4 .kept .0)
+    returns
+    gather-requires
+    gather-requires-2
+    (λ c κs. tt)
+    scatter-requires
+    scatter-requires-2
+    (λ c. c .before .before .before .before .before .before .before .scatter .kept .0)
+    (λ c. c .before .before .scatter2 .kept .0)
+    returns-2)

@@ -15,7 +15,7 @@ use Rattle.df_check.proofs.Bands.{few-rows}
 use Rattle.split.proofs.Roots.{some-wide}
 use Rattle.df.specs.Band.{Input, check, wide}
 use Rattle.df.proofs.BandCalls.{near, band-refused, asked, done-by}
-use Rattle.df.proofs.Joined.{told, next-few}
+use Rattle.df.proofs.Told.{told, next-few}
 use Rattle.df.proofs.band.Bands.deblock_band.Statement.{statement}
 use Rattle.df.proofs.band.Bands.deblock_band.Tie as tie
 

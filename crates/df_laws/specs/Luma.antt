@@ -8,8 +8,8 @@ use mathlib.Core.Path.{_≡_}
 use lib.IntN.{pos}
 use Rattle.def.specs.declared.Format.the-variants.{Grey}
 use Rattle.split.specs.Edges.{Pass}
-use Rattle.df.specs.Bands.{State, stateAfter, bands}
+use Rattle.df_laws.specs.Bands.{State, stateAfter, bands}
 use Rattle.df.specs.Deblock.{Input, Outcome, passEdges, outcome}
 
 -- all that is lent but U, V, their tables, their offsets and the format
 pub record SameLuma (i j : Input) : Type 0 where

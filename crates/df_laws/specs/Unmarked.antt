@@ -7,8 +7,8 @@ use mathlib.Core.Path.{_≡_}
 use lib.ListN.{getD}
 use Rattle.split.specs.Edges.{vertical, horizontal}
 use Rattle.df_rules.specs.Filter.{finishedUnmarked}
-use Rattle.df.specs.Bands.{stateAfter, bands, Accepted, Plane, componentOf, mappedAs, planeIn, planeOf, planeAfter}
+use Rattle.df_laws.specs.Bands.{stateAfter, bands, Accepted, Plane, componentOf, mappedAs, planeIn, planeOf, planeAfter}
 use Rattle.df.specs.Deblock.{Input, passEdges, mapsOf, outcome}
 
 abbrev pub Zeros : Input → Type 0
 Zeros i = (k : ℕ) → getD (i .keep) k 0 ≡ 0

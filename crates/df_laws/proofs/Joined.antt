@@ -1,23 +1,21 @@
 -- A picture done by bands: what the record `Joined` says, of every picture whose bands were all accepted.
 -- Assumes nothing.
-use Prim.Native.Nat.{ℕ, zero, suc, _+_, _-_, _*_, _/_, _%_, _≤_, _<_}
+use Prim.Native.Nat.{ℕ, zero, suc, _+_, _-_, _*_, _/_, _≤_, _<_}
 use mathlib.Core.Path.{_≡_, refl, sym, ap, ap₂, _∙_, subst}
-use mathlib.Core.Bool.{Bool, true, false, _&&_}
+use mathlib.Core.Bool.{Bool, true, false}
 use mathlib.Core.List.{List, [], _∷_, _++_, map}
-use native.Mathlib.Nat.{add-mul, mul-le-mul-right, mul-comm, mul-assoc, zero-mul, mul-zero, suc-mul, mod-lt, div-lt-iff-lt-mul, div-add-mod'}
+use native.Mathlib.Nat.{add-mul, mul-le-mul-right, mul-comm, zero-mul, mul-zero, suc-mul, mod-lt, div-lt-iff-lt-mul, div-add-mod'}
 use native.Mathlib.Omega.{arith}
-use borrow.Author.Tests.{eqb-true, ltb-true, ltb-false, lt-ltb, le-ltb}
+use borrow.Author.Tests.{ltb-true, ltb-false, lt-ltb, le-ltb}
 use lib.Dec.{eqb, ltb, leb}
 use lib.ListN.{length, getD, take, drop, length-drop, length-append, List·getD-append}
 use lib.Seq.{getD-take, getD-drop, getD-append-add, length-take-le}
 use Rattle.laws.specs.Index.{pick}
 use Rattle.def.specs.Word.{qpOf, withDone}
 use Rattle.def.proofs.Sizes.{Sized, sized}
-use Rattle.df_check.specs.BandCheck as band-check
-use Rattle.df_check.specs.BandCheck.{bandOk}
 use Rattle.df_check.specs.Checks as checks
 use Rattle.df_check.proofs.Formats.{none-before}
-use Rattle.df_check.proofs.Passed.{LengthsTold, lengths-told, rest-passed}
+use Rattle.df_check.proofs.Passed.{LengthsTold, lengths-told}
 use Rattle.def.proofs.Words.{Alike, set-alike}
 use Rattle.split.proofs.Induct.{test}
 use Rattle.split.proofs.Roots.{some-wide}
@@ -39,107 +37,19 @@ use Rattle.bands_rules.proofs.Down.{band}
 use Rattle.bands_rules.proofs.Lists.{BandDone, lists-joined, walks-joined}
 use Rattle.bands_rules.proofs.Words.{done-from-long, done-from-above, done-from-at}
 use Rattle.def.specs.Answers.{afterChecks}
-use Rattle.def.specs.Picture.{sizeOk, rootsAlong, rootCount, lumaLength, chromaLength}
-use Rattle.def.specs.Refusals.{numberOf}
-use Rattle.def.specs.declared.Answer.{Answer}
-use Rattle.def.specs.declared.Answer.the-variants.{Done, Refused}
-use Rattle.def.proofs.Answers.{number-some}
-use Rattle.def.proofs.Ladders.{passes}
-use Rattle.df_check.specs.Checks.{settingsOk, keepOk, qpsOk, planesOk}
+use Rattle.def.specs.Picture.{sizeOk, lumaLength, chromaLength}
+use Rattle.def.specs.declared.Answer.the-variants.{Done}
+use Rattle.df_check.specs.Checks.{keepOk, qpsOk, planesOk}
 use Rattle.samples.specs.Samples.{samplesOk}
 use Rattle.samples.proofs.Samples.{sample-at, samples-pass}
-use Rattle.laws.proofs.Calls.{all-at}
 use Rattle.laws.proofs.Scans.{scan-at}
 use Rattle.laws.proofs.ScanAll.{scan-pass}
-use Rattle.df_rules.specs.Places.{unitSide}
-use Rattle.split.specs.Picture.{across, pictureWalk}
-use Rattle.split.proofs.Sides.{and-true}
+use Rattle.split.specs.Picture.{across}
 use Rattle.df.specs.Band as band
-use Rattle.df.proofs.Lengths.{luma-places, chroma-places, unit-places}
-use Rattle.df.specs.Bands.{State, start, stateAfter, inputOf, after, lent, wordsBack, planePart, planeBack, bands, final, AcceptedTo, Accepted, Plane, luma-plane, u-plane, v-plane, componentOf, mappedAs, planeIn, planeOf, planeAfter, Joined}
+use Rattle.df.proofs.Lengths.{luma-places, chroma-places, stepOf, places-step}
+use Rattle.df.proofs.Told.{fine, is-done, Told, told, at-next}
+use Rattle.df_laws.specs.Bands.{State, start, stateAfter, inputOf, after, lent, wordsBack, planePart, planeBack, bands, AcceptedTo, Accepted, Plane, luma-plane, u-plane, v-plane, componentOf, mappedAs, planeIn, planeOf, planeAfter, Joined}
 use Rattle.df.specs.Deblock.{Input, Outcome, checked, check, passEdges, qpY, mapsOf, deblocked, refused, done, outcome}
-
--- ---- what an accepted band tells
-
-pub fine : (j : band.Input) → band.outcome j .reading .number ≡ 0 → band.check j ≡ Done
-unfolding band.outcome
-fine j e = go (band.check j) refl e where
-  go : (a : Answer) → band.check j ≡ a → afterChecks (band.refused j) (band.done j) a .reading .number ≡ 0 → band.check j ≡ Done
-  go Done q z = q
-  go (Refused r) q z = absurd (let n = number-some r in omega arith)
-
-pub is-done : (j : band.Input) → band.check j ≡ Done → band.outcome j ≡ band.done j
-unfolding band.outcome
-is-done j e = ap (afterChecks (band.refused j) (band.done j)) e
-
-pub record Told (j : band.Input) : Type 0 where
-  pub size : sizeOk (j .w) (j .h) ≡ true
-  pub position : bandOk (j .next) (j .band) (j .h) ≡ true
-  pub settings : settingsOk (j .settings) ≡ true
-  pub long-y : length (j .y) ≡ placesOf Luma (band.wide j) (band.top j + band.rows j)
-  pub long-u : length (j .u) ≡ inFormat (j .settings .format) (placesOf Chroma (band.wide j) (band.top j + band.rows j))
-  pub long-v : length (j .v) ≡ inFormat (j .settings .format) (placesOf Chroma (band.wide j) (band.top j + band.rows j))
-  pub long-words : length (j .words) ≡ (band.top j + band.rows j) * band.wide j
-  pub long-splits : length (j .splits) ≡ 1024 * rootCount (j .w) (4 * band.rows j)
-  pub long-motion : length (j .motion) ≡ 4 * ((band.top j + band.rows j) * band.wide j)
-  pub long-refs : length (j .refs) ≡ 2 * ((band.top j + band.rows j) * band.wide j)
-  pub long-keep : length (j .keep) ≡ (band.top j + band.rows j) * band.wide j
-  pub walk : pictureWalk (j .splits) (band.wide j) (band.rows j) .answer ≡ Done
-  pub marks : keepOk (band.checkedMarks j) ≡ true
-  pub qps : qpsOk (band.checkedWords j) ≡ true
-  pub y : samplesOk (band.checkedPlane j Luma (j .y)) ≡ true
-  pub u : samplesOk (band.checkedPlane j Chroma (j .u)) ≡ true
-  pub v : samplesOk (band.checkedPlane j Chroma (j .v)) ≡ true
-
--- the samples of colour that are judged, by the format
-colour-small : (f : Format) (n m l : ℕ) (p : List ℕ) → m ≡ n → length p ≡ inFormat f l → samplesOk (drop (inFormat f m) p) ≡ true → samplesOk (drop n p) ≡ true
-colour-small Grey n m l p q e g = samples-pass (drop n p) (λ k h. absurd (omega (arith, length-drop n p)))
-colour-small Colour n m l p q e g = ap (λ (k : ℕ). samplesOk (drop k p)) (sym q) ∙ g
-
-pub told : (j : band.Input) → band.check j ≡ Done → Told j
-unfolding band-check.checkOf
-told j e =
-    let size = passes _ _ _ e in
-    let next = passes _ _ _ (size .rest) in
-    let rest = rest-passed _ _ _ _ (next .rest) in
-    let whole = sized (j .w) (j .h) (size .holds) .by-four in
-    let r = band.top j + band.rows j in
-    let f = j .settings .format in
-    let n = rest .lengths in
-    let small : (c : Component) (p : List ℕ) (m : ℕ) → m ≡ placesOf c (band.wide j) (band.unchecked j) → samplesOk (drop m p) ≡ true → samplesOk (band.checkedPlane j c p) ≡ true =
-    λ c p m q g. ap (λ (k : ℕ). samplesOk (drop k p)) (sym q) ∙ g in
-    let units : 4 * band.rows j / 4 ≡ band.rows j = omega arith in
-    record {
-      size = size .holds;
-      position = next .holds;
-      settings = rest .settings;
-      long-y = n .y ∙ luma-places (j .w) r whole;
-      long-u = n .u ∙ ap (inFormat f) (chroma-places (j .w) r whole);
-      long-v = n .v ∙ ap (inFormat f) (chroma-places (j .w) r whole);
-      long-words = n .words ∙ unit-places (j .w) r whole;
-      long-splits = n .splits;
-      long-motion = n .motion ∙ ap (λ (k : ℕ). 4 * k) (unit-places (j .w) r whole);
-      long-refs = n .refs ∙ ap (λ (k : ℕ). 2 * k) (unit-places (j .w) r whole);
-      long-keep = n .keep ∙ unit-places (j .w) r whole;
-      walk = ap (λ (k : ℕ). pictureWalk (j .splits) (band.wide j) k .answer) (sym units) ∙ rest .walk;
-      marks = ap (λ (k : ℕ). keepOk (drop k (j .keep))) (sym (unit-places (j .w) (band.unchecked j) whole)) ∙ rest .marks;
-      qps = ap (λ (k : ℕ). qpsOk (drop k (j .words))) (sym (unit-places (j .w) (band.unchecked j) whole)) ∙ rest .qps;
-      y = small Luma (j .y) _ (luma-places (j .w) (band.unchecked j) whole) (rest .y);
-      u = colour-small f _ _ (chromaLength (j .w) (4 * r)) (j .u) (chroma-places (j .w) (band.unchecked j) whole) (n .u) (rest .u);
-      v = colour-small f _ _ (chromaLength (j .w) (4 * r)) (j .v) (chroma-places (j .w) (band.unchecked j) whole) (n .v) (rest .v);
-    }
-
--- the band is the position's next
-pub at-next : {j : band.Input} → Told j → j .band ≡ j .next
-unfolding bandOk
-at-next {j} t = eqb-true _ _ (and-true _ _ (t .position) .0)
-
-pub next-few : {j : band.Input} → Told j → j .next ≤ 64
-unfolding bandOk
-next-few {j} t =
-    let e = at-next t in
-    let l = ltb-true (j .band) (rootsAlong (j .h)) (and-true (eqb (j .band) (j .next)) _ (t .position) .1) in
-    omega (arith, sized (j .w) (j .h) (t .size) .high)
 
 -- ---- where a place of a picture lies: in one band, and in what the band's call checks. S: how many places a row of units has
 
@@ -198,13 +108,6 @@ in-checked S rowsAll l long j b n₀ n₁ n₂ e₀ e₁ e₂ =
       inside = omega arith;
       is = getD-drop n₂ (take n₁ (drop n₀ l)) q 0 ∙ getD-take n₁ (drop n₀ l) (n₂ + q) 0 (omega arith) ∙ getD-drop n₀ l (n₂ + q) 0 ∙ ap (λ (z : ℕ). getD l z 0) p;
     }
-
--- samples of a row of units
-abbrev pub stepOf : Component → ℕ → ℕ
-stepOf c w = unitSide c * (unitSide c * w)
-
-pub places-step : (c : Component) (w n : ℕ) → placesOf c w n ≡ n * stepOf c w
-places-step c w n = ap (λ (z : ℕ). z * (unitSide c * w)) (mul-comm (unitSide c) n) ∙ mul-assoc n (unitSide c) (unitSide c * w)
 
 step-some : (c : Component) (w : ℕ) → 1 ≤ w → 0 < stepOf c w
 step-some Luma w l = omega arith

@@ -12,11 +12,11 @@ use Rattle.samples.proofs.Samples.{samples-pass}
 use Rattle.df_check.proofs.Passed.{passed}
 use Rattle.df_rules.specs.Window.{Samples}
 use Rattle.df_rules.proofs.Planes.{finished-small}
-use Rattle.df.specs.Bands.{Plane, luma-plane, u-plane, v-plane, planeAfter}
+use Rattle.df_laws.specs.Bands.{Plane, luma-plane, u-plane, v-plane, planeAfter}
 use Rattle.df.specs.Deblock.{Input, Outcome, checked, passEdges, qpY, qpU, qpV, mapsOf, deblocked, done, outcome}
-use Rattle.df.specs.Finished.{Finished}
-use Rattle.df.proofs.Demand3.{is-done}
-use Rattle.df.proofs.Parted.{whole-fine}
+use Rattle.df_laws.specs.Finished.{Finished}
+use Rattle.df_laws.proofs.Demand3.{is-done}
+use Rattle.df_laws.proofs.Parted.{whole-fine}
 
 module _ (i : Input) where
   plane-small : (c : Component) (at : ℕ → ℕ) (p : List ℕ) → Samples p → samplesOk (deblocked i c at p) ≡ true

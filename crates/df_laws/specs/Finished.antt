@@ -4,8 +4,8 @@
 use mathlib.Core.Bool.{true}
 use mathlib.Core.Path.{_≡_}
 use Rattle.samples.specs.Samples.{samplesOk}
-use Rattle.df.specs.Bands.{Plane, planeAfter, planeOf, stateAfter, bands, Joined}
+use Rattle.df_laws.specs.Bands.{Plane, planeAfter, planeOf, stateAfter, bands, Joined}
 use Rattle.df.specs.Deblock.{Input, outcome}
 
 pub record Finished (i : Input) : Type 0 where
   pub small : outcome i .reading .number ≡ 0 → (x : Plane) → samplesOk (planeAfter x (outcome i)) ≡ true

@@ -8,12 +8,12 @@ use native.Mathlib.Nat.{add-mul, suc-mul, mul-le-mul-right, mul-comm, mul-assoc,
 use native.Mathlib.Decide.{decLt}
 use native.Mathlib.Omega.{arith}
 use borrow.Author.Tests.{eq-eqb, lt-ltb, le-leb}
-use lib.Dec.{eqb, ltb, leb}
+use lib.Dec.{eqb}
 use lib.ListN.{length, getD, take, drop, length-take, length-drop}
 use lib.Seq.{getD-take, getD-drop, length-take-le}
 use Rattle.laws.proofs.ScanAll.{scan-pass}
 use Rattle.def.specs.Answers.{afterChecks}
-use Rattle.def.specs.Picture.{sizeOk, rootsAlong, rootCount, lumaLength, chromaLength, unitCount}
+use Rattle.def.specs.Picture.{sizeOk, rootsAlong, rootCount, lumaLength, unitCount}
 use Rattle.def.specs.Word.{qpOf}
 use Rattle.def.specs.declared.Answer.{Answer}
 use Rattle.def.specs.declared.Answer.the-variants.{Done, Refused}
@@ -21,31 +21,30 @@ use Rattle.def.specs.declared.Refusal.the-variants.{Size, Length}
 use Rattle.def.specs.Formats.{inFormat}
 use Rattle.def.specs.declared.Format.{Format}
 use Rattle.def.specs.declared.Format.the-variants.{Grey, Colour}
-use Rattle.def.specs.declared.Component.{Component}
-use Rattle.def.specs.declared.Component.the-variants.{Luma, Chroma}
 use Rattle.def.proofs.Answers.{number-some}
 use Rattle.def.proofs.Ladders.{passes}
-use Rattle.def.proofs.Sizes.{Sized, sized}
+use Rattle.def.proofs.Sizes.{sized}
 use Rattle.samples.specs.Samples.{samplesOk}
 use Rattle.samples.proofs.Samples.{sample-any, samples-pass}
 use Rattle.split.specs.Picture.{across, pictureWalk}
 use Rattle.df_check.specs.BandCheck as band-check
 use Rattle.df_check.specs.BandCheck.{bandOk}
 use Rattle.df_check.specs.Checks as checks
-use Rattle.df_check.specs.Checks.{colourLength, lengthsOk, settingsOk, keepOk, qpsOk, planesOk}
+use Rattle.df_check.specs.Checks.{colourLength, lengthsOk, keepOk, qpsOk, planesOk}
 use Rattle.df_check.specs.Rows.{bandRows, rowsAbove, rowsBefore}
 use Rattle.df_check.proofs.Formats.{none-before}
-use Rattle.df_check.proofs.Passed.{LengthsTold, lengths-told, Rest, rest-passed, word-any, mark-any}
+use Rattle.df_check.proofs.Passed.{lengths-told, Rest, rest-passed, word-any, mark-any}
 use Rattle.df_rules.specs.Window.{Samples}
-use Rattle.bands_rules.specs.Bands.{mapPart, bandBytes, placesOf, calledAll}
+use Rattle.bands_rules.specs.Bands.{mapPart, bandBytes, placesOf}
 use Rattle.bands_rules.proofs.Called.{above-before, calls-long, calls-small}
-use Rattle.bands_rules.proofs.Down.{Band, band}
+use Rattle.bands_rules.proofs.Down.{band}
 use Rattle.bands_rules.proofs.Lists.{BandDone, walks-apart}
 use Rattle.df.specs.Band as call
-use Rattle.df.specs.Bands.{stateAfter, inputOf, lent, planePart, bands, AcceptedTo, Accepted, Parted, Plane, luma-plane, u-plane, v-plane, componentOf, mappedAs, planeIn, planeOf}
+use Rattle.df_laws.specs.Bands.{stateAfter, inputOf, lent, planePart, bands, AcceptedTo, Parted, Plane, luma-plane, u-plane, v-plane, componentOf, mappedAs, planeIn, planeOf}
 use Rattle.df.specs.Deblock.{Input, checked, check, mapsOf, refused, done, outcome}
-use Rattle.df.proofs.Joined.{is-done, Marked, marked-alikes, pos, position, words-marked, after-plane, inPlane, long-plane, held-plane, long-words, stepOf, places-step}
-use Rattle.df.proofs.Lengths.{luma-places, chroma-places, unit-places}
+use Rattle.df_laws.proofs.Joined.{Marked, marked-alikes, pos, position, words-marked, after-plane, inPlane, long-plane, held-plane, long-words}
+use Rattle.df.proofs.Lengths.{luma-places, chroma-places, unit-places, stepOf, places-step}
+use Rattle.df.proofs.Told.{is-done}
 
 -- ---- parts of a list
 

@@ -21,13 +21,13 @@ use Rattle.df_rules.proofs.Moves.{both-move, listed-once}
 use Rattle.bands_rules.specs.Bands.{bandList, joined}
 use Rattle.bands_rules.proofs.Called.{calls-joined}
 use Rattle.bands_rules.proofs.Lists.{lists-joined, first-once}
-use Rattle.df.specs.Bands.{stateAfter, bands, Accepted, Plane, luma-plane, u-plane, v-plane, componentOf, mappedAs, planeIn, planeOf, planeAfter}
+use Rattle.df_laws.specs.Bands.{stateAfter, bands, Accepted, Plane, luma-plane, u-plane, v-plane, componentOf, mappedAs, planeIn, planeOf, planeAfter}
 use Rattle.df.specs.Deblock.{Input, checked, check, passEdges, mapsOf, deblocked, done, outcome}
-use Rattle.df.specs.Moved.{MovesIn, Moved, firstEdges, MovedBands}
+use Rattle.df_laws.specs.Moved.{MovesIn, Moved, firstEdges, MovedBands}
 use Rattle.df.proofs.Calls.{accepted}
-use Rattle.df.proofs.Demand3.{is-done}
-use Rattle.df.proofs.Joined.{pos, after-plane, held-plane, long-words}
-use Rattle.df.proofs.Parted.{lengths, walked}
+use Rattle.df_laws.proofs.Demand3.{is-done}
+use Rattle.df_laws.proofs.Joined.{pos, after-plane, held-plane, long-words}
+use Rattle.df_laws.proofs.Parted.{lengths, walked}
 
 plane-done : (i : Input) (x : Plane) → planeAfter x (done i) ≡ deblocked i (componentOf x) (mappedAs x i) (planeIn x i)
 plane-done i luma-plane = refl

@@ -5,9 +5,9 @@ use lib.Dec.{eqb}
 use Rattle.def.specs.declared.Answer.the-variants.{Done}
 use Rattle.def.specs.declared.Component.the-variants.{Luma, Chroma}
 use Rattle.df_rules.proofs.Finished.{accepted-demand-3}
 use Rattle.df.specs.Deblock.{Input, Outcome, qpY, qpU, qpV, mapsOf, check, done, outcome}
-use Rattle.df.specs.Demand3.{Kept}
+use Rattle.df_laws.specs.Demand3.{Kept}
 use Rattle.df.proofs.Calls.{accepted}
 
 pub is-done : (i : Input) → check i ≡ Done → outcome i ≡ done i
 unfolding outcome

@@ -12,8 +12,8 @@ use Rattle.split.specs.Edges.{Pass, vertical, horizontal, Edge}
 use Rattle.df_rules.specs.Moves.{largest, Writes, unitOf, Moves}
 use Rattle.df_rules.specs.Strength.{keptAt}
 use Rattle.bands_rules.specs.Bands.{bandList, joined}
-use Rattle.df.specs.Bands.{State, stateAfter, bands, Plane, componentOf, mappedAs, planeIn, planeOf, planeAfter}
+use Rattle.df_laws.specs.Bands.{State, stateAfter, bands, Plane, componentOf, mappedAs, planeIn, planeOf, planeAfter}
 use Rattle.df.specs.Deblock.{Input, passEdges, mapsOf, outcome}
 
 -- no edge of a list writes place k of a plane
 abbrev pub Untouched : Input → Plane → Pass → List Edge → ℕ → Type 0

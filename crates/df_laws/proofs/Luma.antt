@@ -1,30 +1,27 @@
 -- Two calls that are lent the same luma data agree in luma; and a picture without its colour is accepted. What a call does in luma asks nothing of colour:
 -- it is what it does for the picture without it, and that picture is the same for both.
 -- Assumes nothing.
-use Prim.Native.Nat.{ℕ, zero, suc, _*_, _/_, _≤_, _<_}
+use Prim.Native.Nat.{ℕ, zero, suc, _<_}
 use mathlib.Core.Path.{_≡_, refl, sym, ap, _∙_}
 use mathlib.Core.Bool.{true}
-use mathlib.Core.List.{List, []}
+use mathlib.Core.List.{[]}
 use native.Mathlib.Omega.{arith}
 use borrow.Author.Tests.{eq-eqb}
 use lib.IntN.{pos}
-use lib.ListN.{length}
-use Rattle.laws.proofs.Calls.{all-at}
 use Rattle.def.specs.declared.Answer.the-variants.{Done}
 use Rattle.def.specs.declared.Format.the-variants.{Grey}
 use Rattle.samples.specs.Samples.{samplesOk}
 use Rattle.samples.proofs.Samples.{samples-pass}
-use Rattle.split.specs.Edges.{Pass}
 use Rattle.df_check.specs.Checks as checks
 use Rattle.df_check.specs.Checks.{lengthsOk, settingsOk, offsetOk, planesOk}
 use Rattle.df_check.proofs.Passed.{Passed, passed, Rest, rest-passed}
 use Rattle.df.specs.Band as band
-use Rattle.df.specs.Bands.{State, start, stateAfter, inputOf, after, AcceptedTo}
-use Rattle.df.specs.Deblock.{Input, Outcome, passEdges, checked, check, done, outcome}
-use Rattle.df.specs.Luma.{SameLuma, LumaAgrees, BandsAgree, withoutColour}
-use Rattle.df.proofs.Demand3.{is-done}
-use Rattle.df.proofs.Joined.{fine, is-done as band-done}
-use Rattle.df.proofs.Parted.{size, onward}
+use Rattle.df_laws.specs.Bands.{State, start, stateAfter, inputOf, after, AcceptedTo}
+use Rattle.df.specs.Deblock.{Input, Outcome, passEdges, checked, check, done}
+use Rattle.df_laws.specs.Luma.{SameLuma, LumaAgrees, BandsAgree, withoutColour}
+use Rattle.df_laws.proofs.Demand3.{is-done}
+use Rattle.df.proofs.Told.{fine, is-done as band-done}
+use Rattle.df_laws.proofs.Parted.{size, onward}
 
 -- what a state has of luma
 abbrev lumaOf : State → State

@@ -8,12 +8,12 @@ use Rattle.def.specs.declared.Answer.the-variants.{Done}
 use Rattle.split.specs.Edges.{vertical, horizontal}
 use Rattle.df_check.proofs.Passed.{passed}
 use Rattle.df_rules.proofs.Planes.{finished-unmarked, zeros-unkept}
-use Rattle.df.specs.Bands.{Plane, componentOf, mappedAs, planeIn, planeAfter}
+use Rattle.df_laws.specs.Bands.{Plane, componentOf, mappedAs, planeIn, planeAfter}
 use Rattle.df.specs.Deblock.{Input, checked, check, passEdges, mapsOf, outcome}
-use Rattle.df.specs.Unmarked.{Zeros, plain, Unmarked}
-use Rattle.df.proofs.Joined.{joined}
-use Rattle.df.proofs.Moved.{after}
-use Rattle.df.proofs.Parted.{lengths}
+use Rattle.df_laws.specs.Unmarked.{Zeros, plain, Unmarked}
+use Rattle.df_laws.proofs.Joined.{joined}
+use Rattle.df_laws.proofs.Moved.{after}
+use Rattle.df_laws.proofs.Parted.{lengths}
 
 pub unmarked : (i : Input) → check i ≡ Done → Zeros i → Unmarked i
 unmarked i fine zeros = record { whole = whole; by-bands = λ acc x. joined i (passed (checked i) fine .size) (lengths i fine) acc .planes x ∙ whole x } where
