@@ -338,7 +338,8 @@ module _ (j : band.Input) (fine : band.check j ≡ Done) (pos : 1 ≤ band.wide 
         × (4 * (s * w) ≤ length (j .motion)) × (2 * (s * w) ≤ length (j .refs)) × (s * w ≤ length (j .keep)) × (s * w ≤ 16384))
     asked l e =
         let k = skipped in
-        rw (es, er, eo, walked-rows) ((framed l e, accepted), (within _ _ (k .y), within _ _ (k .u), within _ _ (k .v), within _ _ (k .words), within _ _ (k .motion), within _ _ (k .refs), within _ _ (k .keep), k .few))
+        rw (es, er, eo, walked-rows)
+        ((framed l e, accepted), (within _ _ (k .y), within _ _ (k .u), within _ _ (k .v), within _ _ (k .words), within _ _ (k .motion), within _ _ (k .refs), within _ _ (k .keep), k .few))
       where
         within : (a b : ℕ) {c : ℕ} → a + b ≡ c → a ≤ c
         within a b e = omega arith

@@ -21,6 +21,12 @@ few s =
     let high : s .args .top ≤ 1024 = omega (arith, s .pre .0 .high) in
     omega (arith, mul-le-mul-right {m = s .args .top} {n = 1024} (s .args .w / 4) high, s .pre .0 .wide)
 
+-- the start, from where both passes were made
+abbrev begun : tie.After-slice-known10 → tie.Start
+begun c =
+    let d = c .before .before .before .before .before .before .before .before .before .before .before .before .before .before .before in
+    d .before .before .before .before .before .before .before .before .before .before .before .before .before .before .before
+
 fits : {n : ℕ} → n ≤ 1048576 → Fits w64 n
 fits l = omega arith
 
@@ -32,13 +38,16 @@ deblock-pass-requires c κs = let p = c .before .before .before .before .before 
 
 deblock-pass-requires-2 : tie.Need-deblock-pass-requires-2
 deblock-pass-requires-2 c κs =
-    let s = c .before .before .before .before .before .before .before .before .before .before .before .before .before .before .before .before .before .before .before .before .before .before .before in
-    (frame-done (c .before .before .before .before .before .before .before .before .before .before .deblock-pass .ensures) (s .pre .0), s .pre .1, s .pre .2)
+    let d = c .before .before .before .before .before .before .before .before .before .before in
+    let s = d .before .before .before .before .before .before .before .before .before .before .before .before .before in
+    (frame-done (d .deblock-pass .ensures) (s .pre .0), s .pre .1, s .pre .2)
 
 returns : tie.Need-returns
 returns c =
-    let s = c .before .before .before .before .before .before .before .before .before .before .before .before .before .before .before .before .before .before .before .before .before .before .before .before .before .before .before .before .before .before .before .before .before .before in
-    both-done (c .before .before .before .before .before .before .before .before .before .before .before .before .before .before .before .before .before .before .before .before .before .deblock-pass .ensures) (c .before .before .before .before .before .before .before .before .before .before .deblock-pass2 .ensures) (end-put (s .args .top * (s .args .w / 4)) (s .args .words .now) allDone _ (c .before .before .all-done .ensures))
+    let d = c .before .before .before .before .before .before .before .before .before .before in
+    let e = d .before .before .before .before .before .before .before .before .before .before .before in
+    let s = e .before .before .before .before .before .before .before .before .before .before .before .before .before in
+    both-done (e .deblock-pass .ensures) (d .deblock-pass2 .ensures) (end-put (s .args .top * (s .args .w / 4)) (s .args .words .now) allDone _ (c .before .before .all-done .ensures))
 
 pub passes-by-spec : {M : Type 1} → statement M
 passes-by-spec =
@@ -46,14 +55,17 @@ passes-by-spec =
     (tie.spec
     deblock-pass-requires
     deblock-pass-requires-2
-    (λ c. fits (few (c .before .before .before .before .before .before .before .before .before .before .before .before .before .before .before .before .before .before .before .before .before .before .before .before .before .before .before .before .before .before)))
-    (λ c. bytes (few (c .before .before .before .before .before .before .before .before .before .before .before .before .before .before .before .before .before .before .before .before .before .before .before .before .before .before .before .before .before .before)))
-    (λ c. room (c .before .before .before .before .before .before .before .before .before .before .before .before .before .before .before .before .before .before .before .before .before .before .before .before .before .before .before .before .before .before))
-    (λ c. room (c .before .before .before .before .before .before .before .before .before .before .before .before .before .before .before .before .before .before .before .before .before .before .before .before .before .before .before .before .before .before))
+    (λ c. fits (few (begun c)))
+    (λ c. bytes (few (begun c)))
+    (λ c. room (begun c))
+    (λ c. room (begun c))
     (λ c. le-refl _)
     (λ c κs. tt)
-    (λ c. c .before .before .before .before .before .before .before .before .before .before .deblock-pass2 .kept .1 .1 .1 .1 .1 .1 .0 ∙ c .before .before .before .before .before .before .before .before .before .before .before .before .before .before .before .before .before .before .before .before .before .deblock-pass .kept .1 .1 .1 .1 .1 .1 .0)
-    (λ c. c .before .before .before .before .before .before .before .before .before .before .deblock-pass2 .kept .1 .1 .1 .1 .1 .1 .1 .0 ∙ c .before .before .before .before .before .before .before .before .before .before .before .before .before .before .before .before .before .before .before .before .before .deblock-pass .kept .1 .1 .1 .1 .1 .1 .1 .0)
-    (λ c. c .before .before .before .before .before .before .before .before .before .before .deblock-pass2 .kept .1 .1 .1 .1 .1 .1 .1 .1 .0 ∙ c .before .before .before .before .before .before .before .before .before .before .before .before .before .before .before .before .before .before .before .before .before .deblock-pass .kept .1 .1 .1 .1 .1 .1 .1 .1 .0)
+    (λ c. let d = c .before .before .before .before .before .before .before .before .before .before in
+    d .deblock-pass2 .kept .1 .1 .1 .1 .1 .1 .0 ∙ d .before .before .before .before .before .before .before .before .before .before .before .deblock-pass .kept .1 .1 .1 .1 .1 .1 .0)
+    (λ c. let d = c .before .before .before .before .before .before .before .before .before .before in
+    d .deblock-pass2 .kept .1 .1 .1 .1 .1 .1 .1 .0 ∙ d .before .before .before .before .before .before .before .before .before .before .before .deblock-pass .kept .1 .1 .1 .1 .1 .1 .1 .0)
+    (λ c. let d = c .before .before .before .before .before .before .before .before .before .before in
+    d .deblock-pass2 .kept .1 .1 .1 .1 .1 .1 .1 .1 .0 ∙ d .before .before .before .before .before .before .before .before .before .before .before .deblock-pass .kept .1 .1 .1 .1 .1 .1 .1 .1 .0)
     (λ c. search)
     returns)

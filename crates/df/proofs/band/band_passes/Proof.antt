@@ -8,7 +8,7 @@ use mir.Syntax.{w64}
 use mir.Val.{Fits}
 use lib.IntN.{ℤ}
 use lib.ListN.{length, take, drop}
-use borrow.Rule.Slice.PartMut.{midOf, putMid, take-put}
+use borrow.Rule.Slice.PartMut.{midOf, putMid, same-len-mid, take-put}
 use Rattle.def.specs.Formats.{inFormat}
 use Rattle.def.specs.declared.Format.{Format}
 use Rattle.split.specs.Edges.{vertical, horizontal, Edge}
@@ -85,22 +85,27 @@ module _ (f : Format) (w n k : ℕ) (e : k ≡ inFormat f (4 * n)) (y u v words 
         marks = end-drop n words words₁ lw ∙ b .marks ∙ ap (λ (m : Maps). doneFrom (top * w) (m .words)) maps-left;
       }
 
+abbrev start : tie.After-both-passes → tie.Start
+start d = d .before .before .before .before .before .before .before .before .before .before .before .before .before .before .before .before
+
 both-passes-requires : tie.Need-both-passes-requires
 both-passes-requires c κs =
     let s = c .before .before .before .before .before .before .before .before .before .before .before .before .before .before .before in
     let a = s .args in
     let k = c .before .before .before .before .before .before .before .in-format in (
-      framed (a .format) (a .w / 4) (a .skip * (a .w / 4)) (k .result) (k .ensures) (a .y .now) (a .u .now) (a .v .now) (a .words .now) (a .motion .now) (a .refs .now) (a .keep .now) (a .entries .now) (a .top + a .h / 4) (s .pre .0 .0),
+      framed (a .format) (a .w / 4) (a .skip * (a .w / 4)) (k .result) (k .ensures) (a .y .now) (a .u .now) (a .v .now) (a .words .now)
+          (a .motion .now) (a .refs .now) (a .keep .now) (a .entries .now) (a .top + a .h / 4) (s .pre .0 .0),
       s .pre .0 .1,
     )
 
 returns : tie.Need-returns
 returns c =
-    let s = c .before .before .before .before .before .before .before .before .before .before .before .before .before .before .before .before .before .before .before .before .before .before .before .before in
+    let d = c .before .before .before .before .before .before .before .before in
+    let s = start d in
     let a = s .args in
     let n = a .skip * (a .w / 4) in
-    let k = c .before .before .before .before .before .before .before .before .before .before .before .before .before .before .before .before .in-format in
-    let b = c .before .before .before .before .before .before .before .before .both-passes in
+    let k = d .before .before .before .before .before .before .before .before .in-format in
+    let b = d .both-passes in
     let r = s .pre .1 in (
       take-put (16 * n) (length (a .y .now) - 16 * n) (a .y .now) (b .last .1 .1 .1 .1 .1 .0) (r .0),
       front-at (k .ensures) (a .u .now) (b .last .1 .1 .1 .1 .1 .1 .0) (r .1),
@@ -142,6 +147,10 @@ module _ {n : ℕ} (l : n ≤ 16384) where
   colour-2 : (f : Format) {k : ℕ} → k ≡ inFormat f (4 * n) → Fits w64 (k * 2)
   colour-2 f e = let h = colour-few f e in omega arith
 
+-- a slice is as long as it was
+kept-long : (k : ℕ) (xs ys : List ℕ) → length ys ≡ length (midOf k (length xs - k) xs) → length (putMid k (length xs - k) xs ys) ≡ length xs
+kept-long k xs ys e = same-len-mid k (length xs - k) xs ys e
+
 before-end : {k m n : ℕ} → k ≡ m → m ≤ n → k ≤ n
 before-end e l = omega arith
 
@@ -162,11 +171,11 @@ band-passes-spec =
     (λ c. c .before .before .before .before .before .before .before .before .pre .1 .0)
     (λ c. c .before .before .before .before .before .before .before .before .pre .1 .0)
     (λ c. le-refl _)
-    (λ c. colour-2 (few (c .before .before .before .before .before .before .before .before .before)) (c .before .before .before .before .before .before .before .before .before .args .format) (c .before .in-format .ensures))
+    (λ c. let s = c .before .before .before .before .before .before .before .before .before in colour-2 (few s) (s .args .format) (c .before .in-format .ensures))
     (λ c. before-end (c .before .in-format .ensures) (c .before .before .before .before .before .before .before .before .before .pre .1 .1))
     (λ c. before-end (c .before .in-format .ensures) (c .before .before .before .before .before .before .before .before .before .pre .1 .1))
     (λ c. le-refl _)
-    (λ c. colour-2 (few (c .before .before .before .before .before .before .before .before .before .before)) (c .before .before .before .before .before .before .before .before .before .before .args .format) (c .before .before .in-format .ensures))
+    (λ c. let s = c .before .before .before .before .before .before .before .before .before .before in colour-2 (few s) (s .args .format) (c .before .before .in-format .ensures))
     (λ c. before-end (c .before .before .in-format .ensures) (c .before .before .before .before .before .before .before .before .before .before .pre .1 .2))
     (λ c. before-end (c .before .before .in-format .ensures) (c .before .before .before .before .before .before .before .before .before .before .pre .1 .2))
     (λ c. le-refl _)
@@ -185,8 +194,12 @@ band-passes-spec =
     (λ c. c .before .before .before .before .before .before .before .before .before .before .before .before .before .before .pre .1 .6)
     (λ c. le-refl _)
     both-passes-requires
-    (λ c. search)
-    (λ c. search)
-    (λ c. search)
-    (λ c. search)
+    (λ c. let d = c .before .before .before .before .before .before .before .before in
+    kept-long _ (start d .args .y .now) (d .both-passes .last .1 .1 .1 .1 .1 .0) (d .both-passes .kept .1 .1 .1 .1 .1 .0))
+    (λ c. let d = c .before .before .before .before .before .before .before .before in
+    kept-long _ (start d .args .u .now) (d .both-passes .last .1 .1 .1 .1 .1 .1 .0) (d .both-passes .kept .1 .1 .1 .1 .1 .1 .0))
+    (λ c. let d = c .before .before .before .before .before .before .before .before in
+    kept-long _ (start d .args .v .now) (d .both-passes .last .1 .1 .1 .1 .1 .1 .1 .0) (d .both-passes .kept .1 .1 .1 .1 .1 .1 .1 .0))
+    (λ c. let d = c .before .before .before .before .before .before .before .before in
+    kept-long _ (start d .args .words .now) (d .both-passes .last .1 .1 .1 .1 .1 .1 .1 .1 .0) (d .both-passes .kept .1 .1 .1 .1 .1 .1 .1 .1 .0))
     returns)

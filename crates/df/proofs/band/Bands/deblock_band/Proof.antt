@@ -45,14 +45,17 @@ returns : tie.Need-returns
 unfolding inputOf
 returns c = band-refused (inputOf (c .before .before .before .before .before .before .before .before .before .before .before .before .before .before .before)) _ (c .before .before .before .checked-band .ensures) _ (c .before .found .given .1)
 
+abbrev start : tie.After-enum-told → tie.Start
+start c = c .before .before .before .before .before .before .before .before .before .before .before .before .before .before
+
 -- the checks found nothing
-fine : (c : tie.After-enum-told) → check (inputOf (c .before .before .before .before .before .before .before .before .before .before .before .before .before .before)) ≡ Done
+fine : (c : tie.After-enum-told) → check (inputOf (start c)) ≡ Done
 unfolding inputOf
 fine c = sym (c .before .before .checked-band .ensures) ∙ c .enum-told .given .1
 
-some : (c : tie.After-enum-told) → 1 ≤ wide (inputOf (c .before .before .before .before .before .before .before .before .before .before .before .before .before .before))
+some : (c : tie.After-enum-told) → 1 ≤ wide (inputOf (start c))
 unfolding inputOf
-some c = let i = inputOf (c .before .before .before .before .before .before .before .before .before .before .before .before .before .before) in some-wide (sized (i .w) (i .h) (told i (fine c) .size))
+some c = let i = inputOf (start c) in some-wide (sized (i .w) (i .h) (told i (fine c) .size))
 
 -- of the rows above, the one that is handed on
 one-above : (k : ℕ) → rowsAbove k / 16 ≡ near k
@@ -63,13 +66,13 @@ rest-above : (k : ℕ) → rowsAbove k - rowsAbove k / 16 ≡ rowsAbove k - 1
 rest-above zero = refl
 rest-above (suc k) = refl
 
-top-is : (c : tie.After-rows-above) → c .rows-above .result / 16 ≡ near (c .before .before .before .before .before .before .before .before .before .before .before .before .before .before .before .before .before .args .band)
-top-is c = ap (λ (n : ℕ). n / 16) (c .rows-above .ensures) ∙ one-above (c .before .before .before .before .before .before .before .before .before .before .before .before .before .before .before .before .before .args .band)
+top-is : (c : tie.After-rows-above) → c .rows-above .result / 16 ≡ near (start (c .before .before .before) .args .band)
+top-is c = ap (λ (n : ℕ). n / 16) (c .rows-above .ensures) ∙ one-above (start (c .before .before .before) .args .band)
 
-skip-is : (c : tie.After-rows-above) → c .rows-above .result - c .rows-above .result / 16 ≡ rowsAbove (c .before .before .before .before .before .before .before .before .before .before .before .before .before .before .before .before .before .args .band) - 1
-skip-is c = ap (λ (n : ℕ). n - n / 16) (c .rows-above .ensures) ∙ rest-above (c .before .before .before .before .before .before .before .before .before .before .before .before .before .before .before .before .before .args .band)
+skip-is : (c : tie.After-rows-above) → c .rows-above .result - c .rows-above .result / 16 ≡ rowsAbove (start (c .before .before .before) .args .band) - 1
+skip-is c = ap (λ (n : ℕ). n - n / 16) (c .rows-above .ensures) ∙ rest-above (start (c .before .before .before) .args .band)
 
-own-is : (c : tie.After-rows-above) → 4 * c .before .band-rows .result ≡ 4 * bandRows (c .before .before .before .before .before .before .before .before .before .before .before .before .before .before .before .before .before .args .h / 4) (c .before .before .before .before .before .before .before .before .before .before .before .before .before .before .before .before .before .args .band)
+own-is : (c : tie.After-rows-above) → 4 * c .before .band-rows .result ≡ 4 * bandRows (start (c .before .before .before) .args .h / 4) (start (c .before .before .before) .args .band)
 own-is c = ap (λ (n : ℕ). 4 * n) (c .before .band-rows .ensures)
 
 own-fits : (h k : ℕ) {r : ℕ} → r ≡ bandRows h k → Fits w64 (4 * r)
@@ -89,22 +92,25 @@ band-passes-requires : tie.Need-band-passes-requires
 unfolding inputOf
 band-passes-requires c κs =
     let d = c .before .before .before .before .before .before in
-    let g = c .before .before .before .before .before .before .before .before .before in
+    let g = d .before .before .before in
     let t = c .before .before .before .before .before .before .before .before in
-    asked (inputOf (c .before .before .before .before .before .before .before .before .before .before .before .before .before .before .before .before .before .before .before .before .before .before .before)) (fine g) (some g) (skip-is d) (top-is d) (own-is d) (t .entries-by .result) (long t)
+    asked (inputOf (start g)) (fine g) (some g) (skip-is d) (top-is d) (own-is d) (t .entries-by .result) (long t)
 
 add-after : tie.Need-add-after
 unfolding inputOf
-add-after c = next-fits (next-few (told (inputOf (c .before .before .before .before .before .before .before .before .before .before .before .before .before .before .before .before .before .before .before .before .before .before .before .before .before .before .before .before .before .before .before .before)) (fine (c .before .before .before .before .before .before .before .before .before .before .before .before .before .before .before .before .before .before))))
+add-after c =
+    let g = c .before .before .before .before .before .before .before .before .before .before .before .before .before .before .before .before .before .before in
+    next-fits (next-few (told (inputOf (start g)) (fine g)))
 
 returns-2 : tie.Need-returns-2
 unfolding inputOf
 returns-2 c =
     let d = c .before .before .before .before .before .before .before .before .before .before .before .before .before .before .before in
-    let g = c .before .before .before .before .before .before .before .before .before .before .before .before .before .before .before .before .before .before in
+    let g = d .before .before .before in
     let b = c .before .before .before .before .before .before .before .before .band-passes in
-    done-by (inputOf (c .before .before .before .before .before .before .before .before .before .before .before .before .before .before .before .before .before .before .before .before .before .before .before .before .before .before .before .before .before .before .before .before)) (fine g) (some g) (skip-is d) (top-is d) (own-is d) (c .before .before .before .before .before .before .before .before .before .before .before .before .before .before .before .before .before .entries-by .ensures)
-    (b .last .1 .1 .1 .1 .1 .1 .0) (b .last .1 .1 .1 .1 .1 .1 .1 .0) (b .last .1 .1 .1 .1 .1 .1 .1 .1 .0) (b .last .1 .1 .1 .1 .1 .1 .1 .1 .1 .0) (b .result .vertical) (b .result .horizontal) (b .ensures)
+    done-by (inputOf (start g)) (fine g) (some g) (skip-is d) (top-is d) (own-is d) (d .before .before .entries-by .ensures)
+    (b .last .1 .1 .1 .1 .1 .1 .0) (b .last .1 .1 .1 .1 .1 .1 .1 .0) (b .last .1 .1 .1 .1 .1 .1 .1 .1 .0) (b .last .1 .1 .1 .1 .1 .1 .1 .1 .1 .0)
+    (b .result .vertical) (b .result .horizontal) (b .ensures)
 
 pub deblock-band-spec : {M : Type 1} → statement M
 deblock-band-spec =
