@@ -61,19 +61,21 @@ either-way (negsuc n) = sym (leb·suc-suc 3 n)
 
 -- ---- the row by motion, of its four tests
 
--- 3 where the references are equal in place and nothing is far in place, or are equal only crosswise and nothing is far crosswise
-pub by-tests : (q p : Motion) (s t f g near : Bool) → s ≡ sameRefs q p → t ≡ sameRefs q (crosswise p) → f ≡ anyFar q p → g ≡ anyFar q (crosswise p)
-    → ((s && not f) || ((not s && t) && not g)) ≡ near → pick {A = ℕ} near 3 2 ≡ motionRow q p
+-- 3 where the references are equal, in place or crosswise, and nothing is far from P so taken
+pub by-tests : (q p : Motion) (s t f near : Bool) → s ≡ sameRefs q p → t ≡ sameRefs q (crosswise p) → f ≡ anyFar q (pick s p (crosswise p))
+    → ((s || t) && not f) ≡ near → pick {A = ℕ} near 3 2 ≡ motionRow q p
 unfolding motionRow
-by-tests q p s t f g near es et ef eg e =
-    ap (λ (b : Bool). pick b 3 2) (sym e) ∙ choice s t f g ∙ (λ i. pick (es i) (pick (ef i) 2 3) (pick (et i) (pick (eg i) 2 3) 2))
+by-tests q p s t f near es et ef e =
+    ap (λ (b : Bool). pick b 3 2) (sym e) ∙ ap (λ (b : Bool). pick ((s || t) && not b) 3 2) ef ∙ choice s t ∙ (λ i. pick (es i) (pick (anyFar q p) 2 3) (pick (et i) (pick (anyFar q (crosswise p)) 2 3) 2))
   where
-    choice : (s t f g : Bool) → _≡_ {A = ℕ} (pick ((s && not f) || ((not s && t) && not g)) 3 2) (pick s (pick f 2 3) (pick t (pick g 2 3) 2))
-    choice true t true g = refl
-    choice true t false g = refl
-    choice false true f true = refl
-    choice false true f false = refl
-    choice false false f g = refl
+    turned : (f : Bool) → _≡_ {A = ℕ} (pick (not f) 3 2) (pick f 2 3)
+    turned true = refl
+    turned false = refl
+
+    choice : (s t : Bool) → _≡_ {A = ℕ} (pick ((s || t) && not (anyFar q (pick s p (crosswise p)))) 3 2) (pick s (pick (anyFar q p) 2 3) (pick t (pick (anyFar q (crosswise p)) 2 3) 2))
+    choice true t = turned (anyFar q p)
+    choice false true = turned (anyFar q (crosswise p))
+    choice false false = refl
 
 -- ---- a unit's motion, read back from its bits
 

@@ -3,6 +3,7 @@
 ghost use mathlib.Core.Path.{_≡_};
 ghost use mathlib.Core.Bool.{cond};
 ghost use Prim.Native.Nat.{_+_, _-_, _*_, _/_, _≤_, min};
+ghost use Rattle.laws.specs.Index.{pick};
 ghost use Rattle.line.specs.Line.{lineOf, maskOf};
 ghost use Rattle.line.specs.Row.{eqZ, far, countedAs, sameRefs, anyFar, crosswise, motionRow};
 use def::Component;
@@ -192,15 +193,20 @@ fn crossed(p: Motion) -> Motion
     }
 }
 
-// The row of two units neither of which is intra or luma-coded. Both comparisons are made, without a branch: which of them counts
-// changes from edge to edge, so that a branch would often be guessed wrong, and that costs more than the comparisons.
+// P as Q is compared with it: as it is where the references are equal in place, and else crossed.
+fn facing(straight: bool, p: Motion) -> Motion
+    ensures { λ r. ⌜ r ≡ pick straight p (crosswise p) ⌝ }
+{
+    if straight { p } else { crossed(p) }
+}
+
+// The row of two units neither of which is intra or luma-coded. The references are compared both ways, and the components once: the compiler then takes the
+// four of them side by side.
 pub fn motion_row(q: Motion, p: Motion) -> usize
     ensures { λ r. ⌜ (r ≡ motionRow q p) × (r ≤ 3) ⌝ }
 {
-    let c = crossed(p);
     let straight = same_refs(q, p);
-    let across = same_refs(q, c);
-    let near = straight & !any_far(q, p);
-    let near_across = !straight & across & !any_far(q, c);
-    if near | near_across { 3 } else { 2 }
+    let across = same_refs(q, crossed(p));
+    let near = !any_far(q, facing(straight, p));
+    if (straight | across) & near { 3 } else { 2 }
 }

@@ -1,4 +1,4 @@
--- `line::motion_row` meets its contract: the row is that of the four tests, in place and crosswise. Assumes nothing.
+-- `line::motion_row` meets its contract: the row is that of the references, in place and crosswise, and of P's components so taken. Assumes nothing.
 use Prim.Native.Nat.{ℕ}
 use mathlib.Core.Path.{_≡_, ap, _∙_}
 use mathlib.Core.Bool.{Bool, not, _&&_, _||_}
@@ -11,14 +11,14 @@ use Rattle.line.proofs.motion_row.Statement.{statement}
 use Rattle.line.proofs.motion_row.Tie as tie
 
 -- the row, of what the tests joined are
-row : (c : tie.After-any-far2) (near : Bool) → ((c .before .before .before .same-refs .result && not (c .before .any-far .result)) || ((not (c .before .before .before .same-refs .result) && c .before .before .same-refs2 .result) && not (c .any-far2 .result))) ≡ near
+row : (c : tie.After-any-far) (near : Bool) → ((c .before .before .before .before .same-refs .result || c .before .before .same-refs2 .result) && not (c .any-far .result)) ≡ near
     → pick {A = ℕ} near 3 2 ≡ motionRow (c .before .before .before .before .before .args .q) (c .before .before .before .before .before .args .p)
 row c near e =
-    let s = c .before .before .before in
-    let x = s .before .crossed .ensures in
-    by-tests (s .before .before .args .q) (s .before .before .args .p) _ _ _ _ near (s .same-refs .ensures)
-    (c .before .before .same-refs2 .ensures ∙ ap (sameRefs (s .before .before .args .q)) x) (c .before .any-far .ensures)
-    (c .any-far2 .ensures ∙ ap (anyFar (s .before .before .args .q)) x) e
+    let s = c .before .before .before .before in
+    let q = s .before .args .q in
+    by-tests q (s .before .args .p) _ _ _ near (s .same-refs .ensures)
+    (c .before .before .same-refs2 .ensures ∙ ap (sameRefs q) (c .before .before .before .crossed .ensures))
+    (c .any-far .ensures ∙ ap (anyFar q) (c .before .facing .ensures)) e
 
 returns : tie.Need-returns
 returns c = (row (c .before) _ (c .if1 .taken), omega arith)
