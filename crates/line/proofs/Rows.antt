@@ -6,7 +6,7 @@ use Prim.Native.Nat.{ℕ, _<_}
 use native.Mathlib.Omega.{arith}
 use borrow.Author.Tests.{eqb-true, eqb-false, eq-eqb, ne-eqb}
 use lib.Dec.{eqb, leb, leb·suc-suc}
-use lib.IntN.{ℤ, pos, negsuc, _-ℤ_}
+use lib.IntN.{ℤ, pos, negsuc, _-ℤ_, +ℤ-idl, +ℤ-negℤ-cancel}
 use lib.Signed.{leZ, mag}
 use mir.Syntax.{Width, w8, w16, w32}
 use mir.Val.{SFits, toZ, ofZ}
@@ -16,7 +16,7 @@ use Rattle.laws.proofs.Bools.{or-false}
 use Rattle.laws.proofs.Widths.{sfits, back, mag-sub}
 use Rattle.laws.specs.Index.{pick}
 use Rattle.line.specs.declared.Motion.{Motion}
-use Rattle.line.specs.Row.{eqZ, sameRefs, anyFar, crosswise, motionRow, rowOf}
+use Rattle.line.specs.Row.{eqZ, far, sameRefs, anyFar, crosswise, motionRow, rowOf}
 
 eqZ-refl : (a : ℤ) → eqZ a a ≡ true
 unfolding eqZ
@@ -29,6 +29,13 @@ eqZ-other (pos a) (pos b) ne = ne-eqb a b (λ e. ne (ap pos e))
 eqZ-other (pos a) (negsuc b) ne = refl
 eqZ-other (negsuc a) (pos b) ne = refl
 eqZ-other (negsuc a) (negsuc b) ne = ne-eqb a b (λ e. ne (ap negsuc e))
+
+pub eqZ-same : (a b : ℤ) → eqZ a b ≡ true → a ≡ b
+unfolding eqZ
+eqZ-same (pos a) (pos b) e = ap pos (eqb-true a b e)
+eqZ-same (pos a) (negsuc b) e = absurd (let z : _≡_ {A = ℕ} 0 1 = cc in omega arith)
+eqZ-same (negsuc a) (pos b) e = absurd (let z : _≡_ {A = ℕ} 0 1 = cc in omega arith)
+eqZ-same (negsuc a) (negsuc b) e = ap negsuc (eqb-true a b e)
 
 -- numbers that fit a width are the same where their bits are
 pub same-bits : (w : Width) (a b : ℤ) → SFits w a → SFits w b → eqb (ofZ w a) (ofZ w b) ≡ eqZ a b
@@ -66,7 +73,8 @@ pub by-tests : (q p : Motion) (s t f near : Bool) → s ≡ sameRefs q p → t �
     → ((s || t) && not f) ≡ near → pick {A = ℕ} near 3 2 ≡ motionRow q p
 unfolding motionRow
 by-tests q p s t f near es et ef e =
-    ap (λ (b : Bool). pick b 3 2) (sym e) ∙ ap (λ (b : Bool). pick ((s || t) && not b) 3 2) ef ∙ choice s t ∙ (λ i. pick (es i) (pick (anyFar q p) 2 3) (pick (et i) (pick (anyFar q (crosswise p)) 2 3) 2))
+    ap (λ (b : Bool). pick b 3 2) (sym e) ∙ ap (λ (b : Bool). pick ((s || t) && not b) 3 2) ef ∙ choice s t
+    ∙ (λ i. pick (es i) (pick (anyFar q p) 2 3) (pick (et i) (pick (anyFar q (crosswise p)) 2 3) 2))
   where
     turned : (f : Bool) → _≡_ {A = ℕ} (pick (not f) 3 2) (pick f 2 3)
     turned true = refl
@@ -76,6 +84,28 @@ by-tests q p s t f near es et ef e =
     choice true t = turned (anyFar q p)
     choice false true = turned (anyFar q (crosswise p))
     choice false false = refl
+
+-- ---- two units that move alike
+
+far-self : (a : ℤ) → far a a ≡ false
+unfolding far absZ
+far-self a = rw (ap (λ (k : ℤ). k -ℤ a) (sym (+ℤ-idl a)) ∙ +ℤ-negℤ-cancel (pos 0) a)
+
+pub motion-self : (m : Motion) → motionRow m m ≡ 3
+unfolding motionRow sameRefs anyFar
+motion-self m = simp (eqZ-refl, far-self)
+
+-- a unit's row is by motion: it is neither intra nor luma-coded
+neither : (s t : Bool) → (s || t) ≡ false → (s ≡ false) × (t ≡ false)
+neither true t e = absurd (let z : _≡_ {A = ℕ} 0 1 = cc in omega arith)
+neither false t e = (refl, e)
+
+pub row-self : (a b : ℕ) (m : Motion) → (intraOf a || codedOf a) ≡ false → (intraOf b || codedOf b) ≡ false → rowOf a b m m ≡ 3
+unfolding rowOf
+row-self a b m e f =
+    let p = neither (intraOf a) (codedOf a) e in
+    let q = neither (intraOf b) (codedOf b) f in
+    rw (p .0, q .0, p .1, q .1) (motion-self m)
 
 -- ---- a unit's motion, read back from its bits
 

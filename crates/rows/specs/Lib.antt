@@ -5,3 +5,4 @@ pub mod Held
 pub mod Inside
 pub mod MotionCall
 pub mod Rule
+pub mod Runs

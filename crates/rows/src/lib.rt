@@ -16,12 +16,15 @@ ghost use Rattle.rows.specs.FlagCall.{withFlag};
 ghost use Rattle.rows.specs.Inside.{passOf, Lent, Placed, edgePut};
 ghost use Rattle.rows.specs.MotionCall as MotionCall;
 ghost use Rattle.rows.specs.MotionCall.{withMotion, withRefs};
-ghost use Rattle.rows.specs.Rule.{hasSide, firstBit, edgeRow, ruleByte, ruleMap, rightBytes, editedMap};
+ghost use Rattle.rows.specs.Rule.{hasSide, firstBit, edgeRow, ruleByte, ruleMap, editedMap};
+use crate::run::all_right;
 use def::Answer;
 use def::Refusal;
 use def::Scu;
 use line::Motion;
 use row::row_at;
+
+mod run; // run.rt: the test of a map, many units at a time
 
 // ---- a unit's edges
 
@@ -170,7 +173,14 @@ fn put_edges(
 // ---- the whole map
 
 // The byte of unit k, in column x.
-fn rule_byte(columns: usize, words: &[u32], motion: &[i16], refs: &[i8], x: usize, k: usize) -> u8
+pub(crate) fn rule_byte(
+    columns: usize,
+    words: &[u32],
+    motion: &[i16],
+    refs: &[i8],
+    x: usize,
+    k: usize,
+) -> u8
     requires { ⌜ Lent columns (now words) (now motion) (now refs) × (k < length (now words)) × (x ≡ k % columns) ⌝ }
     ensures { λ r. ⌜ r ≡ ruleByte (now (words .entry)) (now (motion .entry)) (now (refs .entry)) columns k ⌝ }
 {
@@ -266,21 +276,6 @@ pub fn fill_rows(
             Answer::Done
         }
     }
-}
-
-// Whether every byte is right. No way out at the first that is not: a map that is lent is right but for an error.
-fn all_right(columns: usize, words: &[u32], motion: &[i16], refs: &[i8], rows: &[u8]) -> bool
-    requires { ⌜ Lent columns (now words) (now motion) (now refs) × (length (now rows) ≡ length (now words)) ⌝ }
-    ensures { λ r. ⌜ r ≡ rightBytes (now (words .entry)) (now (motion .entry)) (now (refs .entry)) columns (now (rows .entry)) ⌝ }
-{
-    let n = rows.len();
-    let mut ok = true;
-    let mut x = 0;
-    for k in 0..n {
-        ok = ok & (rows[k] == rule_byte(columns, words, motion, refs, x, k));
-        x = next_column(columns, x);
-    }
-    ok
 }
 
 // Whether the map is right, of a picture of w by h.
