@@ -1,6 +1,7 @@
 //! One small picture from its leaf records to its finished samples: the chroma QP tables, the driver, deblocking. Its luma is printed before and
 //! after. It is examples/picture.c in Rust: `cargo run --example picture`.
-use lomsakeun::{deblock, derived_chroma_qp_mapping_tables, reconstruct, Blocks, Maps, Picture, Points, Refusal, Settings};
+use lomsakeun::{deblock, derived_chroma_qp_mapping_tables, reconstruct};
+use lomsakeun::{Blocks, Maps, Picture, Planes, Points, Refusal, Settings};
 
 /// 16 by 8 samples: 4 by 2 units, one root.
 const W: usize = 16;
@@ -36,11 +37,10 @@ fn main() -> Result<(), Refusal> {
         splits: &splits,
         leaves: &leaves,
         residual: &residual,
-        predictions: [&lent, &lent[..chroma], &lent[..chroma]],
+        predictions: Planes::colour(&lent, &lent[..chroma], &lent[..chroma]),
         constrained: false,
-        colour: true,
     };
-    let picture = Picture { w: W, h: H, y: &mut y, u: &mut u, v: &mut v, words: &mut words };
+    let picture = Picture { w: W, h: H, planes: Planes::colour(&mut y, &mut u, &mut v), words: &mut words };
     reconstruct(blocks, picture, &mut modes, &mut keep)?;
     print("reconstructed", &y);
 
@@ -55,11 +55,11 @@ fn main() -> Result<(), Refusal> {
         motion: &[0; 4 * UNITS],
         refs: &[0; 2 * UNITS],
         keep: &keep,
-        tables: [&t0, &t1],
+        tables: Some([&t0, &t1]),
         strengths: &[3; 208],
     };
-    let settings = Settings { limit: 6, u_offset: 0, v_offset: 0, colour: true };
-    let picture = Picture { w: W, h: H, y: &mut y, u: &mut u, v: &mut v, words: &mut words };
+    let settings = Settings { limit: 6, u_offset: 0, v_offset: 0 };
+    let picture = Picture { w: W, h: H, planes: Planes::colour(&mut y, &mut u, &mut v), words: &mut words };
     let (vertical, horizontal) = deblock(picture, maps, settings)?;
     print("deblocked", &y);
     println!("{vertical} vertical edges, {horizontal} horizontal");

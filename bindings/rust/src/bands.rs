@@ -8,7 +8,7 @@ use crate::sys;
 /// numbered from 0. Two of them are in memory at a time: the band that a call does, and the band above it.
 ///
 /// ```
-/// use lomsakeun::{Bands, Maps, Picture, Refusal, Settings};
+/// use lomsakeun::{Bands, Maps, Picture, Planes, Refusal, Settings};
 ///
 /// // A picture of 64 by 160, all intra at QP 40, each band lighter by 20. Its rows come from here, and go to `shown` when they are final.
 /// let (w, h) = (64, 160);
@@ -17,7 +17,7 @@ use crate::sys;
 /// let mut counts = Vec::new();
 ///
 /// let (tables, strengths) = ([40; 70], [3; 208]);
-/// let settings = Settings { limit: 6, u_offset: 0, v_offset: 0, colour: true };
+/// let settings = Settings { limit: 6, u_offset: 0, v_offset: 0 };
 /// let mut bands = Bands::first();
 /// let (mut y, mut u, mut v, mut words) = (vec![], vec![], vec![], vec![]);
 /// for band in 0..3 {
@@ -32,8 +32,8 @@ use crate::sys;
 ///     splits[136] = (rows < 64) as u8;
 ///     let (motion, refs, keep) = (vec![0; 4 * words.len()], vec![0; 2 * words.len()], vec![0; words.len()]);
 ///
-///     let part = Picture { w, h, y: &mut y, u: &mut u, v: &mut v, words: &mut words };
-///     let tables = [&tables[..]; 2];
+///     let part = Picture { w, h, planes: Planes::colour(&mut y, &mut u, &mut v), words: &mut words };
+///     let tables = Some([&tables[..]; 2]);
 ///     let maps = Maps { splits: &splits, motion: &motion, refs: &refs, keep: &keep, tables, strengths: &strengths };
 ///     counts.push(bands.deblock(band, part, maps, settings)?);
 ///
@@ -91,8 +91,10 @@ impl Bands {
         maps: Maps,
         settings: Settings,
     ) -> Result<(usize, usize), Refusal> {
-        let Picture { w, h, y, u, v, words } = part;
-        let Maps { splits, motion, refs, keep, tables: [table0, table1], strengths } = maps;
+        let Picture { w, h, planes, words } = part;
+        let Maps { splits, motion, refs, keep, tables, strengths } = maps;
+        let (colour, [y, u, v]) = planes.lent();
+        let [table0, table1] = tables.unwrap_or_default();
         let (mut vertical, mut horizontal) = (0, 0);
         // Each pointer comes from a slice that lives through the call, with its own length, from a local, or from the position.
         let number = unsafe {
@@ -126,7 +128,7 @@ impl Bands {
                 settings.limit,
                 settings.u_offset,
                 settings.v_offset,
-                settings.colour,
+                colour,
                 &mut vertical,
                 &mut horizontal,
             )

@@ -14,13 +14,13 @@ pub struct Maps<'a> {
     pub refs: &'a [i8],
     /// A mark a unit, 0 or 1: no sample of a unit marked 1 is moved.
     pub keep: &'a [u8],
-    /// The chroma QP tables, U's and V's, 70 entries each; none in a grey picture.
-    pub tables: [&'a [i8]; 2],
+    /// The chroma QP tables, U's and V's, 70 entries each; `None` in a grey picture.
+    pub tables: Option<[&'a [i8]; 2]>,
     /// The strengths: four rows of 52.
     pub strengths: &'a [u8],
 }
 
-/// The settings of deblocking.
+/// The settings of deblocking. Whether the picture has colour is said by its [`Planes`](crate::Planes).
 #[derive(Clone, Copy, Debug)]
 pub struct Settings {
     /// The transform limit, 5 or 6.
@@ -29,11 +29,10 @@ pub struct Settings {
     pub u_offset: i8,
     /// V's offset, -12 to 12; in a grey picture 0.
     pub v_offset: i8,
-    /// Whether the picture has colour. A grey one has no U and V: their planes and their tables have length 0, and nothing is done for them.
-    pub colour: bool,
 }
 
-/// Deblocks a picture, sets done in every word, and answers how many edges each pass visited. Refusals: [`Size`](Refusal::Size), [`Length`](Refusal::Length),
+/// Deblocks a picture, sets done in every word, and answers how many edges each pass visited. Nothing is done for the chroma that a grey
+/// picture has not. Refusals: [`Size`](Refusal::Size), [`Length`](Refusal::Length),
 /// [`Setting`](Refusal::Setting), [`Split`](Refusal::Split), [`Leaf`](Refusal::Leaf), [`Keep`](Refusal::Keep), [`Qp`](Refusal::Qp),
 /// [`Sample`](Refusal::Sample).
 #[inline]
@@ -51,8 +50,10 @@ pub fn deblock_by_rows(
     rows: &[u8],
     settings: Settings,
 ) -> Result<(usize, usize), Refusal> {
-    let Picture { w, h, y, u, v, words } = picture;
-    let Maps { splits, motion, refs, keep, tables: [table0, table1], strengths } = maps;
+    let Picture { w, h, planes, words } = picture;
+    let Maps { splits, motion, refs, keep, tables, strengths } = maps;
+    let (colour, [y, u, v]) = planes.lent();
+    let [table0, table1] = tables.unwrap_or_default();
     let (mut vertical, mut horizontal) = (0, 0);
     // Each pointer comes from a slice that lives through the call, with its own length, or from a local.
     let number = unsafe {
@@ -86,7 +87,7 @@ pub fn deblock_by_rows(
             settings.limit,
             settings.u_offset,
             settings.v_offset,
-            settings.colour,
+            colour,
             &mut vertical,
             &mut horizontal,
         )

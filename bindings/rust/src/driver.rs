@@ -1,13 +1,11 @@
 //! The block driver.
-use crate::picture::Picture;
+use crate::picture::{Picture, Planes};
 use crate::refusal::{answer, Refusal};
 use crate::sys;
 
 /// What a picture's blocks are made from.
 #[derive(Clone, Copy, Debug)]
 pub struct Blocks<'a> {
-    /// Whether the picture has colour. A grey one has no U and V: their planes and their lent predictions have length 0.
-    pub colour: bool,
     /// 1,024 bytes a root.
     pub splits: &'a [u8],
     /// Four bytes a leaf, in the order of the walk: kind (a mode, or 5 for the lent prediction), QP, mask (1 Y, 2 U, 4 V; of a grey picture 1
@@ -15,8 +13,8 @@ pub struct Blocks<'a> {
     pub leaves: &'a [u8],
     /// The masked residuals one after another: Y, U and V of each leaf.
     pub residual: &'a [i16],
-    /// The lent prediction of Y, U and V: each of its plane's length, also where no leaf takes it.
-    pub predictions: [&'a [u16]; 3],
+    /// The lent prediction of each plane of the picture, of its length, also where no leaf takes it.
+    pub predictions: Planes<&'a [u16]>,
     /// Whether only intra units count as neighbours.
     pub constrained: bool,
 }
@@ -28,8 +26,10 @@ pub struct Blocks<'a> {
 /// [`Record`](Refusal::Record), [`Mode`](Refusal::Mode), [`Qp`](Refusal::Qp), [`Sample`](Refusal::Sample).
 #[inline]
 pub fn reconstruct(blocks: Blocks, picture: Picture, modes: &mut [u8], keep: &mut [u8]) -> Result<(), Refusal> {
-    let Blocks { colour, splits, leaves, residual, predictions: [pred_y, pred_u, pred_v], constrained } = blocks;
-    let Picture { w, h, y, u, v, words } = picture;
+    let Blocks { splits, leaves, residual, predictions, constrained } = blocks;
+    let Picture { w, h, planes, words } = picture;
+    let (_, [pred_y, pred_u, pred_v]) = predictions.lent();
+    let (colour, [y, u, v]) = planes.lent();
     // Each pointer comes from a slice that lives through the call, with its own length.
     let number = unsafe {
         sys::lomsakeun_reconstruct(

@@ -62,12 +62,11 @@ pub use driver::{reconstruct, Blocks};
 pub use mend::{changes, mend, Change, CHANGES_LENGTH};
 pub use neighbours::{get_avail_inter, get_avail_intra, get_mpm, Neighbours};
 pub use pack::{get_map, put_map, Reader, Writer};
-pub use picture::Picture;
+pub use picture::{Picture, Planes};
 pub use refusal::Refusal;
 pub use rows::{fill_rows, set_flag, set_motion, Flag, Motion};
 pub use screen::{Run, Shown, Turn, Window};
 pub use streams::{
-    frame_length, import_frame, read_frame, read_header, write_frame, write_header, Header, Misread, Planes,
-    HEADER_LENGTH,
+    frame_length, import_frame, read_frame, read_header, write_frame, write_header, Header, Misread, HEADER_LENGTH,
 };
 pub use tree::{check, leaves, list_edges, listing, visiting_rank, LEAVES_LENGTH, LISTING_LENGTH};

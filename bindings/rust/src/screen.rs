@@ -1,4 +1,5 @@
 //! The ward screen: 8-bit rows of a crop window, one at a time.
+use crate::picture::Planes;
 use crate::refusal::{answer, Refusal};
 use crate::sys;
 
@@ -24,21 +25,15 @@ pub struct Window {
     pub bottom: usize,
 }
 
-/// The picture that a run shows: its planes, finished. A grey one has `colour` false and `u` and `v` empty.
+/// The picture that a run shows, finished.
 #[derive(Clone, Copy, Debug)]
 pub struct Shown<'a> {
-    /// Whether it has chroma.
-    pub colour: bool,
     /// Its width.
     pub w: usize,
     /// Its height.
     pub h: usize,
-    /// Y.
-    pub y: &'a [u16],
-    /// U.
-    pub u: &'a [u16],
-    /// V.
-    pub v: &'a [u16],
+    /// Its planes.
+    pub planes: Planes<&'a [u16]>,
 }
 
 /// Which row of a run comes next. It is not `Copy`: a call takes it and hands back the next, or the same one with a refusal.
@@ -77,6 +72,7 @@ impl Turn {
         out: &mut [u8],
     ) -> Result<(Turn, usize), (Refusal, Turn)> {
         let (mut turn, mut written) = (self, 0);
+        let (colour, [y, u, v]) = shown.planes.lent();
         // Each pointer comes from a slice that lives through the call, with its own length, and `out` is borrowed alone; the others are locals.
         let number = unsafe {
             sys::lomsakeun_ward_row(
@@ -85,15 +81,15 @@ impl Turn {
                 &mut turn.row,
                 plane,
                 row,
-                shown.colour,
+                colour,
                 shown.w,
                 shown.h,
-                shown.y.as_ptr(),
-                shown.y.len(),
-                shown.u.as_ptr(),
-                shown.u.len(),
-                shown.v.as_ptr(),
-                shown.v.len(),
+                y.as_ptr(),
+                y.len(),
+                u.as_ptr(),
+                u.len(),
+                v.as_ptr(),
+                v.len(),
                 window.left,
                 window.top,
                 window.right,

@@ -1,4 +1,5 @@
 //! YUV4MPEG2 streams of 10 bits, `C420p10`: a header, a frame, and the first frame of a stream.
+use crate::picture::Planes;
 use crate::refusal::{answer, Refusal};
 use crate::sys;
 
@@ -43,16 +44,6 @@ impl std::fmt::Display for Misread {
 
 impl std::error::Error for Misread {}
 
-/// A picture's three planes, to be written.
-pub struct Planes<'a> {
-    /// w * h samples.
-    pub y: &'a mut [u16],
-    /// (w / 2) * (h / 2) samples.
-    pub u: &'a mut [u16],
-    /// As many.
-    pub v: &'a mut [u16],
-}
-
 /// The header at the start of a stream, of which at most 256 bytes are read, and the place after it. Refusals: [`Stream`](Refusal::Stream),
 /// [`Size`](Refusal::Size).
 #[inline]
@@ -88,11 +79,19 @@ pub fn write_header(colour: bool, header: Header, out: &mut [u8]) -> Result<usiz
     answer(number, count)
 }
 
-/// The frame at a place of a stream, into the planes of a picture of w by h; answers the place after it. Refusals: [`Size`](Refusal::Size),
+/// The frame at a place of a stream, into the planes of a picture of w by h; answers the place after it. A frame has colour: that no chroma is lent
+/// for it is a length. Refusals: [`Size`](Refusal::Size),
 /// [`Length`](Refusal::Length), [`Stream`](Refusal::Stream), [`Short`](Refusal::Short), [`Sample`](Refusal::Sample).
 #[inline]
-pub fn read_frame(stream: &[u8], place: usize, w: usize, h: usize, planes: Planes) -> Result<usize, Misread> {
+pub fn read_frame(
+    stream: &[u8],
+    place: usize,
+    w: usize,
+    h: usize,
+    planes: Planes<&mut [u16]>,
+) -> Result<usize, Misread> {
     let (mut next, mut at) = (0, 0);
+    let (_, [y, u, v]) = planes.lent();
     // As above: the planes are three slices that are borrowed as mutable, so that none overlaps another.
     let number = unsafe {
         sys::lomsakeun_read_frame(
@@ -101,12 +100,12 @@ pub fn read_frame(stream: &[u8], place: usize, w: usize, h: usize, planes: Plane
             place,
             w,
             h,
-            planes.y.as_mut_ptr(),
-            planes.y.len(),
-            planes.u.as_mut_ptr(),
-            planes.u.len(),
-            planes.v.as_mut_ptr(),
-            planes.v.len(),
+            y.as_mut_ptr(),
+            y.len(),
+            u.as_mut_ptr(),
+            u.len(),
+            v.as_mut_ptr(),
+            v.len(),
             &mut next,
             &mut at,
         )
@@ -117,15 +116,8 @@ pub fn read_frame(stream: &[u8], place: usize, w: usize, h: usize, planes: Plane
 /// A picture's frame, into exactly its [`frame_length`] bytes. Refusals: [`Size`](Refusal::Size), [`Length`](Refusal::Length),
 /// [`Setting`](Refusal::Setting) for a grey picture, [`Sample`](Refusal::Sample).
 #[inline]
-pub fn write_frame(
-    colour: bool,
-    w: usize,
-    h: usize,
-    y: &[u16],
-    u: &[u16],
-    v: &[u16],
-    out: &mut [u8],
-) -> Result<(), Refusal> {
+pub fn write_frame(w: usize, h: usize, planes: Planes<&[u16]>, out: &mut [u8]) -> Result<(), Refusal> {
+    let (colour, [y, u, v]) = planes.lent();
     // As above.
     let number = unsafe {
         sys::lomsakeun_write_frame(
@@ -148,19 +140,20 @@ pub fn write_frame(
 /// The first frame of a stream, into planes of the lengths of its header's picture; answers what the header says, and the place after the frame.
 /// Refusals: those of [`read_header`], and then those of [`read_frame`].
 #[inline]
-pub fn import_frame(stream: &[u8], planes: Planes) -> Result<(Header, usize), Misread> {
+pub fn import_frame(stream: &[u8], planes: Planes<&mut [u16]>) -> Result<(Header, usize), Misread> {
+    let (_, [y, u, v]) = planes.lent();
     let (mut w, mut h, mut f, mut g, mut a, mut b, mut next, mut at) = (0, 0, 0, 0, 0, 0, 0, 0);
     // As above.
     let number = unsafe {
         sys::lomsakeun_import_frame(
             stream.as_ptr(),
             stream.len(),
-            planes.y.as_mut_ptr(),
-            planes.y.len(),
-            planes.u.as_mut_ptr(),
-            planes.u.len(),
-            planes.v.as_mut_ptr(),
-            planes.v.len(),
+            y.as_mut_ptr(),
+            y.len(),
+            u.as_mut_ptr(),
+            u.len(),
+            v.as_mut_ptr(),
+            v.len(),
             &mut w,
             &mut h,
             &mut f,

@@ -271,12 +271,12 @@ fn deblocking() {
     let run = |entry: u8, keep: [u8; 4]| {
         let mut y: Vec<u16> = [100, 100, 100, 100, 120, 120, 120, 120].repeat(8);
         let (mut u, mut v, mut words) = ([100; 16], [100; 16], [30 << 16 | INTRA; 4]);
-        let picture = Picture { w: 8, h: 8, y: &mut y, u: &mut u, v: &mut v, words: &mut words };
+        let picture = Picture { w: 8, h: 8, planes: Planes::colour(&mut y, &mut u, &mut v), words: &mut words };
         let (tables, strengths) = ([30; 70], [entry; 208]);
-        let tables = [&tables[..]; 2];
+        let tables = Some([&tables[..]; 2]);
         let maps =
             Maps { splits: &splits, motion: &[0; 16], refs: &[0; 8], keep: &keep, tables, strengths: &strengths };
-        let settings = Settings { limit: 6, u_offset: 0, v_offset: 0, colour: true };
+        let settings = Settings { limit: 6, u_offset: 0, v_offset: 0 };
         assert_eq!(deblock(picture, maps, settings), Ok((2, 2)));
         assert_eq!((u, v), ([100; 16], [100; 16]));
         assert_eq!(words, [30 << 16 | INTRA | DONE; 4]);
@@ -294,17 +294,17 @@ fn deblocking() {
 #[test]
 fn deblocking_in_grey() {
     let (splits, strengths) = (splits(), [3; 208]);
-    let settings = Settings { limit: 6, u_offset: 0, v_offset: 0, colour: false };
+    let settings = Settings { limit: 6, u_offset: 0, v_offset: 0 };
     for by_bands in [false, true] {
         let mut y: Vec<u16> = [100, 100, 100, 100, 120, 120, 120, 120].repeat(8);
         let mut words = [30 << 16 | INTRA; 4];
-        let picture = Picture { w: 8, h: 8, y: &mut y, u: &mut [], v: &mut [], words: &mut words };
+        let picture = Picture { w: 8, h: 8, planes: Planes::grey(&mut y), words: &mut words };
         let maps = Maps {
             splits: &splits,
             motion: &[0; 16],
             refs: &[0; 8],
             keep: &[0; 4],
-            tables: [&[]; 2],
+            tables: None,
             strengths: &strengths,
         };
         let counts = if by_bands {
@@ -356,18 +356,18 @@ fn deblocking_by_bands() {
     let refs: Vec<i8> = (0..2 * units.len()).map(|i| (i % 3) as i8 - 1).collect();
     let keep: Vec<u8> = (0..units.len()).map(|i| (i % 11 == 3) as u8).collect();
     let (splits, tables, strengths) = (tall_splits(), [[35; 70], [45; 70]], [5; 208]);
-    let settings = Settings { limit: 5, u_offset: 1, v_offset: -1, colour: true };
+    let settings = Settings { limit: 5, u_offset: 1, v_offset: -1 };
     let maps = |splits, motion, refs, keep| Maps {
         splits,
         motion,
         refs,
         keep,
-        tables: tables.each_ref().map(|t| &t[..]),
+        tables: Some(tables.each_ref().map(|t| &t[..])),
         strengths: &strengths,
     };
 
     let ([mut y, mut u, mut v], mut words) = (before.clone(), units.clone());
-    let picture = Picture { w, h, y: &mut y, u: &mut u, v: &mut v, words: &mut words };
+    let picture = Picture { w, h, planes: Planes::colour(&mut y, &mut u, &mut v), words: &mut words };
     let (vertical, horizontal) = deblock(picture, maps(&splits, &motion, &refs, &keep), settings).unwrap();
     let whole = [y, u, v];
     assert!((0..3).all(|i| whole[i] != before[i]));
@@ -381,9 +381,7 @@ fn deblocking_by_bands() {
         let part = Picture {
             w,
             h,
-            y: &mut y[luma],
-            u: &mut u[chroma.clone()],
-            v: &mut v[chroma.clone()],
+            planes: Planes::colour(&mut y[luma], &mut u[chroma.clone()], &mut v[chroma.clone()]),
             words: &mut done[across * from..across * to],
         };
         let refs = &refs[2 * across * from..2 * across * to];
@@ -419,10 +417,9 @@ fn driving() {
     for (constrained, last) in [(false, [0, 1023, 100]), (true, [512; 3])] {
         let (mut y, mut u, mut v) = ([9999; 64], [9999; 16], [9999; 16]);
         let (mut words, mut modes, mut keep) = ([u32::MAX; 4], [77; 4], [88; 4]);
-        let picture = Picture { w: 8, h: 8, y: &mut y, u: &mut u, v: &mut v, words: &mut words };
-        let predictions = lent.each_ref().map(|plane| &plane[..]);
-        let blocks =
-            Blocks { colour: true, splits: &splits(), leaves: &leaves, residual: &residual, predictions, constrained };
+        let picture = Picture { w: 8, h: 8, planes: Planes::colour(&mut y, &mut u, &mut v), words: &mut words };
+        let predictions = Planes::colour(&lent[0][..], &lent[1], &lent[2]);
+        let blocks = Blocks { splits: &splits(), leaves: &leaves, residual: &residual, predictions, constrained };
         assert_eq!(reconstruct(blocks, picture, &mut modes, &mut keep), Ok(()));
         assert_eq!(y.to_vec(), quarters(8, [520, 520, 0, last[0]]));
         assert_eq!(u.to_vec(), quarters(4, [512, 512, 1023, last[1]]));

@@ -4,7 +4,7 @@ use lomsakeun::Refusal::{self, *};
 use lomsakeun::{
     check, deblock, derived_chroma_qp_mapping_tables, get_avail_inter, get_avail_intra, get_map, get_mpm, get_nbr,
     ipred_b, leaves, list_edges, listing, mend, put_map, recon, recon_plane, reconstruct, visiting_rank, Bands, Blocks,
-    Component, Maps, Picture, Settings, CHANGES_LENGTH, LISTING_LENGTH,
+    Component, Maps, Picture, Planes, Settings, CHANGES_LENGTH, LISTING_LENGTH,
 };
 use std::fmt::Debug;
 
@@ -328,6 +328,16 @@ fn sheets() {
     }
 }
 
+/// Three planes to be written, U and V only where there is colour.
+fn written(colour: bool, [y, u, v]: &mut [Vec<u16>; 3]) -> Planes<&mut [u16]> {
+    Planes { y, chroma: colour.then_some([u, v]) }
+}
+
+/// The same to be read.
+fn shown(colour: bool, [y, u, v]: &[Vec<u16>; 3]) -> Planes<&[u16]> {
+    Planes { y, chroma: colour.then_some([u, v]) }
+}
+
 /// A picture of 8 by 8 that is accepted, and what it is deblocked with.
 #[derive(Clone)]
 struct Deblock {
@@ -339,9 +349,10 @@ struct Deblock {
     motion: Vec<i16>,
     refs: Vec<i8>,
     keep: Vec<u8>,
-    tables: [Vec<i8>; 2],
+    tables: Option<[Vec<i8>; 2]>,
     strengths: Vec<u8>,
     settings: Settings,
+    colour: bool,
 }
 
 impl Deblock {
@@ -355,34 +366,38 @@ impl Deblock {
             motion: vec![0; 16],
             refs: vec![0; 8],
             keep: vec![1; 4],
-            tables: [vec![51; 70], vec![51; 70]],
+            tables: Some([vec![51; 70], vec![51; 70]]),
             strengths: vec![3; 208],
-            settings: Settings { limit: 6, u_offset: 12, v_offset: -12, colour: true },
+            settings: Settings { limit: 6, u_offset: 12, v_offset: -12 },
+            colour: true,
         }
     }
 
     /// Takes the colour away, but not the offsets.
     fn fade(&mut self) {
-        let [y, ..] = self.planes.clone();
-        (self.planes, self.tables, self.settings.colour) = ([y, vec![], vec![]], [vec![], vec![]], false);
+        self.planes[1..].iter_mut().for_each(Vec::clear);
+        (self.tables, self.colour) = (None, false);
+    }
+
+    fn maps(&self) -> Maps<'_> {
+        Maps {
+            splits: &self.splits,
+            motion: &self.motion,
+            refs: &self.refs,
+            keep: &self.keep,
+            tables: self.tables.as_ref().map(|tables| tables.each_ref().map(|table| &table[..])),
+            strengths: &self.strengths,
+        }
     }
 
     /// Requires that it is refused with this change, and that nothing was written.
     fn refused(refusal: Refusal, change: impl FnOnce(&mut Deblock)) {
         let mut case = Deblock::good();
         change(&mut case);
-        let ([mut y, mut u, mut v], mut words) = (case.planes.clone(), case.words.clone());
-        let picture = Picture { w: case.w, h: case.h, y: &mut y, u: &mut u, v: &mut v, words: &mut words };
-        let maps = Maps {
-            splits: &case.splits,
-            motion: &case.motion,
-            refs: &case.refs,
-            keep: &case.keep,
-            tables: case.tables.each_ref().map(|table| &table[..]),
-            strengths: &case.strengths,
-        };
-        assert_eq!(deblock(picture, maps, case.settings), Err(refusal));
-        assert_eq!(([y, u, v], words), (case.planes, case.words));
+        let (mut planes, mut words) = (case.planes.clone(), case.words.clone());
+        let picture = Picture { w: case.w, h: case.h, planes: written(case.colour, &mut planes), words: &mut words };
+        assert_eq!(deblock(picture, case.maps(), case.settings), Err(refusal));
+        assert_eq!((planes, words), (case.planes, case.words));
     }
 }
 
@@ -398,7 +413,7 @@ fn deblocking() {
         Deblock::refused(Sample, |case| case.planes[i][5] = 1024);
     }
     for i in 0..2 {
-        Deblock::refused(Length, |case| case.tables[i].push(0));
+        Deblock::refused(Length, |case| case.tables.as_mut().unwrap()[i].push(0));
     }
     Deblock::refused(Length, |case| case.words.push(0));
     Deblock::refused(Length, |case| case.splits.push(0));
@@ -421,21 +436,21 @@ fn deblocking() {
     // A mark of 2, also beside a QP of 52.
     Deblock::refused(Keep, |case| case.keep[3] = 2);
     Deblock::refused(Keep, |case| (case.keep[0], case.words[3]) = (255, 52 << 16));
-    // Without its colour: offsets are left; U, V or a table is lent; and it is said to have colour.
+    // Without its colour: offsets are left, or a table is lent; in colour: no table, or planes of length 0.
     Deblock::refused(Setting, Deblock::fade);
-    for i in 0..2 {
+    for lengths in [[70, 0], [0, 70], [70, 70]] {
         Deblock::refused(Length, |case| {
             case.fade();
-            case.planes[1 + i] = vec![9; 16];
-        });
-        Deblock::refused(Length, |case| {
-            case.fade();
-            case.tables[i] = vec![51; 70];
+            case.tables = Some(lengths.map(|n| vec![51; n]));
         });
     }
+    Deblock::refused(Length, |case| case.tables = None);
+    Deblock::refused(Length, |case| {
+        case.planes[1..].iter_mut().for_each(Vec::clear);
+    });
     Deblock::refused(Length, |case| {
         case.fade();
-        case.settings.colour = true;
+        case.colour = true;
     });
 }
 
@@ -463,17 +478,11 @@ impl Band {
 
     fn run(&mut self, bands: &mut Bands) -> Result<(usize, usize), Refusal> {
         let case = &mut self.lent;
-        let [y, u, v] = &mut case.planes;
-        let part = Picture { w: case.w, h: case.h, y, u, v, words: &mut case.words };
-        let maps = Maps {
-            splits: &case.splits,
-            motion: &case.motion,
-            refs: &case.refs,
-            keep: &case.keep,
-            tables: case.tables.each_ref().map(|table| &table[..]),
-            strengths: &case.strengths,
-        };
-        bands.deblock(self.band, part, maps, case.settings)
+        let (mut planes, mut words) = (case.planes.clone(), case.words.clone());
+        let part = Picture { w: case.w, h: case.h, planes: written(case.colour, &mut planes), words: &mut words };
+        let answer = bands.deblock(self.band, part, case.maps(), case.settings);
+        (case.planes, case.words) = (planes, words);
+        answer
     }
 
     /// Requires that it is refused at this position with this change, that nothing was written, and that the position stays.
@@ -524,7 +533,7 @@ fn bands() {
             Band::refused(Sample, band, band, |case| *case.lent.planes[i].last_mut().unwrap() = 1024);
         }
         for i in 0..2 {
-            Band::refused(Length, band, band, |case| case.lent.tables[i].push(0));
+            Band::refused(Length, band, band, |case| case.lent.tables.as_mut().unwrap()[i].push(0));
         }
         Band::refused(Length, band, band, |case| case.lent.words.push(0));
         Band::refused(Length, band, band, |case| case.lent.splits.push(0));
@@ -539,6 +548,9 @@ fn bands() {
         Band::refused(Leaf, band, band, |case| case.lent.splits[136] = 0);
         Band::refused(Qp, band, band, |case| *case.lent.words.last_mut().unwrap() = 52 << 16);
         Band::refused(Keep, band, band, |case| *case.lent.keep.last_mut().unwrap() = 2);
+        // without its colour, or its tables alone
+        Band::refused(Setting, band, band, |case| case.lent.fade());
+        Band::refused(Length, band, band, |case| case.lent.tables = None);
     }
     // the whole picture's split bytes, or its rows, are too many
     Band::refused(Length, 1, 1, |case| case.lent.splits.resize(2048, 0));
@@ -585,7 +597,9 @@ fn a_band_mended() {
 struct Driver {
     w: usize,
     h: usize,
+    /// Whether the picture has chroma, and whether the lent prediction has.
     colour: bool,
+    lent: bool,
     splits: Vec<u8>,
     leaves: Vec<u8>,
     residual: Vec<i16>,
@@ -603,6 +617,7 @@ impl Driver {
             w: 8,
             h: 8,
             colour: true,
+            lent: true,
             splits: root(&[(136, 1), (256 + 68, 1), (512 + 34, 1)]),
             leaves: vec![5, 51, 7, 0],
             residual: vec![-1; 96],
@@ -615,15 +630,13 @@ impl Driver {
     }
 
     fn run(&mut self) -> Result<(), Refusal> {
-        let [y, u, v] = &mut self.planes;
-        let picture = Picture { w: self.w, h: self.h, y, u, v, words: &mut self.words };
-        let predictions = self.predictions.each_ref().map(|plane| &plane[..]);
+        let planes = written(self.colour, &mut self.planes);
+        let picture = Picture { w: self.w, h: self.h, planes, words: &mut self.words };
         let blocks = Blocks {
-            colour: self.colour,
             splits: &self.splits,
             leaves: &self.leaves,
             residual: &self.residual,
-            predictions,
+            predictions: shown(self.lent, &self.predictions),
             constrained: false,
         };
         reconstruct(blocks, picture, &mut self.modes, &mut self.keep)
@@ -631,7 +644,8 @@ impl Driver {
 
     /// The same without its colour.
     fn grey() -> Driver {
-        let mut case = Driver { colour: false, leaves: vec![5, 51, 1, 0], residual: vec![-1; 64], ..Driver::good() };
+        let (leaves, residual) = (vec![5, 51, 1, 0], vec![-1; 64]);
+        let mut case = Driver { colour: false, lent: false, leaves, residual, ..Driver::good() };
         case.predictions[1..].iter_mut().chain(&mut case.planes[1..]).for_each(Vec::clear);
         case
     }
@@ -706,10 +720,14 @@ fn driving_grey() {
     assert_eq!(good.run(), Ok(()));
     assert_eq!(good.planes, [vec![1022; 64], vec![], vec![]]);
     for i in 1..3 {
-        Driver::grey().refuses(Length, |case| case.planes[i].push(0));
-        Driver::grey().refuses(Length, |case| case.predictions[i].push(0));
         Driver::refused(Length, |case| case.planes[i].clear());
+        Driver::grey().refuses(Length, |case| {
+            case.predictions[i].push(0);
+            case.lent = true;
+        });
     }
+    // a picture in colour that is lent no chroma to be predicted from
+    Driver::refused(Length, |case| case.lent = false);
     for mask in [2, 3, 4, 7, 8] {
         Driver::grey().refuses(Record, |case| case.leaves[2] = mask);
     }

@@ -135,13 +135,14 @@ fn by_rows() {
     }
     let (table, mut strengths) = ([20; 70], [0; 208]);
     strengths[3 * 52 + 30] = 3;
-    let maps = Maps { splits: &splits, motion: &motion, refs: &refs, keep: &keep, tables: [&table, &table], strengths: &strengths };
-    let settings = Settings { limit: 6, u_offset: 0, v_offset: 0, colour: true };
+    let tables = Some([&table[..]; 2]);
+    let maps = Maps { splits: &splits, motion: &motion, refs: &refs, keep: &keep, tables, strengths: &strengths };
+    let settings = Settings { limit: 6, u_offset: 0, v_offset: 0 };
     let run = |rows: &[u8], first: u16| {
         let mut y: Vec<u16> = (0..32).map(|i| if i % 8 < 4 { 100 } else { 120 }).collect();
         y[0] = first;
         let (mut u, mut v, mut words) = ([7; 8], [9; 8], words);
-        let picture = Picture { w: 8, h: 4, y: &mut y, u: &mut u, v: &mut v, words: &mut words };
+        let picture = Picture { w: 8, h: 4, planes: Planes::colour(&mut y, &mut u, &mut v), words: &mut words };
         (deblock_by_rows(picture, maps, rows, settings), y, u, v, words)
     };
     let mut rows = [255; 2];
@@ -151,7 +152,12 @@ fn by_rows() {
     assert_eq!(plain.0, Ok((1, 0)));
     assert_eq!(plain.1[..8], [100, 100, 103, 107, 113, 117, 120, 120]);
     assert_eq!(run(&rows, 100), plain);
-    for (rows, first, refusal) in [(&[0, 2][..], 100, Refusal::Rows), (&[16, 3], 100, Refusal::Rows), (&[0, 2], 1024, Refusal::Sample), (&[0], 100, Length)] {
+    for (rows, first, refusal) in [
+        (&[0, 2][..], 100, Refusal::Rows),
+        (&[16, 3], 100, Refusal::Rows),
+        (&[0, 2], 1024, Refusal::Sample),
+        (&[0], 100, Length),
+    ] {
         let refused = run(rows, first);
         assert_eq!(refused.0, Err(refusal));
         assert_eq!((refused.1[1..8].to_vec(), refused.4), (vec![100, 100, 100, 120, 120, 120, 120], words));

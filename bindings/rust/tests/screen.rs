@@ -1,5 +1,5 @@
 //! The ward screen: whole runs against the rule written out again, and each refusal.
-use lomsakeun::{Refusal, Run, Shown, Turn, Window};
+use lomsakeun::{Planes, Refusal, Run, Shown, Turn, Window};
 
 /// A picture of numbers that are no pattern, with 1021, 1022 and 1023 among them.
 fn plane(n: usize, seed: usize) -> Vec<u16> {
@@ -13,7 +13,7 @@ fn planes(w: usize, h: usize, colour: bool) -> [Vec<u16>; 3] {
 }
 
 fn shown(p: &[Vec<u16>; 3], w: usize, h: usize, colour: bool) -> Shown<'_> {
-    Shown { colour, w, h, y: &p[0], u: &p[1], v: &p[2] }
+    Shown { w, h, planes: Planes { y: &p[0], chroma: colour.then(|| [&p[1][..], &p[2]]) } }
 }
 
 fn window(left: usize, top: usize, right: usize, bottom: usize) -> Window {
@@ -28,7 +28,9 @@ fn rows(run: Run, plane: &[u16], w: usize, s: usize, c: Window) -> Vec<Vec<u8>> 
     let four = |x: usize, y: usize| (byte(x, y) + byte(x + 1, y) + byte(x, y + 1) + byte(x + 1, y + 1) + 2) / 4;
     match run {
         Run::Full => full(),
-        Run::Preview => (top..bottom).step_by(2).map(|y| (left..right).step_by(2).map(|x| four(x, y) as u8).collect()).collect(),
+        Run::Preview => {
+            (top..bottom).step_by(2).map(|y| (left..right).step_by(2).map(|x| four(x, y) as u8).collect()).collect()
+        }
     }
 }
 
@@ -87,8 +89,10 @@ fn refusals_in_order() {
         refused(Refusal::Size, run, (1, 0), Shown { w: 18, ..bad }, off, 3);
         refused(Refusal::Length, run, (1, 0), bad, off, 15);
         refused(Refusal::Length, run, (1, 0), bad, off, 17);
-        refused(Refusal::Length, run, (1, 0), Shown { colour: false, ..bad }, off, 16);
-        refused(Refusal::Length, run, (1, 0), Shown { u: &p[1][1..], ..bad }, off, 16);
+        let lent = |y, u, v| Shown { planes: Planes::colour(y, u, v), ..bad };
+        refused(Refusal::Length, run, (1, 0), lent(&p[0][1..], &p[1], &p[2]), off, 16);
+        refused(Refusal::Length, run, (1, 0), lent(&p[0], &p[1][1..], &p[2]), off, 16);
+        refused(Refusal::Length, run, (1, 0), lent(&p[0], &p[1], &[]), off, 16);
         refused(Refusal::Window, run, (1, 0), bad, off, 16);
         refused(Refusal::Turn, run, (1, 0), bad, all, 16);
         refused(Refusal::Turn, run, (0, 1), bad, all, 16);

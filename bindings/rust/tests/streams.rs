@@ -15,9 +15,13 @@ fn blank(w: usize, h: usize) -> [Vec<u16>; 3] {
     [vec![7; w * h], vec![8; w * h / 4], vec![9; w * h / 4]]
 }
 
-fn lent(planes: &mut [Vec<u16>; 3]) -> Planes<'_> {
+fn lent(planes: &mut [Vec<u16>; 3]) -> Planes<&mut [u16]> {
     let [y, u, v] = planes;
-    Planes { y, u, v }
+    Planes::colour(y, u, v)
+}
+
+fn shown(planes: &[Vec<u16>; 3]) -> Planes<&[u16]> {
+    Planes::colour(&planes[0], &planes[1], &planes[2])
 }
 
 fn said(w: usize, h: usize) -> Header {
@@ -30,7 +34,7 @@ fn exported(w: usize, h: usize, planes: &[Vec<u16>; 3]) -> Vec<u8> {
     let n = write_header(true, said(w, h), &mut head).unwrap();
     assert!(head[n..].iter().all(|b| *b == 0));
     let mut frame = vec![0; frame_length(w, h)];
-    write_frame(true, w, h, &planes[0], &planes[1], &planes[2], &mut frame).unwrap();
+    write_frame(w, h, shown(planes), &mut frame).unwrap();
     [&head[..n], &frame].concat()
 }
 
@@ -220,7 +224,7 @@ fn samples() {
             let mut drawn = planes.concat();
             drawn[k] = value;
             let mut out = vec![0; frame_length(8, 4)];
-            let wrote = write_frame(true, 8, 4, &drawn[..32], &drawn[32..40], &drawn[40..], &mut out);
+            let wrote = write_frame(8, 4, Planes::colour(&drawn[..32], &drawn[32..40], &drawn[40..]), &mut out);
             assert_eq!(wrote, if fits { Ok(()) } else { Err(Sample) });
             assert!(fits || out == vec![0; out.len()]);
         }
@@ -242,17 +246,22 @@ fn lengths_sizes_and_numbers() {
             assert_eq!(read_frame(b"x", 0, 8, 4, lent(&mut planes)).map_err(|m| m.refusal), Err(Length));
             assert_eq!(planes, before);
             let mut out = vec![0; frame_length(8, 4)];
-            assert_eq!(write_frame(true, 8, 4, &planes[0], &planes[1], &planes[2], &mut out), Err(Length));
+            assert_eq!(write_frame(8, 4, shown(&planes), &mut out), Err(Length));
         }
     }
-    let [y, u, v] = picture(8, 4);
+    let planes = picture(8, 4);
     for n in [0, 101, 103] {
-        assert_eq!(write_frame(true, 8, 4, &y, &u, &v, &mut vec![0; n]), Err(Length));
+        assert_eq!(write_frame(8, 4, shown(&planes), &mut vec![0; n]), Err(Length));
     }
-    assert_eq!(write_frame(true, 8, 6, &y, &u, &v, &mut [0; 102]), Err(Size));
+    assert_eq!(write_frame(8, 6, shown(&planes), &mut [0; 102]), Err(Size));
     // a grey picture: its chroma planes have length 0, and its bytes are those of its line and its luma
-    assert_eq!(write_frame(false, 8, 4, &y, &[], &[], &mut [0; 70]), Err(Setting));
-    assert_eq!(write_frame(false, 8, 4, &y, &u, &v, &mut [0; 102]), Err(Length));
+    let mut luma = picture(8, 4)[0].clone();
+    assert_eq!(write_frame(8, 4, Planes::grey(&luma), &mut [0; 70]), Err(Setting));
+    assert_eq!(write_frame(8, 4, Planes::grey(&luma), &mut [0; 102]), Err(Length));
+    // a frame has colour, so that a picture without it has the wrong lengths
+    assert_eq!(import_frame(&stream, Planes::grey(&mut luma)).map_err(|m| m.refusal), Err(Length));
+    assert_eq!(read_frame(&stream, 0, 8, 4, Planes::grey(&mut luma)).map_err(|m| m.refusal), Err(Length));
+    assert_eq!(luma, picture(8, 4)[0]);
     let mut out = [0; HEADER_LENGTH];
     assert_eq!(write_header(false, said(8, 4), &mut out), Err(Setting));
     assert_eq!(write_header(true, said(8, 6), &mut out), Err(Size));
