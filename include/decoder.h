@@ -25,23 +25,44 @@
 
 /* What is lent, and how many elements it has. w and h are the sides of the picture, or of what a call says it is lent of one.
  *
- *   y                       w*h samples, row by row
- *   u, v                    (w/2)*(h/2) samples each
+ * By format. A call that has a bool colour is told it: reconstruct, deblock, deblock_by_rows, deblock_band, write_header, write_frame and ward_row.
+ * A grey picture has no chroma, and what belongs to chroma has length 0.
+ *
+ *                           colour                        grey
+ *   y, pred_y               w*h                           w*h             samples, row by row
+ *   u, v, pred_u, pred_v    (w/2)*(h/2) each              0
+ *   table0, table1          70 each                       0               the chroma QP of QP q at 12 + q
+ *   u_offset, v_offset      -12..12                       0               else LOMSAKEUN_SETTING
+ *   a leaf's mask           0..7                          0 or 1          else LOMSAKEUN_RECORD
+ *   out of write_frame      6 + 2*(w*h + 2*(w/2)*(h/2))   6 + 2*w*h       but a stream has colour: a grey picture is LOMSAKEUN_SETTING
+ *
+ * read_frame and import_frame are not told a format: a stream's frame has colour. get_nbr and recon_plane take one component, of which a grey
+ * picture has luma. All else is lent alike in both formats:
+ *
  *   words, map_scu          (w/4)*(h/4), a word a unit of 4x4 luma samples, row by row: bit 15 intra, 16..22 QP, 24 luma-coded, 31 done
  *   modes, map_ipm          (w/4)*(h/4), a byte a unit: 0 DC, 1 horizontal, 2 vertical, 3 UL, 4 UR, 255 none
+ *   keep                    (w/4)*(h/4), a byte a unit: 1 where deblocking moves no sample, else 0
+ *   rows                    (w/4)*(h/4), a byte a unit (fill_rows); deblock_by_rows takes 0 too, which is no map
  *   motion, refs            four numbers a unit, list 0 x, y, list 1 x, y; and two
  *   splits                  1024 a root of 64x64, roots row by row. The byte of a block of 64, 32, 16 or 8 is at 256*level + 16*row + column,
  *                           level 0 to 3, with the row and column of the unit at its centre, in its root: 136 for 64, 768 + 17 for the
  *                           first of 8. It is 1 where the block is cut and else 0. Bytes that no such block has may be anything.
+ *   map; out, list          1024 a root (get_map); 1024 and 425 a root (mend)
+ *   buf, src                any number of bytes (put_map, get_map)
  *   leaves, residual        4 bytes a leaf, and the samples of the blocks that the masks name (reconstruct)
- *   a, b                    58 each a table of chroma points
- *   t0, t1, table0, table1  70 each, the chroma QP of QP q at 12 + q
- *   strengths, table        4*52, and 6*6*5 for the mode ranks
- *   run                     4*side + 1 samples: left downwards, the corner, up rightwards
- *   pred, coef, rec, block  side*side
+ *   a0, b0, a1, b1          58 each
+ *   t0, t1                  70 each, as table0 and table1
+ *   strengths               4*52: four rows, an entry a QP
+ *   table, ranks            6*6*5, and 5 (get_mpm)
+ *   plane                   w*h in luma, (w/2)*(h/2) in chroma (get_nbr); so is rec of recon_plane
+ *   run                     4*n + 1 samples, n being the block's side in its component: left downwards, the corner, up rightwards
+ *   block, pred, coef, rec  n*n; a block of recon_plane is named by its luma side, and n is half of that in chroma
+ *   out of leaves           768: x, y and side of at most 256 leaves
  *   vertical, horizontal    2*(w/4)*(h/4)
+ *   input, s                any number of bytes (listing; a stream)
+ *   out                     81920 of listing, 256 of write_header, w of ward_row
  *
- * What a call only writes may hold anything at entry: so the planes, the words and the modes of reconstruct. */
+ * What a call only writes may hold anything at entry: so the planes, the words, the modes and the keep bytes of reconstruct. */
 
 /* The version of these calls; bindings/rust has the same. CHANGELOG.md says what changed. */
 #define LOMSAKEUN_VERSION "0.1.0"
@@ -98,6 +119,7 @@ enum {
     LOMSAKEUN_STRENGTHS_LENGTH = 208,
     LOMSAKEUN_SPLITS_PER_ROOT = 1024,
     LOMSAKEUN_LEAVES_LENGTH = 768,
+    LOMSAKEUN_CHANGES_PER_ROOT = 425,
     LOMSAKEUN_LISTING_LENGTH = 81920,
     LOMSAKEUN_HEADER_LENGTH = 256,
     LOMSAKEUN_FRAME_LINE_LENGTH = 6
@@ -179,13 +201,8 @@ uint8_t lomsakeun_list_edges(
 
 /* Reconstructs a picture (driver): its blocks in the order of the walk, each predicted from what stands around it or taken from the lent
  * prediction, with its residual; then its unit words, its modes and its keep bytes. leaves has four bytes a leaf: kind (a mode, or 5
- * for the lent prediction), QP, mask (1 Y, 2 U, 4 V) and keep (1 where deblocking is to leave the block as it is, else 0). residual has the masked blocks one after another: Y, U and V of each leaf.
- *
- *                                    colour          grey (colour is false)
- *     y, pred_y                      w*h             w*h
- *     u, v, pred_u, pred_v           (w/2)*(h/2)     0
- *     a mask, at most                7               1
- *     map_scu, modes, keep           (w/4)*(h/4)     (w/4)*(h/4) */
+ * for the lent prediction), QP, mask (1 Y, 2 U, 4 V) and keep (1 where deblocking is to leave the block as it is, else 0). residual has the masked
+ * blocks one after another: Y, U and V of each leaf. A prediction is lent for every plane, also where no leaf takes it. */
 uint8_t lomsakeun_reconstruct(
     size_t w, size_t h, bool colour, const uint8_t *splits, size_t splits_len, const uint8_t *leaves, size_t leaves_len,
     const int16_t *residual, size_t residual_len, const uint16_t *pred_y, size_t pred_y_len,
@@ -195,14 +212,8 @@ uint8_t lomsakeun_reconstruct(
 
 /* Deblocks a picture (df): its planes are filtered and done is set in every word; how many edges each pass visited.
  * keep has a mark a unit, 0 or 1: no sample of a unit marked 1 is moved, and its edges are visited and counted as any other.
- * U's QP is mapped by table0, V's by table1. colour: the picture has chroma. What is lent of it, in elements, here and for a band:
- *
- *                        colour            grey
- *     u, v               (w/2)*(h/2) each  0
- *     table0, table1     70 each           0
- *     u_offset, v_offset -12..12           0
- *
- * All else is lent alike, and the luma plane, the words and the counts of a grey picture are those of the same in colour. */
+ * U's QP is mapped by table0, V's by table1. colour: the picture has chroma. The luma plane, the words and the counts of a grey picture are those
+ * of the same in colour. */
 uint8_t lomsakeun_deblock(
     size_t w, size_t h, uint16_t *y, size_t y_len, uint16_t *u, size_t u_len, uint16_t *v, size_t v_len,
     uint32_t *words, size_t words_len, const uint8_t *splits, size_t splits_len,
@@ -258,7 +269,8 @@ uint8_t lomsakeun_set_flag(
 uint8_t lomsakeun_deblock_by_rows(
     size_t w, size_t h, uint16_t *y, size_t y_len, uint16_t *u, size_t u_len, uint16_t *v, size_t v_len,
     uint32_t *words, size_t words_len, const uint8_t *splits, size_t splits_len,
-    const int16_t *motion, size_t motion_len, const int8_t *refs, size_t refs_len, const uint8_t *keep, size_t keep_len, const uint8_t *rows, size_t rows_len,
+    const int16_t *motion, size_t motion_len, const int8_t *refs, size_t refs_len, const uint8_t *keep, size_t keep_len,
+    const uint8_t *rows, size_t rows_len,
     const int8_t *table0, size_t table0_len, const int8_t *table1, size_t table1_len,
     const uint8_t *strengths, size_t strengths_len,
     uint8_t limit, int8_t u_offset, int8_t v_offset, bool colour, size_t *vertical_count, size_t *horizontal_count);
