@@ -1,21 +1,34 @@
 //! Speed of the block driver. The Rust has no such call: beside it stand its own availability, gathering, modes and residual addition, called
 //! for each leaf of a list that is made before.
 use crate::bench::best;
+use crate::bench_blocks::{blank, residuals};
 use crate::cases::deblock::split_bytes;
 use crate::cases::trees::{self, Taste};
 use crate::model::walk::{self, Leaf};
 use crate::rng::Rng;
+use lomsakeun::Planes;
 use oracle::driver::Prepared;
 
 const QP: u8 = 37;
 
-/// A picture's leaves, all intra with each component coded, the five modes by turns. Leaves of one side have one residual.
-struct Work {
+/// A picture's leaves, all intra with each component coded, the five modes by turns, and the list of residuals that both sides read. In grey the
+/// product has Y alone; the Rust has all three components.
+pub struct Work {
     size: usize,
+    colour: bool,
     splits: Vec<u8>,
     leaves: Vec<Leaf>,
-    /// Y, U and V one after another, by the side's power of two.
-    residuals: Vec<Vec<i16>>,
+    records: Vec<u8>,
+    list: Vec<i16>,
+    lent: [Vec<u16>; 3],
+}
+
+/// What the product writes: planes, words, modes and keep bytes.
+pub struct Made {
+    pub planes: [Vec<u16>; 3],
+    words: Vec<u32>,
+    modes: Vec<u8>,
+    keep: Vec<u8>,
 }
 
 fn mode(k: usize) -> u8 {
@@ -23,84 +36,76 @@ fn mode(k: usize) -> u8 {
 }
 
 impl Work {
-    fn new(rng: &mut Rng, size: usize, taste: Taste) -> Work {
+    pub fn new(rng: &mut Rng, size: usize, taste: Taste) -> Work {
         let tree = trees::tree(rng, size, size, taste);
         let splits = split_bytes(rng, size, size, &tree);
         let leaves = walk::leaves(size, size, walk::cut_by(&splits, size)).expect("a tree that is accepted");
-        let residual =
-            |rng: &mut Rng, side: usize| (0..side * side * 3 / 2).map(|_| rng.range(-60, 60) as i16).collect();
-        Work { size, splits, leaves, residuals: (0..7).map(|power| residual(rng, 1 << power)).collect() }
+        let records = (0..leaves.len()).flat_map(|k| [mode(k), QP, 7, 0]).collect();
+        let list = residuals(rng, size * size * 3 / 2, 60);
+        Work { size, colour: true, splits, leaves, records, list, lent: blank(size) }
     }
 
-    fn residual(&self, leaf: &Leaf) -> &[i16] {
-        &self.residuals[leaf.wide.ilog2() as usize]
+    /// The same without its colour.
+    pub fn grey(mut self) -> Work {
+        self.records.chunks_exact_mut(4).for_each(|record| record[2] = 1);
+        Work { colour: false, ..self }
     }
 
-    /// The Rust's nanoseconds, and its planes.
-    fn theirs(&self) -> (f64, [Vec<u16>; 3]) {
-        let lent: Vec<Vec<i16>> = self.residuals.iter().map(|own| spread(own)).collect();
-        let mut rust = Prepared::new((self.size, self.size));
-        let time = best(
-            &mut rust,
-            |_| {},
-            |rust| {
-                rust.clear();
-                for (k, leaf) in self.leaves.iter().enumerate() {
-                    let coef = &lent[leaf.wide.ilog2() as usize];
-                    rust.leaf((leaf.x, leaf.y, leaf.wide), mode(k), QP, coef);
-                }
-            },
-        );
-        let mut planes = self.planes();
+    pub fn their_room(&self) -> Prepared {
+        Prepared::new((self.size, self.size))
+    }
+
+    /// The Rust's calls.
+    pub fn theirs(&self, rust: &mut Prepared) {
+        rust.clear();
+        let mut at = 0;
+        for (k, leaf) in self.leaves.iter().enumerate() {
+            rust.leaf((leaf.x, leaf.y, leaf.wide), mode(k), QP, &self.list[at..]);
+            at += leaf.wide * leaf.high * 3 / 2;
+        }
+    }
+
+    pub fn our_room(&self) -> Made {
+        let units = self.size / 4 * (self.size / 4);
+        Made { planes: blank(self.size), words: vec![0; units], modes: vec![0; units], keep: vec![0; units] }
+    }
+
+    /// The product's call.
+    pub fn ours(&self, made: &mut Made) {
+        let (luma, [y, u, v]) = (self.size * self.size, &mut made.planes);
+        let planes = Planes { y: &mut y[..], chroma: self.colour.then_some([u, v]) };
+        let [y, u, v] = &self.lent;
+        let blocks = lomsakeun::Blocks {
+            splits: &self.splits,
+            leaves: &self.records,
+            residual: &self.list[..if self.colour { luma * 3 / 2 } else { luma }],
+            predictions: Planes { y, chroma: self.colour.then_some([u, v]) },
+            constrained: false,
+        };
+        let picture = lomsakeun::Picture { w: self.size, h: self.size, planes, words: &mut made.words };
+        lomsakeun::reconstruct(blocks, picture, &mut made.modes, &mut made.keep).unwrap();
+    }
+
+    /// Both sides made the same picture, as far as the product's has colour.
+    pub fn agreed(&self, rust: &Prepared, made: &Made) -> bool {
+        let mut planes = blank(self.size);
         rust.read(&mut planes);
-        (time, planes)
+        planes[0] == made.planes[0] && (!self.colour || planes == made.planes)
     }
 
-    fn ours(&self) -> (f64, [Vec<u16>; 3]) {
-        let records: Vec<u8> = (0..self.leaves.len()).flat_map(|k| [mode(k), QP, 7, 0]).collect();
-        let residual: Vec<i16> = self.leaves.iter().flat_map(|leaf| self.residual(leaf)).copied().collect();
-        let (lent, units) = (self.planes(), self.size / 4 * (self.size / 4));
-        let mut state = (self.planes(), vec![0u32; units], vec![0u8; units], vec![0u8; units]);
-        let time = best(
-            &mut state,
-            |_| {},
-            |(planes, words, modes, keep)| {
-                let [y, u, v] = planes;
-                let predictions = lent.each_ref().map(|plane| &plane[..]);
-                let picture = lomsakeun::Picture { w: self.size, h: self.size, y, u, v, words };
-                let (splits, leaves) = (&self.splits[..], &records[..]);
-                let (colour, constrained) = (true, false);
-                let blocks =
-                    lomsakeun::Blocks { colour, splits, leaves, residual: &residual, predictions, constrained };
-                lomsakeun::reconstruct(blocks, picture, modes, keep).unwrap();
-            },
-        );
-        (time, state.0)
-    }
-
-    fn planes(&self) -> [Vec<u16>; 3] {
-        let luma = self.size * self.size;
-        [luma, luma / 4, luma / 4].map(|n| vec![0; n])
+    /// Both sides' nanoseconds a luma sample.
+    fn timed(&self) -> (f64, f64) {
+        let (mut rust, mut made) = (self.their_room(), self.our_room());
+        let theirs = best(&mut rust, |_| {}, |rust| self.theirs(rust));
+        let ours = best(&mut made, |_| {}, |made| self.ours(made));
+        assert!(self.agreed(&rust, &made), "the two sides made another picture");
+        let count = (self.size * self.size) as f64;
+        (theirs / count, ours / count)
     }
 }
 
-/// A leaf's residual, each component where the Rust looks for it.
-fn spread(own: &[i16]) -> Vec<i16> {
-    let luma = own.len() * 2 / 3;
-    let parts = [&own[..luma], &own[luma..luma + luma / 4], &own[luma + luma / 4..]];
-    let offsets = Prepared::offsets();
-    let mut lent = vec![0; 2 * offsets[2] - offsets[1]];
-    for (part, at) in parts.into_iter().zip(offsets) {
-        lent[at..at + part.len()].copy_from_slice(part);
-    }
-    lent
-}
-
-/// Both sides' nanoseconds a luma sample; they must have made the same picture.
-pub fn driven(rng: &mut Rng, size: usize, taste: Taste) -> (f64, f64) {
+/// Both sides' nanoseconds a luma sample, in colour or in grey.
+pub fn driven(rng: &mut Rng, size: usize, taste: Taste, colour: bool) -> (f64, f64) {
     let work = Work::new(rng, size, taste);
-    let ((theirs, rust), (ours, product)) = (work.theirs(), work.ours());
-    assert!(rust == product, "the two sides made another picture");
-    let count = (size * size) as f64;
-    (theirs / count, ours / count)
+    if colour { work } else { work.grey() }.timed()
 }

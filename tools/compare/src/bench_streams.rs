@@ -18,13 +18,13 @@ pub fn streams() -> bool {
         let written = best(
             &mut bytes,
             |_| {},
-            |bytes| write_frame(true, size, size, &planes[0], &planes[1], &planes[2], bytes).unwrap(),
+            |bytes| write_frame(size, size, Planes::colour(&planes[0], &planes[1], &planes[2]), bytes).unwrap(),
         );
         let read = best(
             &mut planes,
             |_| {},
             |[y, u, v]| {
-                read_frame(&bytes, 0, size, size, Planes { y, u, v }).unwrap();
+                read_frame(&bytes, 0, size, size, Planes::colour(y, u, v)).unwrap();
             },
         );
         let mut to = vec![0u8; bytes.len()];

@@ -13,9 +13,9 @@ const LEFT: f64 = 60.0;
 const RIGHT: f64 = 540.0;
 const TOP: f64 = 20.0;
 const BOTTOM: f64 = 420.0;
-const COLOURS: [&str; 15] = [
+const COLOURS: [&str; 17] = [
     "#1f77b4", "#ff7f0e", "#2ca02c", "#d62728", "#9467bd", "#8c564b", "#e377c2", "#7f7f7f", "#bcbd22", "#17becf",
-    "#000080", "#808000", "#00aa88", "#aa0044", "#ffbb00",
+    "#000080", "#808000", "#00aa88", "#aa0044", "#ffbb00", "#7700cc", "#556b2f",
 ];
 
 /// Where a size and a number of nanoseconds stand.
@@ -41,7 +41,7 @@ impl Axes {
 }
 
 /// The product's lines are drawn through, the Rust's dashed; the copy of the planes is dotted.
-pub fn draw(all: &[Series], sizes: &[usize], floor: &[f64]) -> String {
+pub fn draw(all: &[&Series], sizes: &[usize], floor: &[f64]) -> String {
     let every =
         || all.iter().flat_map(|s| s.points.iter().flat_map(|&(_, a, b)| [a, b])).chain(floor.iter().copied());
     let axes = Axes {

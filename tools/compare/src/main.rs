@@ -5,12 +5,18 @@ mod all;
 #[cfg(feature = "archive")]
 mod bench;
 #[cfg(feature = "archive")]
+mod bench_blocks;
+#[cfg(feature = "archive")]
+mod bench_deblock;
+#[cfg(feature = "archive")]
 mod bench_driver;
 #[cfg(feature = "archive")]
 mod bench_streams;
 mod cases;
 #[cfg(feature = "archive")]
 mod chart;
+#[cfg(feature = "archive")]
+mod count;
 #[cfg(feature = "archive")]
 mod fuzz;
 mod model;
@@ -25,7 +31,7 @@ use std::path::Path;
 use std::process::exit;
 
 const USAGE: &str =
-    "usage: record NAME OUTDIR | record all CRATESDIR | record headers COUNT SEED OUTDIR | all CALLS PICTURES SEED | fuzz CALLS SEED | bench OUTDIR | gather | streams | deblock SIDE | count KIND SIDE | maps KIND SIDE | kinds";
+    "usage: record NAME OUTDIR | record all CRATESDIR | record headers COUNT SEED OUTDIR | all CALLS PICTURES SEED | fuzz CALLS SEED | bench OUTDIR | gather | streams | deblock SIDE | count [WORK [SIDE [PAGE]]]";
 
 fn main() {
     // A panic of the Rust is an answer here, not a message: one of revc's files, or of the library below them.
@@ -49,20 +55,21 @@ fn main() {
         #[cfg(feature = "archive")]
         ["bench", dir] => bench::bench(Path::new(dir)).expect("writing the table"),
         #[cfg(feature = "archive")]
-        ["gather"] => bench::gathering(),
+        ["gather"] => bench_blocks::gathering(),
         #[cfg(feature = "archive")]
         ["streams"] => bench_streams::streams(),
         #[cfg(feature = "archive")]
-        ["deblock", side] => bench::deblocking_at(number(side)),
+        ["deblock", side] => bench_deblock::deblocking_at(number(side)),
         #[cfg(feature = "archive")]
-        ["count", kind, side] => bench::count(number(kind), number(side)),
+        ["count"] => count::tables("all", 1024, None),
         #[cfg(feature = "archive")]
-        ["maps", kind, side] => bench::maps_of(number(kind), number(side)),
+        ["count", work] => count::tables(work, 1024, None),
         #[cfg(feature = "archive")]
-        ["kinds"] => {
-            println!("{}", bench::kind_count());
-            true
-        }
+        ["count", work, side] => count::tables(work, number(side), None),
+        #[cfg(feature = "archive")]
+        ["count", work, side, page] => count::tables(work, number(side), Some(page)),
+        #[cfg(feature = "archive")]
+        ["counted", work, side] => count::counted(work, number(side)),
         _ => {
             eprintln!("{USAGE}");
             exit(2);

@@ -4,7 +4,8 @@ use crate::api::ChromaSampling;
 use crate::def::*;
 use crate::{avail, ipred, planes, recon, tbl};
 
-/// A picture, its unit words, and a leaf's prediction and run in the Rust's own shapes. A residual is all that a leaf is lent.
+/// A picture, its unit words, and a leaf's prediction and run in the Rust's own shapes; its planes have no margin, so that their rows lie as far
+/// apart as the product's. A residual is all that a leaf is lent.
 pub struct Prepared {
     size: (usize, usize),
     frame: Frame<pel>,
@@ -17,16 +18,11 @@ impl Prepared {
     pub fn new((w, h): (usize, usize)) -> Prepared {
         Prepared {
             size: (w, h),
-            frame: Frame::<pel>::new(w, h, ChromaSampling::Cs420),
+            frame: Frame::<pel>::flat(w, h, ChromaSampling::Cs420),
             map: vec![MCU::from(0); PEL2SCU(w) * PEL2SCU(h)],
             pred: vec![0; MAX_CU_DIM + (MAX_CU_DIM >> 1)],
             run: vec![0; 4 * MAX_CU_SIZE + 1],
         }
-    }
-
-    /// Where each component's residual lies in what a leaf is lent.
-    pub fn offsets() -> [usize; 3] {
-        tbl::tbl_cu_dim_offset
     }
 
     /// Before the first leaf: no unit is done.
@@ -62,8 +58,6 @@ impl Prepared {
 
     /// The finished planes.
     pub fn read(&self, into: &mut [Vec<u16>; 3]) {
-        for (i, plane) in into.iter_mut().enumerate() {
-            planes::read(&self.frame.planes[i], self.size.0 >> (i > 0) as usize, plane);
-        }
+        planes::read_all(&self.frame, self.size.0, into);
     }
 }

@@ -1,4 +1,5 @@
 //! Flat planes into the Rust's padded ones, and back.
+use crate::api::frame::Frame;
 use crate::def::pel;
 use crate::plane::Plane;
 
@@ -15,5 +16,12 @@ pub(crate) fn read(plane: &Plane<pel>, w: usize, samples: &mut [u16]) {
     let region = plane.as_region();
     for (y, row) in samples.chunks_exact_mut(w).enumerate() {
         row.copy_from_slice(&region[y][..w]);
+    }
+}
+
+/// Reads the three planes of a picture that is w wide.
+pub(crate) fn read_all(frame: &Frame<pel>, w: usize, into: &mut [Vec<u16>; 3]) {
+    for (i, (plane, samples)) in frame.planes.iter().zip(into).enumerate() {
+        read(plane, w >> (i > 0) as usize, samples);
     }
 }

@@ -31,7 +31,7 @@ pub fn plane(
     let (shift, component) = if chroma { (1, U_C) } else { (0, Y_C) };
     let mut frame = Frame::<pel>::new(w, h, ChromaSampling::Cs420);
     planes::fill(&mut frame.planes[component], w >> shift, plane);
-    let mut pred = vec![0; MAX_CU_DIM + (MAX_CU_DIM >> 1)];
+    let mut pred = vec![0; reach()];
     let mut coef = vec![0; pred.len()];
     let at = tbl::tbl_cu_dim_offset[component];
     pred[at..at + prediction.len()].copy_from_slice(prediction);
@@ -43,27 +43,36 @@ pub fn plane(
     Some(())
 }
 
-/// Three planes, a prediction and a residual in the Rust's own shapes, so that calls can be measured without the conversion.
+/// Where each component's prediction and residual lie in what a block is lent.
+pub fn offsets() -> [usize; 3] {
+    tbl::tbl_cu_dim_offset
+}
+
+/// How long a prediction or a residual is, U and V at their places.
+pub fn reach() -> usize {
+    MAX_CU_DIM + (MAX_CU_DIM >> 1)
+}
+
+/// Three planes in the Rust's own shapes, so that calls can be measured without the conversion. They have no margin, so that their rows lie as far
+/// apart as the product's.
 pub struct Prepared {
+    size: (usize, usize),
     frame: Frame<pel>,
-    pred: Vec<pel>,
-    coef: Vec<i16>,
 }
 
 impl Prepared {
-    pub fn new((w, h): (usize, usize), pred: &[u16], coef: &[i16]) -> Prepared {
-        let whole = MAX_CU_DIM + (MAX_CU_DIM >> 1);
-        let cycled = |i: usize| i % pred.len();
-        Prepared {
-            frame: Frame::<pel>::new(w, h, ChromaSampling::Cs420),
-            pred: (0..whole).map(|i| pred[cycled(i)]).collect(),
-            coef: (0..whole).map(|i| coef[cycled(i)]).collect(),
-        }
+    pub fn new((w, h): (usize, usize)) -> Prepared {
+        Prepared { size: (w, h), frame: Frame::<pel>::flat(w, h, ChromaSampling::Cs420) }
     }
 
-    /// The residual of all three components of one block, each coded.
-    pub fn add(&mut self, x: usize, y: usize, side: usize) {
+    /// The residual of all three components of one block, each coded, each at its place.
+    pub fn add(&mut self, (x, y, side): (usize, usize, usize), pred: &[u16], coef: &[i16]) {
         let planes = &mut self.frame.planes;
-        recon::evc_recon_yuv(&mut None, x, y, side, side, &self.coef, &self.pred, &[true; N_C], planes);
+        recon::evc_recon_yuv(&mut None, x, y, side, side, coef, pred, &[true; N_C], planes);
+    }
+
+    /// The finished planes.
+    pub fn read(&self, into: &mut [Vec<u16>; 3]) {
+        planes::read_all(&self.frame, self.size.0, into);
     }
 }
