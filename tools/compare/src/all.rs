@@ -47,7 +47,7 @@ pub const CALLS: [Call; 19] = [
 /// The calls over whole pictures: each has all of a run's pictures.
 pub const PICTURES: [Call; 8] = [
     call("deblock", deblock_cases::draw, deblock_cases::damaged, 1000),
-    call("deblock_by_rows", deblock_cases::draw_rows, deblock_cases::damaged_rows, 1000),
+    call("deblock_by_rows", by_rows::draw, by_rows::damaged, 1000),
     call("deblock_quiet", deblock_cases::draw_quiet, deblock_cases::damaged_quiet, 1000),
     call("driver", driver_cases::draw, driver_cases::damaged, 1000),
     call("deblock_band", bands_cases::draw, bands_cases::damaged, 1000),

@@ -28,7 +28,7 @@ impl Band {
 impl Case for Band {
     fn input(&self) -> Line {
         let mut line = Line::new().num(self.next).num(self.band);
-        line.0.extend(self.lent.input().0);
+        line.0.extend(self.lent.listed().0);
         line
     }
 
@@ -271,7 +271,7 @@ impl Case for Bands {
         for (band, harm) in &self.harms {
             line = harm.numbers().iter().fold(line.num(*band), |line, number| line.num(*number));
         }
-        line.0.extend(self.picture.input().0);
+        line.0.extend(self.picture.listed().0);
         line
     }
 

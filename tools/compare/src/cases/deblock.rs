@@ -141,6 +141,16 @@ impl Picture {
         Ok(line.all(y.after()?).all(u.after()?).all(v.after()?).all(words.after()?))
     }
 
+    /// Its numbers, in the order of the call's parameters.
+    pub fn listed(&self) -> Line {
+        let line = Line::new().num(self.w).num(self.h);
+        let line = self.planes.iter().fold(line, |line, plane| line.slice(plane));
+        let line =
+            line.slice(&self.words).slice(&self.splits).slice(&self.motion).slice(&self.refs).slice(&self.keep);
+        let line = line.slice(&self.tables[0]).slice(&self.tables[1]).slice(&self.strengths);
+        line.num(self.limit).num(self.offsets[0]).num(self.offsets[1]).flag(self.colour)
+    }
+
     pub fn answer(number: u32, counts: (usize, usize), planes: &[Vec<u16>; 3], words: &[u32]) -> Line {
         let line = Line::new().num(number).num(counts.0).num(counts.1);
         planes.iter().fold(line, |line, plane| line.all(plane)).all(words)
@@ -148,13 +158,9 @@ impl Picture {
 }
 
 impl Case for Picture {
+    /// No map of edge rows is lent.
     fn input(&self) -> Line {
-        let line = Line::new().num(self.w).num(self.h);
-        let line = self.planes.iter().fold(line, |line, plane| line.slice(plane));
-        let line =
-            line.slice(&self.words).slice(&self.splits).slice(&self.motion).slice(&self.refs).slice(&self.keep);
-        let line = line.slice(&self.tables[0]).slice(&self.tables[1]).slice(&self.strengths);
-        line.num(self.limit).num(self.offsets[0]).num(self.offsets[1]).flag(self.colour)
+        self.listed().flag(false)
     }
 
     fn model(&self) -> Line {

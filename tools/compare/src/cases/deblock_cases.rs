@@ -3,8 +3,6 @@ use super::data::*;
 use super::deblock::{picture, split_bytes, table, Picture};
 use super::tape::{Case, Line, Tape};
 use super::trees;
-#[cfg(feature = "archive")]
-use crate::model::{rows::Held, size_ok, LENGTH, ROWS};
 use crate::model::{deblock as model, walk};
 #[cfg(feature = "archive")]
 use crate::product::{Answer, Lending};
@@ -33,6 +31,7 @@ pub fn record(tape: &mut Tape) {
     super::deblock_refusals::record(tape, rng);
     super::grey::record(tape);
     super::keep::record(tape);
+    super::by_rows::record(tape);
     compare(tape, rng);
 }
 
@@ -119,7 +118,7 @@ fn worked(tape: &mut Tape, rng: &mut Rng) {
 
 /// Two units, P first, on the two sides of an upright edge or of a level one, with this motion and these references. At
 /// this QP each strength row makes other samples of this step.
-fn pair(rng: &mut Rng, upright: bool, motion: [i16; 8], refs: [i8; 4]) -> Picture {
+pub fn pair(rng: &mut Rng, upright: bool, motion: [i16; 8], refs: [i8; 4]) -> Picture {
     let (w, h) = if upright { (8, 4) } else { (4, 8) };
     let mut picture = picture(rng, w, h, trees::FINEST);
     picture.words.fill(40 << 16);
@@ -340,87 +339,4 @@ pub fn harm(rng: &mut Rng, case: &mut Picture) {
     if rng.one_in(3) {
         case.splits.iter_mut().for_each(|byte| *byte = rng.pick(&[0, 1, 1, 1, 1, 1, 1, 2]));
     }
-}
-
-// ---- by a map of edge rows
-
-/// A picture, and the map that is lent with it: its own, none, or anything.
-#[cfg(feature = "archive")]
-struct ByRows {
-    picture: Picture,
-    rows: Vec<u8>,
-}
-
-/// The map that is right, where the picture's maps fit it.
-#[cfg(feature = "archive")]
-fn right_map(picture: &Picture) -> Vec<u8> {
-    let units = (picture.w / 4) * (picture.h / 4);
-    let (words, motion, refs) = (picture.words.clone(), picture.motion.clone(), picture.refs.clone());
-    let mut held = Held { words, motion, refs, rows: vec![0; units.min(1 << 20)] };
-    held.fill(picture.w, picture.h);
-    held.rows
-}
-
-#[cfg(feature = "archive")]
-impl Case for ByRows {
-    fn input(&self) -> Line {
-        self.picture.input().slice(&self.rows)
-    }
-
-    fn model(&self) -> Line {
-        let Picture { w, h, ref planes, ref words, .. } = self.picture;
-        let refused = |number: u32| Picture::answer(number, (0, 0), planes, words);
-        if size_ok(w, h) && !self.rows.is_empty() && self.rows.len() != (w / 4) * (h / 4) {
-            return refused(LENGTH);
-        }
-        let line = self.picture.model();
-        if line.accepted() && !self.rows.is_empty() && self.rows != right_map(&self.picture) {
-            return refused(ROWS);
-        }
-        line
-    }
-
-    fn rust(&self) -> Option<Line> {
-        self.picture.rust()
-    }
-
-    fn in_domain(&self) -> bool {
-        self.picture.in_domain()
-    }
-
-    fn product(&self, lending: Lending) -> Answer {
-        self.picture.lent(Some(&self.rows), lending)
-    }
-}
-
-#[cfg(feature = "archive")]
-pub fn draw_rows(rng: &mut Rng) -> Box<dyn Case> {
-    let most = rng.pick(&[8, 16, 36, 72]);
-    let i = 1 + rng.below(64);
-    let size = square(rng, most);
-    let picture = varied(rng, size, i);
-    let rows = if rng.one_in(8) { vec![] } else { right_map(&picture) };
-    Box::new(ByRows { picture, rows })
-}
-
-/// The picture damaged, or the map, or both.
-#[cfg(feature = "archive")]
-pub fn damaged_rows(rng: &mut Rng) -> Box<dyn Case> {
-    let size = square(rng, 24);
-    let mut picture = varied(rng, size, 1);
-    let mut rows = right_map(&picture);
-    let which = rng.below(4);
-    if which != 0 {
-        match rng.below(3) {
-            0 => stretch(rng, &mut rows),
-            _ => {
-                let at = rng.below(rows.len());
-                rows[at] ^= 1 << rng.below(8);
-            }
-        }
-    }
-    if which < 2 {
-        harm(rng, &mut picture);
-    }
-    Box::new(ByRows { picture, rows })
 }

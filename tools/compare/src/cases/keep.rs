@@ -25,7 +25,7 @@ fn marks(rng: &mut Rng, w: usize, units: usize) -> Vec<u8> {
     (0..units).map(|unit| mark(rng, unit) as u8).collect()
 }
 
-fn marked(rng: &mut Rng, picture: Picture) -> Picture {
+pub fn marked(rng: &mut Rng, picture: Picture) -> Picture {
     let keep = marks(rng, picture.w, picture.words.len());
     Picture { keep, ..picture }
 }

@@ -3,6 +3,7 @@ pub mod avail;
 mod bands;
 pub mod bands_cases;
 mod bands_refusals;
+pub mod by_rows;
 pub mod chroma_qp;
 mod data;
 pub mod deblock;

@@ -12,8 +12,8 @@ pub mod pack;
 pub mod predict;
 pub mod ranks;
 pub mod residual;
-pub mod screen;
 pub mod rows;
+pub mod screen;
 pub mod sheet;
 pub mod streams;
 pub mod tree;
@@ -38,7 +38,6 @@ pub const KEEP: u32 = 15;
 pub const BITS: u32 = 16;
 pub const STREAM: u32 = 17;
 pub const SHORT: u32 = 18;
-#[cfg(feature = "archive")]
 pub const ROWS: u32 = 19;
 pub const OLD: u32 = 20;
 pub const WINDOW: u32 = 21;
