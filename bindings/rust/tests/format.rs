@@ -26,247 +26,67 @@ const STRENGTHS: [u8; 208] = [3; 208];
 const MOTION: [i16; 16] = [0; 16];
 const REFS: [i8; 8] = [0; 8];
 const LUMA: [u16; 64] = [9; 64];
+const NO_TABLE: [i8; 0] = [];
+const NO_RESIDUAL: [i16; 0] = [];
+/// A block that is predicted by DC at QP 51, without a residual.
+const LEAF: [u8; 4] = [0, 51, 0, 0];
 
-// In each call below a pointer comes from a slice that lives through it, with its own length, or from a local.
+/// A call of the archive: its arguments as they are, or slices that it writes (mut) or reads (ref), each its pointer and its length. A pointer comes
+/// from a slice that lives through the call, or from a local.
+macro_rules! call {
+    ($name:ident [$($done:expr),*]) => { unsafe { sys::$name($($done),*) } };
+    ($name:ident [$($done:expr),*] mut ($($slice:expr),*) $($rest:tt)*) => {
+        call!($name [$($done,)* $($slice.as_mut_ptr(), $slice.len()),*] $($rest)*)
+    };
+    ($name:ident [$($done:expr),*] ref ($($slice:expr),*) $($rest:tt)*) => {
+        call!($name [$($done,)* $($slice.as_ptr(), $slice.len()),*] $($rest)*)
+    };
+    ($name:ident [$($done:expr),*] ($($value:expr),*) $($rest:tt)*) => {
+        call!($name [$($done,)* $($value),*] $($rest)*)
+    };
+}
 
 fn deblock(p: &mut Grey) -> u8 {
-    let (table, mut vertical, mut horizontal) = ([0i8; 0], 0, 0);
-    unsafe {
-        sys::lomsakeun_deblock(
-            8,
-            8,
-            p.y.as_mut_ptr(),
-            p.y.len(),
-            p.u.as_mut_ptr(),
-            p.u.len(),
-            p.v.as_mut_ptr(),
-            p.v.len(),
-            p.words.as_mut_ptr(),
-            p.words.len(),
-            SPLITS.as_ptr(),
-            SPLITS.len(),
-            MOTION.as_ptr(),
-            MOTION.len(),
-            REFS.as_ptr(),
-            REFS.len(),
-            p.keep.as_ptr(),
-            p.keep.len(),
-            table.as_ptr(),
-            0,
-            table.as_ptr(),
-            0,
-            STRENGTHS.as_ptr(),
-            STRENGTHS.len(),
-            6,
-            0,
-            0,
-            false,
-            &mut vertical,
-            &mut horizontal,
-        )
-    }
+    let (mut m, mut n) = (0, 0);
+    call!(lomsakeun_deblock [8, 8] mut (p.y, p.u, p.v, p.words) ref (SPLITS, MOTION, REFS, p.keep, NO_TABLE, NO_TABLE, STRENGTHS)
+        (6, 0, 0, false, &mut m, &mut n))
 }
 
 /// By a map of rows: 3 between units at rest, and none at the picture's sides.
 fn deblock_by_rows(p: &mut Grey) -> u8 {
-    let (table, rows, mut vertical, mut horizontal) = ([0i8; 0], [0, 3, 12, 15], 0, 0);
-    unsafe {
-        sys::lomsakeun_deblock_by_rows(
-            8,
-            8,
-            p.y.as_mut_ptr(),
-            p.y.len(),
-            p.u.as_mut_ptr(),
-            p.u.len(),
-            p.v.as_mut_ptr(),
-            p.v.len(),
-            p.words.as_mut_ptr(),
-            p.words.len(),
-            SPLITS.as_ptr(),
-            SPLITS.len(),
-            MOTION.as_ptr(),
-            MOTION.len(),
-            REFS.as_ptr(),
-            REFS.len(),
-            p.keep.as_ptr(),
-            p.keep.len(),
-            rows.as_ptr(),
-            rows.len(),
-            table.as_ptr(),
-            0,
-            table.as_ptr(),
-            0,
-            STRENGTHS.as_ptr(),
-            STRENGTHS.len(),
-            6,
-            0,
-            0,
-            false,
-            &mut vertical,
-            &mut horizontal,
-        )
-    }
+    let (rows, mut m, mut n) = ([0u8, 3, 12, 15], 0, 0);
+    call!(lomsakeun_deblock_by_rows [8, 8] mut (p.y, p.u, p.v, p.words)
+        ref (SPLITS, MOTION, REFS, p.keep, rows, NO_TABLE, NO_TABLE, STRENGTHS) (6, 0, 0, false, &mut m, &mut n))
 }
 
 fn deblock_band(p: &mut Grey) -> u8 {
-    let (table, mut next, mut vertical, mut horizontal) = ([0i8; 0], 0, 0, 0);
-    unsafe {
-        sys::lomsakeun_deblock_band(
-            &mut next,
-            0,
-            8,
-            8,
-            p.y.as_mut_ptr(),
-            p.y.len(),
-            p.u.as_mut_ptr(),
-            p.u.len(),
-            p.v.as_mut_ptr(),
-            p.v.len(),
-            p.words.as_mut_ptr(),
-            p.words.len(),
-            SPLITS.as_ptr(),
-            SPLITS.len(),
-            MOTION.as_ptr(),
-            MOTION.len(),
-            REFS.as_ptr(),
-            REFS.len(),
-            p.keep.as_ptr(),
-            p.keep.len(),
-            table.as_ptr(),
-            0,
-            table.as_ptr(),
-            0,
-            STRENGTHS.as_ptr(),
-            STRENGTHS.len(),
-            6,
-            0,
-            0,
-            false,
-            &mut vertical,
-            &mut horizontal,
-        )
-    }
+    let (mut next, mut m, mut n) = (0, 0, 0);
+    call!(lomsakeun_deblock_band [&mut next, 0, 8, 8] mut (p.y, p.u, p.v, p.words)
+        ref (SPLITS, MOTION, REFS, p.keep, NO_TABLE, NO_TABLE, STRENGTHS) (6, 0, 0, false, &mut m, &mut n))
 }
 
-/// The block predicted by DC, without a residual; the lent prediction has no chroma.
+/// The lent prediction has no chroma.
 fn reconstruct(p: &mut Grey) -> u8 {
-    let (leaves, residual, none) = ([0, 51, 0, 0], [0i16; 0], [0u16; 0]);
-    unsafe {
-        sys::lomsakeun_reconstruct(
-            8,
-            8,
-            false,
-            SPLITS.as_ptr(),
-            SPLITS.len(),
-            leaves.as_ptr(),
-            leaves.len(),
-            residual.as_ptr(),
-            0,
-            LUMA.as_ptr(),
-            LUMA.len(),
-            none.as_ptr(),
-            0,
-            none.as_ptr(),
-            0,
-            false,
-            p.y.as_mut_ptr(),
-            p.y.len(),
-            p.u.as_mut_ptr(),
-            p.u.len(),
-            p.v.as_mut_ptr(),
-            p.v.len(),
-            p.words.as_mut_ptr(),
-            p.words.len(),
-            p.modes.as_mut_ptr(),
-            p.modes.len(),
-            p.keep.as_mut_ptr(),
-            p.keep.len(),
-        )
-    }
+    let none = [0u16; 0];
+    call!(lomsakeun_reconstruct [8, 8, false] ref (SPLITS, LEAF, NO_RESIDUAL, LUMA, none, none) (false)
+        mut (p.y, p.u, p.v, p.words, p.modes, p.keep))
 }
 
-/// The same picture as above, and U and V lent to be predicted from.
+/// U and V are lent to be predicted from, and there are none to be written.
 fn reconstruct_from(p: &mut Grey) -> u8 {
-    let (leaves, residual, mut none) = ([0, 51, 0, 0], [0i16; 0], [0u16; 0]);
-    unsafe {
-        sys::lomsakeun_reconstruct(
-            8,
-            8,
-            false,
-            SPLITS.as_ptr(),
-            SPLITS.len(),
-            leaves.as_ptr(),
-            leaves.len(),
-            residual.as_ptr(),
-            0,
-            LUMA.as_ptr(),
-            LUMA.len(),
-            p.u.as_ptr(),
-            p.u.len(),
-            p.v.as_ptr(),
-            p.v.len(),
-            false,
-            p.y.as_mut_ptr(),
-            p.y.len(),
-            none.as_mut_ptr(),
-            0,
-            none.as_mut_ptr(),
-            0,
-            p.words.as_mut_ptr(),
-            p.words.len(),
-            p.modes.as_mut_ptr(),
-            p.modes.len(),
-            p.keep.as_mut_ptr(),
-            p.keep.len(),
-        )
-    }
+    let (mut no_u, mut no_v) = ([0u16; 0], [0u16; 0]);
+    call!(lomsakeun_reconstruct [8, 8, false] ref (SPLITS, LEAF, NO_RESIDUAL, LUMA, p.u, p.v) (false)
+        mut (p.y, no_u, no_v, p.words, p.modes, p.keep))
 }
 
 fn write_frame(p: &mut Grey) -> u8 {
-    unsafe {
-        sys::lomsakeun_write_frame(
-            false,
-            8,
-            8,
-            p.y.as_ptr(),
-            p.y.len(),
-            p.u.as_ptr(),
-            p.u.len(),
-            p.v.as_ptr(),
-            p.v.len(),
-            p.out.as_mut_ptr(),
-            p.out.len(),
-        )
-    }
+    call!(lomsakeun_write_frame [false, 8, 8] ref (p.y, p.u, p.v) mut (p.out))
 }
 
 fn ward_row(p: &mut Grey) -> u8 {
-    let (mut plane, mut row, mut written) = (0, 0, 0);
-    unsafe {
-        sys::lomsakeun_ward_row(
-            false,
-            &mut plane,
-            &mut row,
-            0,
-            0,
-            false,
-            8,
-            8,
-            p.y.as_ptr(),
-            p.y.len(),
-            p.u.as_ptr(),
-            p.u.len(),
-            p.v.as_ptr(),
-            p.v.len(),
-            0,
-            0,
-            8,
-            8,
-            p.out.as_mut_ptr(),
-            8,
-            &mut written,
-        )
-    }
+    let (row, mut plane_turn, mut row_turn, mut written) = (&mut p.out[..8], 0, 0, 0);
+    call!(lomsakeun_ward_row [false, &mut plane_turn, &mut row_turn, 0, 0, false, 8, 8] ref (p.y, p.u, p.v) (0, 0, 8, 8) mut (row)
+        (&mut written))
 }
 
 /// What each call answers for U and V of these lengths; where it refuses, nothing was written.
