@@ -121,7 +121,7 @@ Written by `tools/compare/run FOLDER bench docs`, where FOLDER holds revc's `src
 
 const READING: &str = "Nanoseconds a sample, square pictures of these sides: the Rust, the product, and how many times as fast the product is. Deblocking and residual addition count the samples of all three planes, the rest those of luma.
 
-The Rust has no block driver: beside it stand the Rust's own calls for each leaf, all three components, the list of leaves made before. In its rows and in those of residual addition both sides read one list of residuals, as long as the picture. There, and in gathering, both sides' planes have rows that lie equally far apart: the Rust's are made without their margin. In deblocking they have it, 80 samples on each side, as the Rust makes them.
+The Rust has no block driver: beside it stand the Rust's own calls for each leaf, all three components, the list of leaves made before. In its rows and in those of residual addition both sides read one list of residuals, as long as the picture, and write planes whose rows lie equally far apart: the Rust's are made without their margin there. In gathering and deblocking they have it, 80 samples on each side of luma, as the Rust makes them.
 
 Deblocking over 1024 by 1024 the Rust's 16-bit unit index wraps, so it does about as much work, but not on the right units; its numbers there only show the growth.
 

@@ -42,8 +42,7 @@ pub fn gather(
     Some(())
 }
 
-/// A luma plane and the unit words in the Rust's own shapes, so that calls can be measured without the conversion. The plane has no margin, so that
-/// its rows lie as far apart as the product's.
+/// A luma plane and the unit words in the Rust's own shapes, so that calls can be measured without the conversion.
 pub struct Prepared {
     size: (usize, usize),
     frame: Frame<pel>,
@@ -52,7 +51,7 @@ pub struct Prepared {
 
 impl Prepared {
     pub fn new((w, h): (usize, usize), plane: &[u16], words: &[u32]) -> Prepared {
-        let mut frame = Frame::<pel>::flat(w, h, ChromaSampling::Cs420);
+        let mut frame = Frame::<pel>::new(w, h, ChromaSampling::Cs420);
         planes::fill(&mut frame.planes[Y_C], w, plane);
         Prepared { size: (w, h), frame, map: map_of(words) }
     }
