@@ -118,3 +118,25 @@ fn the_header_names_the_numbers() {
     }
     assert!(text.contains("LOMSAKEUN_DONE = 0"));
 }
+
+/// The header's table of what is lent names every slice of every call, and every call that is told a format.
+#[test]
+fn the_header_tells_what_is_lent() {
+    let text = fs::read_to_string(here().join("../../include/decoder.h")).unwrap();
+    let (_, table) = text.split_once("/* What is lent").unwrap();
+    let (table, _) = table.split_once("*/").unwrap();
+    let (formats, _) = table.split_once("A grey picture").unwrap();
+    let words = |text: &str| -> Vec<String> {
+        text.split(|c: char| !c.is_alphanumeric() && c != '_').map(String::from).collect()
+    };
+    let (named, told) = (words(table), words(formats));
+    for call in exported() {
+        let short = call.name.strip_prefix("lomsakeun_").unwrap().to_string();
+        let coloured = call.parameters.contains(&("colour".into(), "bool".into()));
+        assert_eq!(told.contains(&short), coloured, "{short} among the calls that are told a format");
+        for (name, kind) in &call.parameters {
+            let slice = behind(kind).is_some_and(|(_, slice, _)| slice);
+            assert!(!slice || named.contains(name), "the table lacks {name} of {short}");
+        }
+    }
+}
