@@ -84,7 +84,8 @@ module _ (t : Turn) (w : ℕ) (c : Window) where
         let m = inPlane (t .plane) (c .bottom - c .top) in
         let put : out′ ≡ withRow 0 0 (across (t .run) n) (sampleAt (t .run) s x y (t .row) p) out = g ∙ rw (not-false b q) in
         let full : out′ ≡ rowInto t w c p out =
-        rw (en, es, ex, ey) at put ∙ row-alike _ _ _ out (λ j lj. sym (row-shown (inPlane (t .plane) w) (inPlane (t .plane) (c .left)) (inPlane (t .plane) (c .top)) (inPlane (t .plane) (c .right - c .left)) m p (t .run) (t .row) j l lj)) in
+        rw (en, es, ex, ey) at put ∙ row-alike _ _ _ out
+        (λ j lj. sym (row-shown (inPlane (t .plane) w) (inPlane (t .plane) (c .left)) (inPlane (t .plane) (c .top)) (inPlane (t .plane) (c .right - c .left)) m p (t .run) (t .row) j l lj)) in
         let count : k ≡ columnsOf (t .run) c (t .plane) = ek ∙ ap (across (t .run)) en in
         rw (e, full, en′, count)
 
@@ -172,4 +173,6 @@ module _ (i : Input) (found : Answer)
   unfolding outcome
   row-given q p d o g =
       g ∙ ap (λ (l : List ℕ). given (i .turn) (i .w) (i .window) l (i .out)) d
-      ∙ rw (gone (i .turn) (i .plane) (i .row) (i .format) (i .w) (i .h) (length (i .y)) (length (i .u)) (length (i .v)) (i .window) (length (i .out)) (all-passed q) (unless (rowOk (i .turn) (i .w) (i .window) (lentPlane i)) (No Sample) Done))
+      ∙ rw
+      (gone (i .turn) (i .plane) (i .row) (i .format) (i .w) (i .h) (length (i .y)) (length (i .u)) (length (i .v)) (i .window) (length (i .out)) (all-passed q)
+      (unless (rowOk (i .turn) (i .w) (i .window) (lentPlane i)) (No Sample) Done))

@@ -5,6 +5,7 @@ pub mod Planes
 pub mod Promises
 pub mod Runs
 pub mod Stores
+pub mod Sums
 pub mod Takes
 pub mod Turns
 pub mod Whole

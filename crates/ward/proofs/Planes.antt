@@ -1,6 +1,6 @@
 -- What is shown of a plane: cropping and converting commute; larger input never gives smaller output; a sample of the preview lies between the least and the
 -- greatest of its four; and each row that a run gives is that row of what it shows.
---     screened-small, screened-mono, quarter-mono, quarter-least, quarter-greatest    a sample
+--     screened-small, screened-over, screened-under, screened-mono, quarter-mono, quarter-least, quarter-greatest    a sample
 --     commute, convert-mono, crop-mono, half-mono, shown-mono, half-least, half-greatest    a plane
 --     length-shown, row-shown    the rows
 --     faithful    all of this together
@@ -35,6 +35,12 @@ by-held v P f g = go (ltb 255 ((v + 2) / 4)) refl where
 
 pub screened-small : (v : ℕ) → screened v ≤ 255
 screened-small v = by-held v (λ n. n ≤ 255) (λ p. omega arith) (λ p. p)
+
+pub screened-over : (v : ℕ) → 255 < (v + 2) / 4 → 255 ≡ screened v
+screened-over v h = by-held v (λ n. 255 ≡ n) (λ p. refl) (λ p. omega arith)
+
+pub screened-under : (v : ℕ) → (v + 2) / 4 ≤ 255 → (v + 2) / 4 ≡ screened v
+screened-under v h = by-held v (λ n. (v + 2) / 4 ≡ n) (λ p. omega arith) (λ p. refl)
 
 pub screened-mono : (u v : ℕ) → u ≤ v → screened u ≤ screened v
 screened-mono u v l =

@@ -13,7 +13,7 @@ use lib.Seq.{ext-getD, getD-take, getD-drop}
 use Rattle.laws.specs.Plane.{withRow}
 use Rattle.laws.specs.Scan.{allBelow}
 use Rattle.laws.proofs.Flat.{next-row}
-use Rattle.laws.proofs.Parts.{scan-alike}
+use Rattle.laws.proofs.Parts.{rowed-part, scan-alike}
 use Rattle.laws.proofs.Planes.{Rowed, rowed-more, getD-row, length-row, within-yes, within-high}
 use Rattle.laws.proofs.ScanAll.{scan-pass}
 use Rattle.laws.proofs.Scans.{scan-at}
@@ -43,6 +43,10 @@ run-small p from n e j l = leb-true (getD p (from + j) 0) 1023 (scan-at (λ (i :
 -- one store more, from the first place on
 pub first-more : (g : ℕ → ℕ) (l₀ l : List ℕ) (c v : ℕ) → c < length l₀ → v ≡ g c → Rowed 0 0 g l₀ l c → Rowed 0 0 g l₀ (set l c v) (c + 1)
 first-more g l₀ l c v h e r = subst (λ (z : ℕ). Rowed 0 0 g l₀ (set l z v) (c + 1)) (zero-add c) (rowed-more 0 0 g l₀ l c v (omega arith) e r)
+
+-- and a part more
+pub first-part : (g : ℕ → ℕ) (l₀ l : List ℕ) (c m : ℕ) (f : ℕ → ℕ) → c + m ≤ length l₀ → ((j : ℕ) → j < m → f j ≡ g (c + j)) → Rowed 0 0 g l₀ l c → Rowed 0 0 g l₀ (withRow 0 c m f l) (c + m)
+first-part g l₀ l c m f h s r = subst (λ (z : ℕ). Rowed 0 0 g l₀ (withRow 0 z m f l) (c + m)) (zero-add c) (rowed-part 0 0 g l₀ l c m f (omega arith) s r)
 
 -- rows of samples that agree
 pub row-alike : (n : ℕ) (f g : ℕ → ℕ) (l : List ℕ) → ((j : ℕ) → j < n → f j ≡ g j) → withRow 0 0 n f l ≡ withRow 0 0 n g l

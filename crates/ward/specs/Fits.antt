@@ -1,7 +1,7 @@
 -- What the functions behind the call are lent, and what they give, place by place.
 -- Assumes nothing: these are definitions.
 use mathlib.Core.List.{List}
-use Prim.Native.Nat.{ℕ, _+_, _-_, _*_, _≤_, _<_}
+use Prim.Native.Nat.{ℕ, _+_, _-_, _*_, _/_, _≤_, _<_}
 use lib.ListN.{getD}
 use Rattle.ward.specs.Screen.{screened, quarter, across}
 use Rattle.ward.specs.Turns.{inPlane, rowsOf}
@@ -17,6 +17,14 @@ Small p from n = (j : ℕ) → j < n → getD p (from + j) 0 ≤ 1023
 -- a sample of the preview, from two samples at each of two places of a plane that is not converted yet
 abbrev pub quarterAt : List ℕ → (upper lower : ℕ) → ℕ
 quarterAt p upper lower = quarter (screened (getD p upper 0)) (screened (getD p (upper + 1) 0)) (screened (getD p lower 0)) (screened (getD p (lower + 1) 0))
+
+-- the two samples of a column, on the screen and added
+abbrev pub columnAt : List ℕ → (upper lower j : ℕ) → ℕ
+columnAt p upper lower j = screened (getD p (upper + j) 0) + screened (getD p (lower + j) 0)
+
+-- a sample of the preview, from the sums of its two columns
+abbrev pub pairOf : List ℕ → ℕ → ℕ
+pairOf sums j = (getD sums (2 * j) 0 + getD sums (2 * j + 1) 0 + 2) / 4
 
 -- sample j of row r of what a run shows of the columns at column x, row y of a plane of rows of w
 abbrev pub sampleAt : Run → (w x y r : ℕ) → List ℕ → ℕ → ℕ

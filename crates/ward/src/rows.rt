@@ -1,33 +1,35 @@
 // A row of what a run shows, from the samples of a plane: one row of them, or two for a preview.
 ghost use mathlib.Core.Path.{_≡_};
 ghost use mathlib.Core.Bool.{true, false};
-ghost use Prim.Native.Nat.{_+_, _*_, _/_, _≤_, _<_};
+ghost use Prim.Native.Nat.{ℕ, _+_, _*_, _/_, _≤_, _<_};
 ghost use lib.ListN.{length, getD};
-ghost use Rattle.laws.specs.Index.{pick};
+ghost use Rattle.laws.specs.Index.{pick, tabulate};
 ghost use Rattle.laws.specs.Plane.{withRow};
 ghost use Rattle.ward.specs.Screen.{screened, quarter, across, runOk, madeOk};
-ghost use Rattle.ward.specs.Fits.{Small, Within, quarterAt, sampleAt};
+ghost use Rattle.ward.specs.Fits.{Small, Within, quarterAt, columnAt, pairOf, sampleAt};
 use crate::Run;
 
 // ---- a sample
 
-// A 10-bit sample on the screen: (v + 2) / 4, held at 255.
-fn screen(v: u16) -> u8
+// A 10-bit sample on the screen: (v + 2) / 4, held at 255. In 16 bits, so that a compiler takes eight at a time. The sum does not wrap; where the compiler is
+// not told so, it compares q and not v, and the hold is a minimum, one instruction for all eight.
+fn screen(v: u16) -> u16
     requires { ⌜ v ≤ 1023 ⌝ }
-    ensures { λ r. ⌜ r ≡ screened v ⌝ }
+    ensures { λ r. ⌜ (r ≡ screened v) × (r ≤ 255) ⌝ }
 {
-    let q = (v + 2) / 4;
+    let q = std::num::wrapping_add_u16(v, 2) / 4;
     if 255 < q {
         return 255;
     }
-    q as u8
+    q
 }
 
 // What four samples come to in the preview.
-fn quarter_of(a: u8, b: u8, c: u8, d: u8) -> u8
+fn quarter_of(a: u16, b: u16, c: u16, d: u16) -> u8
+    requires { ⌜ (a ≤ 255) × (b ≤ 255) × (c ≤ 255) × (d ≤ 255) ⌝ }
     ensures { λ r. ⌜ r ≡ quarter a b c d ⌝ }
 {
-    ((a as u16 + b as u16 + c as u16 + d as u16 + 2) / 4) as u8
+    ((a + b + c + d + 2) / 4) as u8
 }
 
 // A sample of the preview, from two samples at each of two places.
@@ -60,22 +62,63 @@ fn put_full(p: &[u16], from: usize, n: usize, out: &mut [u8])
 {
     let mut i = 0;
     while i < n {
-        out[i] = screen(p[from + i]);
+        out[i] = screen(p[from + i]) as u8;
         i += 1;
     }
 }
 
-// n samples of the preview, from twice as many at each of two places, put first into a row.
+// The samples of two rows on the screen, added column by column: of 32 columns.
+fn column_sums(p: &[u16], upper: usize, lower: usize) -> [u16; 32]
+    requires { ⌜ Small (now p) upper 32 × Small (now p) lower 32 × (upper + 32 ≤ length (now p)) × (lower + 32 ≤ length (now p)) ⌝ }
+    ensures { λ r. ⌜ r ≡ tabulate 32 (columnAt (now (p .entry)) upper lower) ⌝ }
+{
+    let mut sums = [0u16; 32];
+    let mut i = 0;
+    while i < 32 {
+        sums[i] = screen(p[upper + i]) + screen(p[lower + i]);
+        i += 1;
+    }
+    sums
+}
+
+// 16 samples of the preview, each from the sums of two columns, put into a row from a place on.
+fn put_sums(sums: [u16; 32], at: usize, out: &mut [u8])
+    requires { ⌜ ((i : ℕ) → getD sums i 0 ≤ 510) × (at + 16 ≤ length (now out)) ⌝ }
+    ensures { λ _. ⌜ now (out .exit) ≡ withRow 0 at 16 (pairOf sums) (now (out .entry)) ⌝ }
+{
+    let mut i = 0;
+    while i < 16 {
+        out[at + i] = ((sums[2 * i] + sums[2 * i + 1] + 2) / 4) as u8;
+        i += 1;
+    }
+}
+
+// n samples of the preview, from twice as many at each of two places, put into a row from a place on, one by one.
+fn put_singly(p: &[u16], upper: usize, lower: usize, n: usize, at: usize, out: &mut [u8])
+    requires { ⌜ Small (now p) upper (2 * n) × Small (now p) lower (2 * n)
+        × (upper + 2 * n ≤ length (now p)) × (lower + 2 * n ≤ length (now p)) × (at + n ≤ length (now out)) ⌝ }
+    ensures { λ _. ⌜ now (out .exit) ≡ withRow 0 at n (λ j. quarterAt (now (p .entry)) (upper + 2 * j) (lower + 2 * j)) (now (out .entry)) ⌝ }
+{
+    let mut i = 0;
+    while i < n {
+        out[at + i] = preview_sample(p, upper + 2 * i, lower + 2 * i);
+        i += 1;
+    }
+}
+
+// n samples of the preview, from twice as many at each of two places, put first into a row. Sixteen at a time, as long as there are so many: of the columns,
+// which lie side by side, a compiler takes eight at once.
 fn put_preview(p: &[u16], from: usize, below: usize, n: usize, out: &mut [u8])
     requires { ⌜ Small (now p) from (2 * n) × Small (now p) below (2 * n)
         × (from + 2 * n ≤ length (now p)) × (below + 2 * n ≤ length (now p)) × (n ≤ length (now out)) ⌝ }
     ensures { λ _. ⌜ now (out .exit) ≡ withRow 0 0 n (λ j. quarterAt (now (p .entry)) (from + 2 * j) (below + 2 * j)) (now (out .entry)) ⌝ }
 {
     let mut i = 0;
-    while i < n {
-        out[i] = preview_sample(p, from + 2 * i, below + 2 * i);
-        i += 1;
+    while 16 <= n - i {
+        put_sums(column_sums(p, from + 2 * i, below + 2 * i), i, out);
+        i += 16;
     }
+    put_singly(p, from + 2 * i, below + 2 * i, n - i, i, out);
 }
 
 // Row `row` of the n columns at column x, row y of a plane, as a run shows it; or nothing, where one of the samples that it is made of is over 1023.

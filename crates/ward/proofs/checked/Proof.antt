@@ -26,23 +26,28 @@ returns-2 c =
 returns-3 : tie.Need-returns-3
 returns-3 c =
     let a = c .before .before .before .before .before .before .args in
-    at-window (a .t) (a .plane) (a .row) (a .format) (a .w) (a .h) (a .y) (a .u) (a .v) (a .c) (a .out) Done _ (c .before .before .before .before .before .size-ok .ensures) (c .before .before .before .before .if1 .left)
+    at-window (a .t) (a .plane) (a .row) (a .format) (a .w) (a .h) (a .y) (a .u) (a .v) (a .c) (a .out) Done _ (c .before .before .before .before .before .size-ok .ensures)
+    (c .before .before .before .before .if1 .left)
     _ (c .before .before .before .lengths-ok .ensures) (c .before .before .if2 .left) _ (c .before .window-ok .ensures) (c .if3 .taken)
 
 turn-ok-requires : tie.Need-turn-ok-requires
-turn-ok-requires c κs = inside (c .before .before .before .before .before .before .args .c) (c .before .before .before .before .before .before .args .w) (c .before .before .before .before .before .before .args .h) (sym (c .before .window-ok .ensures) ∙ not-false _ (c .if3 .left)) .rows
+turn-ok-requires c κs =
+    inside (c .before .before .before .before .before .before .args .c) (c .before .before .before .before .before .before .args .w) (c .before .before .before .before .before .before .args .h)
+    (sym (c .before .window-ok .ensures) ∙ not-false _ (c .if3 .left)) .rows
 
 returns-4 : tie.Need-returns-4
 returns-4 c =
     let a = c .before .before .before .before .before .before .before .before .args in
-    at-turn (a .t) (a .plane) (a .row) (a .format) (a .w) (a .h) (a .y) (a .u) (a .v) (a .c) (a .out) Done _ (c .before .before .before .before .before .before .before .size-ok .ensures) (c .before .before .before .before .before .before .if1 .left)
+    at-turn (a .t) (a .plane) (a .row) (a .format) (a .w) (a .h) (a .y) (a .u) (a .v) (a .c) (a .out) Done _ (c .before .before .before .before .before .before .before .size-ok .ensures)
+    (c .before .before .before .before .before .before .if1 .left)
     _ (c .before .before .before .before .before .lengths-ok .ensures) (c .before .before .before .before .if2 .left) _ (c .before .before .before .window-ok .ensures) (c .before .before .if3 .left)
     _ (c .before .turn-ok .ensures) (c .if4 .taken)
 
 returns-5 : tie.Need-returns-5
 returns-5 c =
     let a = c .before .before .before .before .before .before .before .before .args in
-    at-end (a .t) (a .plane) (a .row) (a .format) (a .w) (a .h) (a .y) (a .u) (a .v) (a .c) (a .out) Done _ (c .before .before .before .before .before .before .before .size-ok .ensures) (c .before .before .before .before .before .before .if1 .left)
+    at-end (a .t) (a .plane) (a .row) (a .format) (a .w) (a .h) (a .y) (a .u) (a .v) (a .c) (a .out) Done _ (c .before .before .before .before .before .before .before .size-ok .ensures)
+    (c .before .before .before .before .before .before .if1 .left)
     _ (c .before .before .before .before .before .lengths-ok .ensures) (c .before .before .before .before .if2 .left) _ (c .before .before .before .window-ok .ensures) (c .before .before .if3 .left)
     _ (c .before .turn-ok .ensures) (c .if4 .left)
 

@@ -10,7 +10,8 @@ use Rattle.ward.proofs.plane_length.Tie as tie
 mul-result : tie.Need-mul-result
 mul-result c =
     let s = c .before .before .before .before in
-    omega (arith, length-fits (c .before .in-plane .result) (c .in-plane2 .result) (s .args .k) (s .args .w) (s .args .h) (c .before .in-plane .ensures) (c .in-plane2 .ensures) (s .pre .0) (s .pre .1))
+    omega
+    (arith, length-fits (c .before .in-plane .result) (c .in-plane2 .result) (s .args .k) (s .args .w) (s .args .h) (c .before .in-plane .ensures) (c .in-plane2 .ensures) (s .pre .0) (s .pre .1))
 
 returns : tie.Need-returns
 returns c =

@@ -6,7 +6,13 @@ use Rattle.ward.proofs.turn_ok.Tie as tie
 
 returns : tie.Need-returns
 unfolding turnOk
-returns c = rw (c .before .before .before .before .across-run .ensures, c .before .before .before .before .before .in-plane .ensures, c .before .before .before .before .before .before .before .planes-of .ensures)
+returns c =
+    rw (
+      c .before .before .before .before .across-run .ensures,
+      c .before .before .before .before .before .in-plane .ensures,
+      c .before .before .before .before .before .before .before .planes-of
+          .ensures,
+    )
 
 pub turn-ok-spec : {M : Type 1} → statement M
 turn-ok-spec = tie.close (tie.spec (λ c κs. search needs) (λ c. search needs) (λ c κs. search needs) (λ c κs. search needs) returns)

@@ -8,21 +8,27 @@ use Rattle.ward.proofs.Turn.given.Tie as tie
 put-row-requires : tie.Need-put-row-requires
 put-row-requires c κs =
     let a = c .before .before .before .before .before .before .before .before .args in
-    within (a .self) (a .w) (a .c) (c .before .before .before .before .before .before .before .before .pre) _ _ _ _ (c .before .before .before .before .in-plane .ensures) (c .before .before .before .in-plane2 .ensures) (c .before .before .in-plane3 .ensures) (c .before .in-plane4 .ensures)
+    within (a .self) (a .w) (a .c) (c .before .before .before .before .before .before .before .before .pre) _ _ _ _ (c .before .before .before .before .in-plane .ensures)
+    (c .before .before .before .in-plane2 .ensures) (c .before .before .in-plane3 .ensures) (c .before .in-plane4 .ensures)
 
 returns : tie.Need-returns
 returns c =
     let a = c .before .before .before .before .before .before .before .before .before .before .before .before .args in
     let put = c .before .before .before .put-row .ensures in
-    given-no (a .self) (a .w) (a .c) (now (a .p)) _ _ _ _ _ (c .before .before .before .before .before .before .before .before .in-plane .ensures) (c .before .before .before .before .before .before .before .in-plane2 .ensures) (c .before .before .before .before .before .before .in-plane3 .ensures) (c .before .before .before .before .before .in-plane4 .ensures)
+    given-no (a .self) (a .w) (a .c) (now (a .p)) _ _ _ _ _ (c .before .before .before .before .before .before .before .before .in-plane .ensures)
+    (c .before .before .before .before .before .before .before .in-plane2 .ensures) (c .before .before .before .before .before .before .in-plane3 .ensures)
+    (c .before .before .before .before .before .in-plane4 .ensures)
     _ (put .0) _ (put .1) (c .if1 .taken)
 
 returns-2 : tie.Need-returns-2
 returns-2 c =
     let a = c .before .before .before .before .before .before .before .before .before .before .before .before .before .before .args in
     let put = c .before .before .before .before .before .put-row .ensures in
-    given-yes (a .self) (a .w) (a .c) (now (a .p)) _ _ _ _ _ (c .before .before .before .before .before .before .before .before .before .before .in-plane .ensures) (c .before .before .before .before .before .before .before .before .before .in-plane2 .ensures) (c .before .before .before .before .before .before .before .before .in-plane3 .ensures) (c .before .before .before .before .before .before .before .in-plane4 .ensures)
-    _ (put .0) _ (put .1) (c .before .before .if1 .left) (c .before .before .before .before .before .before .before .before .before .before .before .before .before .before .pre .row) _ _ (c .before .after .ensures) (c .across-run .ensures)
+    given-yes (a .self) (a .w) (a .c) (now (a .p)) _ _ _ _ _ (c .before .before .before .before .before .before .before .before .before .before .in-plane .ensures)
+    (c .before .before .before .before .before .before .before .before .before .in-plane2 .ensures) (c .before .before .before .before .before .before .before .before .in-plane3 .ensures)
+    (c .before .before .before .before .before .before .before .in-plane4 .ensures)
+    _ (put .0) _ (put .1) (c .before .before .if1 .left) (c .before .before .before .before .before .before .before .before .before .before .before .before .before .before .pre .row) _ _
+    (c .before .after .ensures) (c .across-run .ensures)
 
 pub given-spec : {M : Type 1} → statement M
 given-spec =

@@ -87,7 +87,8 @@ returns-3 : tie.Need-returns-3
 returns-3 c =
     let i = input (c .before .before .before .before .before .before .before .before .before .before .before .before) in
     row-given i _ (c .before .before .before .before .before .before .before .checked .ensures) (c .before .before .before .before .before .enum-told .given .1) _
-    (lent-1 (i .y) (i .u) (i .v) (i .turn .plane) (same i (asked (c .before .before .before .before .before)) ∙ c .before .before .before .before .match2 .keys2)) _ (c .before .before .given2 .ensures)
+    (lent-1 (i .y) (i .u) (i .v) (i .turn .plane) (same i (asked (c .before .before .before .before .before)) ∙ c .before .before .before .before .match2 .keys2)) _
+    (c .before .before .given2 .ensures)
 
 returns-4 : tie.Need-returns-4
 returns-4 c =

@@ -1,6 +1,7 @@
 -- `ward::rows::put_full` meets its contract: a turn stores one sample more. Assumes nothing.
 use Prim.Native.Nat.{ℕ, _+_, _-_, _≤_}
 use native.Mathlib.Omega.{arith}
+use borrow.Author.Needs.{needs}
 use lib.ListN.{getD}
 use Rattle.laws.proofs.Planes.{Rowed, rowed-none, rowed-all}
 use Rattle.ward.specs.Screen.{screened}
@@ -20,7 +21,7 @@ screen-requires c κs = c .before .before .before .before .before .pre .0 (c .be
 loop-again : tie.Need-loop-again Inv-loop μ-loop
 loop-again c =
     let h = c .before .before .before .loop in
-    (omega arith, first-more _ _ _ (h .i) _ (omega arith) (c .screen .ensures) (h .inv .1))
+    (omega arith, first-more _ _ _ (h .i) _ (omega arith) (c .screen .ensures .0) (h .inv .1))
 
 returns : tie.Need-returns Inv-loop μ-loop
 returns c = rowed-all _ _ _ _ _ _ (c .before .loop .i) (omega arith) (c .before .loop .inv .1)
@@ -29,4 +30,4 @@ pub put-full-spec : {M : Type 1} → statement M
 put-full-spec =
     tie.close
     (tie.spec Inv-loop μ-loop (λ c. (omega arith, rowed-none _ _ _ _)) (λ c. omega arith) (λ c. omega arith) (λ c. omega arith) screen-requires
-    (λ c. omega (arith, c .before .before .before .loop .inv .1 .long)) (λ c. omega arith) (λ c. omega arith) loop-again (λ c. c .before .loop .inv .1 .long) returns)
+    (λ c. search needs) (λ c. omega (arith, c .before .before .before .loop .inv .1 .long)) (λ c. omega arith) (λ c. omega arith) loop-again (λ c. c .before .loop .inv .1 .long) returns)

@@ -1,23 +1,23 @@
 -- `ward::rows::screen` meets its contract: the value, or 255 where it is over. Assumes nothing.
+use mathlib.Core.Path.{_≡_, ap, _∙_}
+use Prim.Native.Nat.{ℕ, _+_, _/_}
+use native.Mathlib.Omega.{arith}
 use borrow.Author.Needs.{needs}
-use borrow.Author.Tests.{lt-ltb, le-ltb}
-use Rattle.ward.specs.Screen.{screened}
+use Rattle.ward.proofs.Planes.{screened-over, screened-under}
 use Rattle.ward.proofs.rows.screen.Statement.{statement}
 use Rattle.ward.proofs.rows.screen.Tie as tie
 
-add-q : tie.Need-add-q
-add-q c = search needs
-
 returns : tie.Need-returns
-unfolding screened
-returns c = rw (lt-ltb _ _ (c .if1 .taken))
-
-cast-result : tie.Need-cast-result
-cast-result c = search needs
+returns c =
+    let v = c .before .before .args .v in
+    let e : c .before .wrapping-add-u16 .result ≡ v + 2 = omega (arith, c .before .wrapping-add-u16 .ensures, c .before .before .pre) in
+    (screened-over v (omega (arith, e)), omega arith)
 
 returns-2 : tie.Need-returns-2
-unfolding screened
-returns-2 c = rw (le-ltb _ _ (c .if1 .left))
+returns-2 c =
+    let v = c .before .before .args .v in
+    let e : c .before .wrapping-add-u16 .result ≡ v + 2 = omega (arith, c .before .wrapping-add-u16 .ensures, c .before .before .pre) in
+    (ap (λ (k : ℕ). k / 4) e ∙ screened-under v (omega (arith, e)), omega arith)
 
 pub screen-spec : {M : Type 1} → statement M
-screen-spec = tie.close (tie.spec add-q returns cast-result returns-2)
+screen-spec = tie.close (tie.spec (λ c κs. search needs) returns returns-2)
