@@ -13,6 +13,7 @@ pub fn streams() -> bool {
         let rng = &mut Rng::new(1);
         let lengths = [size * size, size * size / 4, size * size / 4];
         let mut planes = lengths.map(|n| (0..n).map(|_| rng.below(1024) as u16).collect::<Vec<u16>>());
+        let made = planes.clone();
         let count = lengths.iter().sum::<usize>() as f64;
         let mut bytes = vec![0u8; frame_length(size, size)];
         let written = best(
@@ -20,6 +21,7 @@ pub fn streams() -> bool {
             |_| {},
             |bytes| write_frame(size, size, Planes::colour(&planes[0], &planes[1], &planes[2]), bytes).unwrap(),
         );
+        planes.iter_mut().for_each(|plane| plane.fill(1));
         let read = best(
             &mut planes,
             |_| {},
@@ -27,6 +29,7 @@ pub fn streams() -> bool {
                 read_frame(&bytes, 0, size, size, Planes::colour(y, u, v)).unwrap();
             },
         );
+        assert!(planes == made, "{size}: the frame that is read is not the one that was written");
         let mut to = vec![0u8; bytes.len()];
         let copied = best(&mut to, |_| {}, |to| to.copy_from_slice(black_box(&bytes)));
         println!("{size}: copy {:.3}, read {:.3}, written {:.3}", copied / count, read / count, written / count);

@@ -162,6 +162,25 @@ fn borders(tape: &mut Tape) {
     }
 }
 
+/// The last row of each plane, of pictures up to 128 wide: the product makes the preview sixteen samples at a time, and then the rest; with a sample over
+/// 1023 in the last column, too.
+fn wide(tape: &mut Tape, rng: &mut Rng) {
+    for (w, left) in [(28, 0), (32, 0), (36, 0), (36, 4), (64, 0), (68, 0), (68, 4), (128, 0)] {
+        let planes = [samples(rng, 4 * w), samples(rng, w), samples(rng, w)];
+        let shown = Shown { colour: true, sides: [w, 4], planes, window: [left, 0, w, 4] };
+        for preview in [false, true] {
+            for plane in 0..3 {
+                let row = shown.order(preview).into_iter().filter(|each| each.0 == plane).count() - 1;
+                let out = (0..w).map(|_| rng.next() as u8).collect();
+                let mut case = Row { turn: Turn { preview, plane, row }, asked: (plane, row), shown: shown.clone(), out };
+                tape.record(&case);
+                *case.shown.planes[plane].last_mut().unwrap() = 1024;
+                tape.record(&case);
+            }
+        }
+    }
+}
+
 pub fn record(tape: &mut Tape) {
     let rng = &mut Rng::new(0x5c4e);
     borders(tape);
@@ -174,11 +193,12 @@ pub fn record(tape: &mut Tape) {
     for _ in 0..420 {
         tape.record(&damaged_row(rng, 24));
     }
+    wide(tape, rng);
 }
 
 #[cfg(feature = "archive")]
 pub fn draw(rng: &mut Rng) -> Box<dyn Case> {
-    let most = rng.pick(&[8, 24, 64]);
+    let most = rng.pick(&[8, 24, 64, 136]);
     Box::new(accepted(rng, most))
 }
 

@@ -396,6 +396,11 @@ pub fn record(tape: &mut Tape) {
         tape.record(&damaged_call(rng));
     }
     cut(tape, rng);
+    long_headers(tape);
+    sizes(tape, rng);
+    lines(tape, rng);
+    ends(tape, rng);
+    two_frames(tape, rng);
 }
 
 /// Headers alone, accepted and damaged.
@@ -412,6 +417,59 @@ fn cut(tape: &mut Tape, rng: &mut Rng) {
     let bytes = [b"YUV4MPEG2 W4 H4 F25:1 Ip A1:1 C420p10\n".to_vec(), frame(rng, 4, 4)].concat();
     for n in 0..=bytes.len() {
         tape.record(&Call::Import(bytes[..n].to_vec(), lent(rng, 4, 4)));
+    }
+}
+
+/// Headers of 255, 256 and 257 bytes with their newline.
+fn long_headers(tape: &mut Tape) {
+    for n in 255..258 {
+        let mut text = b"YUV4MPEG2 W4 H4 C420p10 X".to_vec();
+        text.resize(n - 1, b'x');
+        text.push(b'\n');
+        tape.record(&Call::ReadHeader(text));
+    }
+}
+
+/// Sizes that are not taken, and words that are no size, read alone and as the header of a frame.
+fn sizes(tape: &mut Tape, rng: &mut Rng) {
+    for words in ["W0 H4", "W4 H0", "W4 H6", "W4100 H4", "W5000 H4", "W99999 H4", "W100000 H4", "W04 H4", "W4 H"] {
+        let text = format!("YUV4MPEG2 {words} C420p10\n").into_bytes();
+        tape.record(&Call::ReadHeader(text.clone()));
+        tape.record(&Call::Import([text, frame(rng, 4, 4)].concat(), lent(rng, 4, 4)));
+    }
+}
+
+/// Frame lines, at a place and after a header.
+fn lines(tape: &mut Tape, rng: &mut Rng) {
+    let head = b"YUV4MPEG2 W4 H4 C420p10\n".to_vec();
+    for line in ["FRAME\n", "FRAME Ip\n", "FRAME \n", "FRAMES\n", "FRAME\r\n", "FRAM\n", "frame\n"] {
+        let bytes = [head.clone(), line.into(), frame(rng, 4, 4)[6..].to_vec()].concat();
+        tape.record(&Call::ReadFrame(bytes.clone(), head.len(), [4, 4], lent(rng, 4, 4)));
+        tape.record(&Call::Import(bytes, lent(rng, 4, 4)));
+    }
+}
+
+/// 1023 and 1024 as the first and the last sample of each plane, read and written.
+fn ends(tape: &mut Tape, rng: &mut Rng) {
+    for value in [1023, 1024] {
+        for (third, last) in [(0, 15), (1, 3), (2, 3)] {
+            for at in [0, last] {
+                let mut planes = planes(rng, 4, 4);
+                planes[third][at] = value;
+                let mut bytes = b"FRAME\n".to_vec();
+                bytes.extend(planes.concat().iter().flat_map(|sample| sample.to_le_bytes()));
+                tape.record(&Call::WriteFrame(true, [4, 4], planes, vec![rng.next() as u8; bytes.len()]));
+                tape.record(&Call::ReadFrame(bytes, 0, [4, 4], lent(rng, 4, 4)));
+            }
+        }
+    }
+}
+
+/// Two frames, each read where the one before it ends; and where the second ends.
+fn two_frames(tape: &mut Tape, rng: &mut Rng) {
+    let bytes = [frame(rng, 4, 8), frame(rng, 4, 8)].concat();
+    for at in [0, bytes.len() / 2, bytes.len()] {
+        tape.record(&Call::ReadFrame(bytes.clone(), at, [4, 8], lent(rng, 4, 8)));
     }
 }
 
