@@ -11,8 +11,8 @@ use crate::Run;
 
 // ---- a sample
 
-// A 10-bit sample on the screen: (v + 2) / 4, held at 255. In 16 bits, so that a compiler takes eight at a time. The sum does not wrap; where the compiler is
-// not told so, it compares q and not v, and the hold is a minimum, one instruction for all eight.
+// A 10-bit sample on the screen: (v + 2) / 4, held at 255. In 16 bits, so that a compiler takes eight at a time. The sum does not wrap. Where the compiler is
+// told so, it compares v and chooses by a mask; where it is not, it takes the minimum of the sum and 1023, which is two instructions for eight samples.
 fn screen(v: u16) -> u16
     requires { ⌜ v ≤ 1023 ⌝ }
     ensures { λ r. ⌜ (r ≡ screened v) × (r ≤ 255) ⌝ }
