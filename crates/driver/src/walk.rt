@@ -1,17 +1,18 @@
 // The walk over a picture's leaves: leaf by leaf the components that the picture has, and what the units are told.
 ghost use mathlib.Core.Path.{_≡_};
 ghost use mathlib.Core.List.{[]};
-ghost use Prim.Native.Nat.{ℕ, _+_, _*_, _/_, _≤_, _<_};
+ghost use Prim.Native.Nat.{ℕ, _+_, _*_, _/_, _%_, _≤_, _<_};
 ghost use lib.ListN.{length, getD};
 ghost use Rattle.laws.specs.Index.{pick, tabulate};
 ghost use Rattle.laws.specs.Plane.{withRow};
-ghost use Rattle.def.specs.Picture.{rootCount};
+ghost use Rattle.def.specs.Picture.{rootsAlong, rootCount};
 ghost use Rattle.def.specs.Word.{leafWord};
 ghost use Rattle.split.specs.Stored.{leavesFrom};
-ghost use Rattle.driver_rules.specs.Asked.{GivenAsked, StateAsked, Reaches, Blocks, Accepted, Listed, Stepped};
+ghost use Rattle.driver_rules.specs.Asked.{GivenAsked, StateAsked, Reaches, Blocks, Sides, Accepted, Listed, Stepped};
 ghost use Rattle.driver_rules.specs.Call.{leavesOf};
 ghost use Rattle.driver_rules.specs.Records.{kindAt, qpAt, maskAt, keepAt, isMode, codedY, endV, placeOf, first, passed};
 ghost use Rattle.driver_rules.specs.Steps.{withUnits, steps};
+ghost use Rattle.driver.specs.Packed.{packedLeaf, unpacked, Packed};
 ghost use Rattle.driver.specs.Lends.{givenOf, stateOf, colourEnd, ColourDrawn, Drawn, ColourAsked, PlanesAsked, Told, Ended};
 use crate::component::Block;
 use crate::component::component;
@@ -26,7 +27,7 @@ use driver_check::mode_of;
 use driver_check::word_of;
 use split::Walked;
 
-// A leaf of a list: its place and its side, in luma samples.
+// A leaf: its place and its side, in luma samples.
 struct Leaf {
     x: Pel,
     z: Pel,
@@ -39,21 +40,6 @@ struct Record {
     qp: u8,
     mask: u8,
     keep: u8,
-}
-
-// Leaf j of a list.
-fn leaf_at(list: &[u16], j: usize) -> Leaf
-    requires { ⌜ 3 * j + 2 < length (now list) ⌝ }
-    ensures { λ r. ⌜ (r .x .0 ≡ getD (now (list .entry)) (3 * j) 0) × (r .z .0 ≡ getD (now (list .entry)) (3 * j + 1) 0) × (r .side ≡ getD (now (list .entry)) (3 * j + 2) 0) ⌝ }
-{
-    let x = list[3 * j] as usize;
-    let z = list[3 * j + 1] as usize;
-    let side = list[3 * j + 2] as usize;
-    Leaf {
-        x: Pel(x),
-        z: Pel(z),
-        side,
-    }
 }
 
 // The record of leaf k.
@@ -70,6 +56,89 @@ fn record_at(leaves: &[u8], k: usize) -> Record
         qp,
         mask,
         keep,
+    }
+}
+
+// ---- the leaves of a root
+
+// A leaf as a number: its side in units, then its row and its column in the root.
+fn packed_leaf(x: u16, y: u16, side: u16) -> u16
+    requires { ⌜ side ≤ 64 ⌝ }
+    ensures { λ r. ⌜ r ≡ packedLeaf x y side ⌝ }
+{
+    side / 4 * 256 + y / 4 % 16 * 16 + x / 4 % 16
+}
+
+// The first n leaves of a list, a number each.
+fn pack(list: &[u16], n: usize, leaves: &mut [u16])
+    requires { ⌜ Sides (now list) n × (length (now leaves) ≡ 256) ⌝ }
+    ensures { λ _. ⌜ Packed (now (list .entry)) n (now (leaves .exit)) ⌝ }
+{
+    let mut j = 0;
+    while j < n {
+        leaves[j] = packed_leaf(list[3 * j], list[3 * j + 1], list[3 * j + 2]);
+        j += 1;
+    }
+}
+
+// The leaves of root i into a list, and how many they are. The walk of the picture was checked, and is not refused here.
+fn root_leaves(w: usize, h: usize, splits: &[u8], i: usize, list: &mut [u16]) -> usize
+    requires { ⌜ Accepted w h (now splits) × (i < rootCount w h) × (length (now list) ≡ 768) ⌝ }
+    ensures { λ r. ⌜ Listed w h (now (splits .entry)) i (now (list .exit)) r ⌝ }
+{
+    let across = (w + 63) / 64;
+    let x = Pel(64 * (i % across));
+    let y = Pel(64 * (i / across));
+    match split::leaves(w, h, splits, x, y, list) {
+        Walked::Done(n) => n,
+        Walked::Refused(_) => 0,
+    }
+}
+
+// The leaves of root i, a number each. Their list lies in the room of the blocks until it is packed, and takes no place of its own on the stack.
+fn pack_root(
+    w: usize,
+    h: usize,
+    splits: &[u8],
+    i: usize,
+    room: &mut [u16],
+    leaves: &mut [u16],
+) -> usize
+    requires { ⌜ Accepted w h (now splits) × (i < rootCount w h) × (length (now room) ≡ 4096) × (length (now leaves) ≡ 256) ⌝ }
+    ensures { λ r. ⌜ Listed w h (now (splits .entry)) i (unpacked (64 * (i % rootsAlong w)) (64 * (i / rootsAlong w)) (now (leaves .exit))) r × (length (now (leaves .exit)) ≡ 256) ⌝ }
+{
+    let long = 768;
+    let list = &mut room[0..long];
+    let n = root_leaves(w, h, splits, i, &mut *list);
+    pack(&*list, n, leaves);
+    n
+}
+
+// The same where the room is an array: its length is then known wherever a loop has been.
+fn packed_leaves(
+    w: usize,
+    h: usize,
+    splits: &[u8],
+    i: usize,
+    room: &mut [u16; 4096],
+    leaves: &mut [u16],
+) -> usize
+    requires { ⌜ Accepted w h (now splits) × (i < rootCount w h) × (length (now leaves) ≡ 256) ⌝ }
+    ensures { λ r. ⌜ Listed w h (now (splits .entry)) i (unpacked (64 * (i % rootsAlong w)) (64 * (i / rootsAlong w)) (now (leaves .exit))) r × (length (now (leaves .exit)) ≡ 256) ⌝ }
+{
+    pack_root(w, h, splits, i, room, leaves)
+}
+
+// Leaf j of those of the root at (x, z).
+fn leaf_at(leaves: &[u16], x: usize, z: usize, j: usize) -> Leaf
+    requires { ⌜ (j < 256) × (length (now leaves) ≡ 256) × (x ≤ 4096) × (z ≤ 4096) ⌝ }
+    ensures { λ r. ⌜ (r .x .0 ≡ getD (unpacked x z (now (leaves .entry))) (3 * j) 0) × (r .z .0 ≡ getD (unpacked x z (now (leaves .entry))) (3 * j + 1) 0) × (r .side ≡ getD (unpacked x z (now (leaves .entry))) (3 * j + 2) 0) ⌝ }
+{
+    let m = leaves[j] as usize;
+    Leaf {
+        x: Pel(x + 4 * (m % 16)),
+        z: Pel(z + 4 * (m / 16 % 16)),
+        side: 4 * (m / 256),
     }
 }
 
@@ -265,15 +334,17 @@ fn leaf_planes(
     )
 }
 
-// ---- the leaves of a list
+// ---- the leaves of a root, drawn
 
-// Its first n, leaf k first. The answer is where their residuals end.
+// The first n of the root at (x, z), leaf k first. The answer is where their residuals end.
 fn draw_leaves(
     w: usize,
     h: usize,
     format: Format,
     constrained: bool,
     list: &[u16],
+    x: usize,
+    z: usize,
     n: usize,
     leaves: &[u8],
     k: usize,
@@ -293,14 +364,14 @@ fn draw_leaves(
 ) -> usize
     requires { ⌜ GivenAsked (givenOf w h format constrained (now leaves) (now residual) (now «pred_y») (now «pred_u») (now «pred_v»)) ⌝ }
     requires { ⌜ StateAsked (givenOf w h format constrained (now leaves) (now residual) (now «pred_y») (now «pred_u») (now «pred_v»)) (stateOf (now y) (now u) (now v) (now «map_scu») (now modes) (now keep) at k) ⌝ }
-    requires { ⌜ Blocks w h (now list) n × Reaches (now leaves) (length (now residual)) (passed (now leaves) (leavesFrom (now list) n) (placeOf at k)) ⌝ }
-    ensures { λ r. ⌜ Stepped (givenOf w h format constrained (now (leaves .entry)) (now (residual .entry)) (now («pred_y» .entry)) (now («pred_u» .entry)) (now («pred_v» .entry))) (leavesFrom (now (list .entry)) n)
+    requires { ⌜ Blocks w h (unpacked x z (now list)) n × (length (now list) ≡ 256) × (x ≤ 4096) × (z ≤ 4096) × Reaches (now leaves) (length (now residual)) (passed (now leaves) (leavesFrom (unpacked x z (now list)) n) (placeOf at k)) ⌝ }
+    ensures { λ r. ⌜ Stepped (givenOf w h format constrained (now (leaves .entry)) (now (residual .entry)) (now («pred_y» .entry)) (now («pred_u» .entry)) (now («pred_v» .entry))) (leavesFrom (unpacked x z (now (list .entry))) n)
         (stateOf (now (y .entry)) (now (u .entry)) (now (v .entry)) (now («map_scu» .entry)) (now (modes .entry)) (now (keep .entry)) at k)
         (stateOf (now (y .exit)) (now (u .exit)) (now (v .exit)) (now («map_scu» .exit)) (now (modes .exit)) (now (keep .exit)) r (k + n)) ⌝ }
 {
     let mut end = at;
     for j in 0..n {
-        let leaf = leaf_at(list, j);
+        let leaf = leaf_at(list, x, z, j);
         let said = record_at(leaves, k + j);
         end = leaf_planes(
             w,
@@ -327,20 +398,6 @@ fn draw_leaves(
 }
 
 // ---- the picture
-
-// The leaves of root i into a list, and how many they are. The walk of the picture was checked, and is not refused here.
-fn root_leaves(w: usize, h: usize, splits: &[u8], i: usize, list: &mut [u16]) -> usize
-    requires { ⌜ Accepted w h (now splits) × (i < rootCount w h) × (length (now list) ≡ 768) ⌝ }
-    ensures { λ r. ⌜ Listed w h (now (splits .entry)) i (now (list .exit)) r ⌝ }
-{
-    let across = (w + 63) / 64;
-    let x = Pel(64 * (i % across));
-    let y = Pel(64 * (i / across));
-    match split::leaves(w, h, splits, x, y, list) {
-        Walked::Done(n) => n,
-        Walked::Refused(_) => 0,
-    }
-}
 
 // Map words start at 0.
 pub(crate) fn clear(map_scu: &mut [u32])
@@ -380,20 +437,25 @@ pub(crate) fn draw_picture(
         (stateOf (now (y .entry)) (now (u .entry)) (now (v .entry)) (now («map_scu» .entry)) (now (modes .entry)) (now (keep .entry)) 0 0))
         (now (y .exit)) (now (u .exit)) (now (v .exit)) (now («map_scu» .exit)) (now (modes .exit)) (now (keep .exit)) ⌝ }
 {
-    let roots = (w + 63) / 64 * ((h + 63) / 64);
-    let mut list = [0u16; 768];
+    let across = (w + 63) / 64;
+    let roots = across * ((h + 63) / 64);
+    let mut list = [0u16; 256];
     let mut run = [0u16; 257];
     let mut room = [0u16; 4096];
     let mut at = 0;
     let mut k = 0;
     for i in 0..roots {
-        let n = root_leaves(w, h, splits, i, &mut list);
+        let x = 64 * (i % across);
+        let z = 64 * (i / across);
+        let n = packed_leaves(w, h, splits, i, &mut room, &mut list);
         at = draw_leaves(
             w,
             h,
             format,
             constrained,
             &list,
+            x,
+            z,
             n,
             leaves,
             k,

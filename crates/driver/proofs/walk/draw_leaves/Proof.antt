@@ -1,7 +1,8 @@
 -- `driver::walk::draw_leaves` meets its contract: after j turns the state is that of the first j leaves. Assumes nothing.
-use Prim.Native.Nat.{_+_, _-_, _*_, _≤_, _<_}
+use Prim.Native.Nat.{ℕ, _+_, _-_, _*_, _≤_, _<_}
 use mathlib.Core.Path.{_≡_}
 use mathlib.Core.Bool.{true}
+use mathlib.Core.List.{List}
 use native.Mathlib.Omega.{arith}
 use lib.ListN.{length, getD}
 use Rattle.def.specs.Blocks.{blockOk}
@@ -10,31 +11,36 @@ use Rattle.driver_rules.specs.Asked.{Reaches, Stepped}
 use Rattle.driver_rules.specs.Records.{placeOf, past}
 use Rattle.driver_rules.proofs.Walked.{sides, leaves-reach}
 use Rattle.driver.specs.Lends.{givenOf, stateOf}
+use Rattle.driver.specs.Packed.{unpacked}
 use Rattle.driver.proofs.Leaves.{planes-asked, told, leaves-start, leaves-next, leaves-asked, Kept, kept}
 use Rattle.driver.proofs.walk.draw_leaves.Statement.{statement}
 use Rattle.driver.proofs.walk.draw_leaves.Tie as tie
 
 abbrev Inv-loop : tie.InvT-loop
-Inv-loop w h format constrained list n leaves k pred-y pred-u pred-v residual at y₀ u₀ v₀ words₀ modes₀ keep₀ run₀ room₀ end₀ j₀ y u v words modes keep run room end j =
-    (j ≤ n) × Stepped (givenOf w h format constrained leaves residual pred-y pred-u pred-v) (leavesFrom list j) (stateOf y₀ u₀ v₀ words₀ modes₀ keep₀ at k) (stateOf y u v words modes keep end (k + j))
+Inv-loop w h format constrained list x z n leaves k pred-y pred-u pred-v residual at y₀ u₀ v₀ words₀ modes₀ keep₀ run₀ room₀ end₀ j₀ y u v words modes keep run room end j =
+    (j ≤ n) × Stepped (givenOf w h format constrained leaves residual pred-y pred-u pred-v) (leavesFrom (unpacked x z list) j) (stateOf y₀ u₀ v₀ words₀ modes₀ keep₀ at k) (stateOf y u v words modes keep end (k + j))
 
 abbrev μ-loop : tie.MeasureT-loop
-μ-loop w h format constrained list n leaves k pred-y pred-u pred-v residual at y₀ u₀ v₀ words₀ modes₀ keep₀ run₀ room₀ end₀ j₀ y u v words modes keep run room end j = n - j
+μ-loop w h format constrained list x z n leaves k pred-y pred-u pred-v residual at y₀ u₀ v₀ words₀ modes₀ keep₀ run₀ room₀ end₀ j₀ y u v words modes keep run room end j = n - j
+
+-- the root's list
+abbrev list : tie.Start Inv-loop μ-loop → List ℕ
+list s = unpacked (s .args .x) (s .args .z) (s .args .list .now)
 
 loop-holds : tie.Need-loop-holds Inv-loop μ-loop
-loop-holds c = let s = c .before .before .before .before .before .before .before .before .before .before .before in (omega arith, leaves-start (s .args .list .now) (s .args .k) (s .pre .1 .0))
+loop-holds c = let s = c .before .before .before .before .before .before .before .before .before .before .before in (omega arith, leaves-start (list s) (s .args .k) (s .pre .1 .0))
 
--- where leaf j stands in the list
-in-list : (c : tie.In-loop Inv-loop μ-loop) → 3 * c .before .loop .j + 2 < length (c .before .before .before .before .before .before .before .before .before .before .before .before .before .args .list .now)
-in-list c = let b = c .before .before .before .before .before .before .before .before .before .before .before .before .before .pre .1 .1 .0 in omega (arith, b .long, b .few, c .loop-test .taken)
+-- where leaf j stands among those of the root
+in-list : (c : tie.In-loop Inv-loop μ-loop) → (c .before .loop .j < 256) × (length (c .before .before .before .before .before .before .before .before .before .before .before .before .before .args .list .now) ≡ 256) × (c .before .before .before .before .before .before .before .before .before .before .before .before .before .args .x ≤ 4096) × (c .before .before .before .before .before .before .before .before .before .before .before .before .before .args .z ≤ 4096)
+in-list c = let b = c .before .before .before .before .before .before .before .before .before .before .before .before .before .pre .1 .1 in (omega (arith, b .0 .few, c .loop-test .taken), b .1, b .2, b .3)
 
 -- the lists reach past it
-reached : (c : tie.In-loop Inv-loop μ-loop) → let s = c .before .before .before .before .before .before .before .before .before .before .before .before .before in let l = c .before .loop in Reaches (s .args .leaves .now) (length (s .args .residual .now)) (past (s .args .leaves .now) (getD (s .args .list .now) (3 * l .j + 2) 0) (placeOf (l .end) (s .args .k + l .j)))
+reached : (c : tie.In-loop Inv-loop μ-loop) → let s = c .before .before .before .before .before .before .before .before .before .before .before .before .before in let l = c .before .loop in Reaches (s .args .leaves .now) (length (s .args .residual .now)) (past (s .args .leaves .now) (getD (list s) (3 * l .j + 2) 0) (placeOf (l .end) (s .args .k + l .j)))
 reached c =
     let s = c .before .before .before .before .before .before .before .before .before .before .before .before .before in
     let l = c .before .loop in
-    leaves-reach (s .args .leaves .now) (length (s .args .residual .now)) (s .args .list .now) (l .j) (s .args .n) (placeOf (s .args .at) (s .args .k)) (placeOf (l .end) (s .args .k + l .j)) (c .loop-test .taken)
-    (sides (s .pre .1 .1 .0) .units _ (c .loop-test .taken)) (leaves-asked (s .args .list .now) (s .args .k) (l .j) (l .inv .1)) (s .pre .1 .1 .1)
+    leaves-reach (s .args .leaves .now) (length (s .args .residual .now)) (list s) (l .j) (s .args .n) (placeOf (s .args .at) (s .args .k)) (placeOf (l .end) (s .args .k + l .j)) (c .loop-test .taken)
+    (sides (s .pre .1 .1 .0) .units _ (c .loop-test .taken)) (leaves-asked (list s) (s .args .k) (l .j) (l .inv .1)) (s .pre .1 .1 .4)
 
 -- it is a block of the picture
 block : (c : tie.After-leaf-at Inv-loop μ-loop) → let r = c .leaf-at .result in blockOk (c .before .before .before .before .before .before .before .before .before .before .before .before .before .before .args .w) (c .before .before .before .before .before .before .before .before .before .before .before .before .before .before .args .h) (r .x .0) (r .z .0) (r .side) ≡ true
@@ -55,7 +61,7 @@ loop-again c =
     let s = c .before .before .before .before .before .before .before .before .before .before .before .before .before .before .before .before .before .before .before .before .before .before .before .before .before .before .before .before .before .before .before .before .before .before .before .before .before .before in
     let l = c .before .before .before .before .before .before .before .before .before .before .before .before .before .before .before .before .before .before .before .before .before .before .before .before .before .before .loop in (
       omega (arith, c .before .before .before .before .before .before .before .before .before .before .before .before .before .before .before .before .before .before .before .before .before .before .before .before .before .loop-test .taken),
-      leaves-next (givenOf (s .args .w) (s .args .h) (s .args .format) (s .args .constrained) (s .args .leaves .now) (s .args .residual .now) (s .args .pred-y .now) (s .args .pred-u .now) (s .args .pred-v .now)) (s .args .list .now) (s .args .k) (l .j) (s .pre .0) (block (c .before .before .before .before .before .before .before .before .before .before .before .before .before .before .before .before .before .before .before .before .before .before .before .before)) (c .before .before .before .before .before .before .before .before .before .before .before .before .before .before .before .before .before .before .before .before .before .before .before .before .leaf-at .ensures) (c .before .before .before .before .before .before .before .before .before .before .before .before .before .before .before .before .before .before .before .before .before .before .before .record-at .ensures) (c .before .before .before .before .before .before .before .before .before .before .before .before .before .before .before .before .leaf-planes .ensures) (c .before .before .before .before .before .before .tell .ensures) (l .inv .1),
+      leaves-next (givenOf (s .args .w) (s .args .h) (s .args .format) (s .args .constrained) (s .args .leaves .now) (s .args .residual .now) (s .args .pred-y .now) (s .args .pred-u .now) (s .args .pred-v .now)) (list s) (s .args .k) (l .j) (s .pre .0) (block (c .before .before .before .before .before .before .before .before .before .before .before .before .before .before .before .before .before .before .before .before .before .before .before .before)) (c .before .before .before .before .before .before .before .before .before .before .before .before .before .before .before .before .before .before .before .before .before .before .before .before .leaf-at .ensures) (c .before .before .before .before .before .before .before .before .before .before .before .before .before .before .before .before .before .before .before .before .before .before .before .record-at .ensures) (c .before .before .before .before .before .before .before .before .before .before .before .before .before .before .before .before .leaf-planes .ensures) (c .before .before .before .before .before .before .tell .ensures) (l .inv .1),
     )
 
 -- at the end
@@ -75,7 +81,7 @@ loop-less : tie.Need-loop-less Inv-loop μ-loop
 loop-less c = omega (arith, c .before .before .before .before .before .before .before .before .before .before .before .before .before .before .before .before .before .before .before .before .before .before .before .before .before .loop-test .taken)
 
 add-record-at : tie.Need-add-record-at Inv-loop μ-loop
-add-record-at c = omega (arith, reached (c .before) .records, c .before .before .before .before .before .before .before .before .before .before .before .before .before .before .good .1 .1 .1 .1 .1 .1 .0)
+add-record-at c = omega (arith, reached (c .before) .records, c .before .before .before .before .before .before .before .before .before .before .before .before .before .before .good .1 .1 .1 .1 .1 .1 .1 .1 .0)
 
 pub draw-leaves-spec : {M : Type 1} → statement M
 draw-leaves-spec =
