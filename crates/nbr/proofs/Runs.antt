@@ -119,7 +119,7 @@ lent-of c w h plane words e =
     let tests = lengthTests c w h (length plane) (length words) in
     record { plane-long = eqb-true _ _ (all-at tests 0 e); words-long = eqb-true _ _ (all-at tests 1 e) }
 
--- what is read of each arm, and its room in the run
+-- what is read of each arm
 module _ (c : Component) (w h x y side : ℕ) (plane words : List ℕ) (block : BlockOf w h x y side) (lent : Lent c w h plane words) (a : Arm) where
   pub left-reads : (u : ℕ) → a ≡ leftArm c w h x y → u ≡ unitSide c → Within a u plane words
   left-reads u e f = rw (e, f) (left-within c w h x y side plane words (beside c w h x y side block) lent)
@@ -129,24 +129,6 @@ module _ (c : Component) (w h x y side : ℕ) (plane words : List ℕ) (block : 
 
   pub up-reads : (u : ℕ) → a ≡ upArm c w x y → u ≡ unitSide c → Within a u plane words
   up-reads u e f = rw (e, f) (up-within c w h x y side plane words (beside c w h x y side block) lent)
-
-pub record Room (side u n len : ℕ) : Type 0 where
-  pub left-room : 0 + side / 2 * u ≤ len
-  pub corner-room : 2 * n + 1 ≤ len
-  pub up-room : 2 * n + 1 + side / 2 * u ≤ len
-  pub short : len ≤ 257
-
-pub room : (c : Component) (w h x y side u n len : ℕ) → BlockOf w h x y side → u ≡ unitSide c → n ≡ sideOf c side → len ≡ runLength c side → Room side u n len
-room c w h x y side u n len block e f g =
-    let b = beside c w h x y side block in
-    let k = unit-sided c side (b .by-four) .arm-long in
-    let z : side / 2 * u ≡ 2 * n = rw (e, f) k in
-    record {
-      left-room = omega arith;
-      corner-room = omega arith;
-      up-room = omega arith;
-      short = omega (arith, scaled-le c side 64 (b .low));
-    }
 
 -- ---- what callers may cite
 

@@ -66,7 +66,7 @@ pub unit-sided : (c : Component) (side : ℕ) → side % 4 ≡ 0 → UnitSided c
 unit-sided Luma side e = record { least = omega arith; most = omega arith; arm-long = omega arith }
 unit-sided Chroma side e = record { least = omega arith; most = omega arith; arm-long = omega arith }
 
--- 4 or 2, so 1 where it is neither
-pub unit-sizes : (c : Component) (u : ℕ) → u ≡ unitSide c → (u ≡ 4 → ⊥) → (u ≡ 2 → ⊥) → u ≡ 1
-unit-sizes Luma u e p q = absurd (p e)
-unit-sizes Chroma u e p q = absurd (q e)
+-- 4, or else 2
+pub unit-sizes : (c : Component) (u : ℕ) → u ≡ unitSide c → (u ≡ 4 → ⊥) → u ≡ 2
+unit-sizes Luma u e p = absurd (p e)
+unit-sizes Chroma u e p = e

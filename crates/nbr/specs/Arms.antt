@@ -7,13 +7,16 @@ use mathlib.Core.List.{List}
 use lib.Dec.{ltb, eqb}
 use lib.ListN.{length, getD}
 use Rattle.laws.specs.Index.{pick}
+use Rattle.laws.specs.Plane.{withRow}
 use Rattle.def.specs.Blocks.{blockOk}
 use Rattle.def.specs.Components.{scaleOf, planeLength}
 use Rattle.def.specs.Picture.{sizeOk, unitCount}
 use Rattle.def.specs.declared.Component.{Component}
+use Rattle.samples.specs.Samples.{sampleOk}
 use Rattle.nbr.specs.declared.Arm.{Arm}
+use Rattle.nbr.specs.declared.Border.{Border}
 use Rattle.nbr.specs.declared.Block.{Block}
-use Rattle.nbr.specs.Gather.{Around, counts}
+use Rattle.nbr.specs.Gather.{Around, counts, unitSide}
 
 -- unit i of an arm is present
 unfoldable pub presentIn : Arm → Bool → List ℕ → ℕ → Bool
@@ -115,3 +118,50 @@ aroundOf b plane words constrained =
       side = b .side;
       constrained = constrained;
     }
+
+-- ---- the three together
+
+-- the arms of a block
+pub record BorderOf (b : Block) (a : Border) : Type 0 where
+  pub left : a .left ≡ leftOf b
+  pub corner : a .corner ≡ cornerOf b
+  pub up : a .up ≡ upOf b
+  pub units : a .units ≡ b .side / 2
+  pub n : a .n ≡ unitSide (b .component)
+
+-- the samples of an arm that lie in the picture lie in the plane
+abbrev pub InPlane : Arm → ℕ → List ℕ → Type 0
+InPlane a n plane = (k : ℕ) → k < a .there * n → a .from + k * a .step < length plane
+
+-- those of its first `units` units pass
+abbrev pub Passing : Arm → (units n : ℕ) → List ℕ → Type 0
+Passing a units n plane = (k : ℕ) → k < units * n → k < a .there * n → sampleOk (getD plane (a .from + k * a .step) 0) ≡ true
+
+-- what the join of all samples near a block asks, and what it tells
+pub record Near (a : Border) (plane : List ℕ) : Type 0 where
+  pub small : a .n ≤ 4
+  pub few : a .units ≤ 32
+  pub sizes : (a .n ≡ 4 → ⊥) → a .n ≡ 2
+  pub left-in : InPlane (a .left) (a .n) plane
+  pub corner-in : InPlane (a .corner) 1 plane
+  pub up-in : InPlane (a .up) (a .n) plane
+
+pub record AllPassing (a : Border) (plane : List ℕ) : Type 0 where
+  pub left-passes : Passing (a .left) (a .units) (a .n) plane
+  pub corner-passes : Passing (a .corner) 1 1 plane
+  pub up-passes : Passing (a .up) (a .units) (a .n) plane
+
+-- what is read of the three arms, their words too
+pub record Reads (a : Border) (plane words : List ℕ) : Type 0 where
+  pub few : a .units ≤ 32
+  pub sizes : (a .n ≡ 4 → ⊥) → a .n ≡ 2
+  pub left-within : Within (a .left) (a .n) plane words
+  pub corner-within : Within (a .corner) 1 plane words
+  pub up-within : Within (a .up) (a .n) plane words
+
+-- the three written one after the other
+abbrev pub borderIn : Border → Bool → (plane words run : List ℕ) → List ℕ
+borderIn a constrained plane words run =
+    withRow 0 (a .units * a .n + 1) (a .units * a .n) (armAt (a .up) (a .n) constrained plane words)
+    (withRow 0 (a .units * a .n) (1 * 1) (armAt (a .corner) 1 constrained plane words)
+    (withRow 0 0 (a .units * a .n) (armAt (a .left) (a .n) constrained plane words) run))

@@ -10,7 +10,7 @@ ghost use Rattle.def.specs.Answers.{answerNumber};
 ghost use Rattle.samples.specs.Samples.{sampleOk};
 ghost use Rattle.nbr.specs.Gather.{runLength, runOf, samplesOk, lengthsOk, outcome};
 ghost use Rattle.nbr.specs.Checks.{formOf, gathered};
-ghost use Rattle.nbr.specs.Arms.{presentIn, armAt, Within, noArm, leftOf, cornerOf, upOf, Stands, LentTo, aroundOf};
+ghost use Rattle.nbr.specs.Arms.{presentIn, armAt, Within, noArm, leftOf, cornerOf, upOf, Stands, LentTo, aroundOf, Passing, Near, AllPassing, Reads, BorderOf, borderIn};
 use def::Answer;
 use def::Component;
 use def::Pel;
@@ -152,15 +152,13 @@ fn put_arm(
     run: &mut [u16],
     to: usize,
 )
-    requires { ⌜ Within arm n (now plane) (now «map_scu») × (to + units * n ≤ length (now run)) × ((n ≡ 4 → ⊥) → (n ≡ 2 → ⊥) → n ≡ 1) ⌝ }
+    requires { ⌜ Within arm n (now plane) (now «map_scu») × (to + units * n ≤ length (now run)) × ((n ≡ 4 → ⊥) → n ≡ 2) ⌝ }
     ensures { λ _. ⌜ now (run .exit) ≡ withRow 0 to (units * n) (armAt arm n constrained (now (plane .entry)) (now («map_scu» .entry))) (now (run .entry)) ⌝ }
 {
     if n == 4 {
         put_units(plane, map_scu, arm, units, 4, constrained, run, to)
-    } else if n == 2 {
-        put_units(plane, map_scu, arm, units, 2, constrained, run, to)
     } else {
-        put_units(plane, map_scu, arm, units, 1, constrained, run, to)
+        put_units(plane, map_scu, arm, units, 2, constrained, run, to)
     }
 }
 
@@ -188,7 +186,7 @@ fn join_units(
 // The samples of its first `units` units that lie in the picture joined, present or not: few steps, and where these pass so do those of the run.
 fn join_near(plane: &[u16], arm: Arm, units: usize, n: usize) -> u16
     requires { ⌜ (n ≤ 4) × (units ≤ 32) × ((k : ℕ) → k < arm .there * n → arm .from + k * arm .step < length (now plane)) ⌝ }
-    ensures { λ r. ⌜ (sampleOk r ≡ true → (k : ℕ) → k < units * n → k < arm .there * n → sampleOk (getD (now (plane .entry)) (arm .from + k * arm .step) 0) ≡ true) ⌝ }
+    ensures { λ r. ⌜ (sampleOk r ≡ true → Passing arm units n (now (plane .entry))) ⌝ }
 {
     let there = arm.there;
     if there < units {
@@ -302,6 +300,101 @@ fn up_arm(block: Block) -> Arm
     }
 }
 
+// ---- the three together
+
+// The arms of a block: `units` units of n samples in the left one and in the upper one, and the corner's one sample.
+struct Border {
+    left: Arm,
+    corner: Arm,
+    up: Arm,
+    units: usize,
+    n: usize,
+}
+
+fn border_of(block: Block) -> Border
+    requires { ⌜ Stands block ⌝ }
+    ensures { λ r. ⌜ BorderOf block r ⌝ }
+{
+    let component = block.component;
+    let left = left_arm(block);
+    let corner = corner_arm(block);
+    let up = up_arm(block);
+    let n = def::in_component(component, 4);
+    Border {
+        left,
+        corner,
+        up,
+        units: block.side / 2,
+        n,
+    }
+}
+
+// The samples near the block joined, whatever their units: at most 1023 only where each is.
+fn join_all(plane: &[u16], border: Border) -> u16
+    requires { ⌜ Near border (now plane) ⌝ }
+    ensures { λ r. ⌜ (sampleOk r ≡ true → AllPassing border (now (plane .entry))) ⌝ }
+{
+    let units = border.units;
+    let n = border.n;
+    join_near(plane, border.left, units, n)
+        | join_near(plane, border.corner, 1, 1)
+        | join_near(plane, border.up, units, n)
+}
+
+// The same for a block of 4, which has two units an arm. Their number and their samples are literals, so that the compiler lays the loops out flat.
+fn join_few(plane: &[u16], border: Border) -> u16
+    requires { ⌜ Near border (now plane) × (border .units ≡ 2) ⌝ }
+    ensures { λ r. ⌜ (sampleOk r ≡ true → AllPassing border (now (plane .entry))) ⌝ }
+{
+    let n = border.n;
+    let corner = join_near(plane, border.corner, 1, 1);
+    if n == 4 {
+        return join_near(plane, border.left, 2, 4) | corner | join_near(plane, border.up, 2, 4);
+    }
+    join_near(plane, border.left, 2, 2) | corner | join_near(plane, border.up, 2, 2)
+}
+
+fn join_border(plane: &[u16], border: Border) -> u16
+    requires { ⌜ Near border (now plane) ⌝ }
+    ensures { λ r. ⌜ (sampleOk r ≡ true → AllPassing border (now (plane .entry))) ⌝ }
+{
+    let units = border.units;
+    if units == 2 {
+        return join_few(plane, border);
+    }
+    join_all(plane, border)
+}
+
+// The run, straight from the plane: left downwards, the corner, up rightwards.
+fn put_all(plane: &[u16], map_scu: &[u32], border: Border, constrained: bool, run: &mut [u16])
+    requires { ⌜ Reads border (now plane) (now «map_scu») × (length (now run) ≡ 2 * (border .units * border .n) + 1) ⌝ }
+    ensures { λ _. ⌜ now (run .exit) ≡ borderIn border constrained (now (plane .entry)) (now («map_scu» .entry)) (now (run .entry)) ⌝ }
+{
+    let units = border.units;
+    let n = border.n;
+    let at = units * n;
+    put_arm(plane, map_scu, border.left, units, n, constrained, &mut *run, 0);
+    put_units(plane, map_scu, border.corner, 1, 1, constrained, &mut *run, at);
+    put_arm(plane, map_scu, border.up, units, n, constrained, run, at + 1);
+}
+
+// The same for a block of 4.
+fn put_few(plane: &[u16], map_scu: &[u32], border: Border, constrained: bool, run: &mut [u16])
+    requires { ⌜ Reads border (now plane) (now «map_scu») × (length (now run) ≡ 2 * (border .units * border .n) + 1) × (border .units ≡ 2) ⌝ }
+    ensures { λ _. ⌜ now (run .exit) ≡ borderIn border constrained (now (plane .entry)) (now («map_scu» .entry)) (now (run .entry)) ⌝ }
+{
+    let n = border.n;
+    if n == 4 {
+        put_units(plane, map_scu, border.left, 2, 4, constrained, &mut *run, 0);
+        put_units(plane, map_scu, border.corner, 1, 1, constrained, &mut *run, 8);
+        put_units(plane, map_scu, border.up, 2, 4, constrained, run, 9);
+        return;
+    }
+    put_units(plane, map_scu, border.left, 2, 2, constrained, &mut *run, 0);
+    put_units(plane, map_scu, border.corner, 1, 1, constrained, &mut *run, 4);
+    put_units(plane, map_scu, border.up, 2, 2, constrained, run, 5);
+}
+
 // ---- the call
 
 fn lengths_ok(block: Block, plane: usize, words: usize) -> bool
@@ -316,43 +409,39 @@ fn lengths_ok(block: Block, plane: usize, words: usize) -> bool
 
 // Whether number 7 is not given: tested before anything is written. All samples near the block are joined first, whatever their units;
 // where one of those is over 1023 it may be that of a unit that is missing, and the units are asked one by one.
-fn samples_pass(plane: &[u16], map_scu: &[u32], block: Block, constrained: bool) -> bool
-    requires { ⌜ Stands block × LentTo block (now plane) (now «map_scu») ⌝ }
+fn samples_pass(plane: &[u16], map_scu: &[u32], block: Block, border: Border, constrained: bool) -> bool
+    requires { ⌜ Stands block × BorderOf block border × Reads border (now plane) (now «map_scu») ⌝ }
     ensures { λ r. ⌜ r ≡ samplesOk (aroundOf block (now (plane .entry)) (now («map_scu» .entry)) constrained) ⌝ }
 {
-    let component = block.component;
-    let n = def::in_component(component, 4);
-    let units = block.side / 2;
-    let left = left_arm(block);
-    let corner = corner_arm(block);
-    let up = up_arm(block);
-    let near = join_near(plane, left, units, n)
-        | join_near(plane, corner, 1, 1)
-        | join_near(plane, up, units, n);
-    if near <= 1023 {
+    let units = border.units;
+    let n = border.n;
+    if join_border(plane, border) <= 1023 {
         return true;
     }
-    let all = join_units(plane, map_scu, left, units, n, constrained)
-        | join_units(plane, map_scu, corner, 1, 1, constrained)
-        | join_units(plane, map_scu, up, units, n, constrained);
+    let all = join_units(plane, map_scu, border.left, units, n, constrained)
+        | join_units(plane, map_scu, border.corner, 1, 1, constrained)
+        | join_units(plane, map_scu, border.up, units, n, constrained);
     all <= 1023
 }
 
-// The run, straight from the plane: left downwards, the corner, up rightwards.
-fn put_run(plane: &[u16], map_scu: &[u32], block: Block, constrained: bool, run: &mut [u16])
-    requires { ⌜ Stands block × LentTo block (now plane) (now «map_scu») × (length (now run) ≡ runLength (block .component) (block .side)) ⌝ }
+// The run of a block's border.
+fn put_run(
+    plane: &[u16],
+    map_scu: &[u32],
+    block: Block,
+    border: Border,
+    constrained: bool,
+    run: &mut [u16],
+)
+    requires { ⌜ Stands block × BorderOf block border × Reads border (now plane) (now «map_scu») × (length (now run) ≡ runLength (block .component) (block .side)) ⌝ }
     ensures { λ _. ⌜ now (run .exit) ≡ runOf (aroundOf block (now (plane .entry)) (now («map_scu» .entry)) constrained) ⌝ }
 {
-    let component = block.component;
-    let n = def::in_component(component, 4);
-    let units = block.side / 2;
-    let at = 2 * def::in_component(component, block.side);
-    let left = left_arm(block);
-    put_arm(plane, map_scu, left, units, n, constrained, &mut *run, 0);
-    let corner = corner_arm(block);
-    put_arm(plane, map_scu, corner, 1, 1, constrained, &mut *run, at);
-    let up = up_arm(block);
-    put_arm(plane, map_scu, up, units, n, constrained, &mut *run, at + 1);
+    let units = border.units;
+    if units == 2 {
+        put_few(plane, map_scu, border, constrained, run)
+    } else {
+        put_all(plane, map_scu, border, constrained, run)
+    }
 }
 
 // The run, past the checks of its form.
@@ -368,10 +457,11 @@ fn gather(
         (record { around = aroundOf block (now (plane .entry)) (now («map_scu» .entry)) constrained; run = now (run .entry) })
         (record { number = answerNumber r; run = now (run .exit) }) ⌝ }
 {
-    if !samples_pass(plane, map_scu, block, constrained) {
+    let border = border_of(block);
+    if !samples_pass(plane, map_scu, block, border, constrained) {
         return Answer::Refused(Refusal::Sample);
     }
-    put_run(plane, map_scu, block, constrained, run);
+    put_run(plane, map_scu, block, border, constrained, run);
     Answer::Done
 }
 

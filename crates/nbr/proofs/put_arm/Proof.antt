@@ -21,44 +21,21 @@ module _ (s : tie.Start) (k : ℕ) (e : s .args .n ≡ k) where
   put : (l : List ℕ) → l ≡ after k → l ≡ after (s .args .n)
   put l h = rw e h
 
--- neither 4 nor 2
-one : (c : tie.Else2) → let s = c .before .before .before .before .before in s .args .n ≡ 1
-one c = c .before .before .before .before .before .pre .2 (c .before .if1 .left) (c .if2 .left)
+-- not 4
+two : (c : tie.Else1) → c .before .before .before .before .args .n ≡ 2
+two c = c .before .before .before .before .pre .2 (c .if1 .left)
 
 put-units-requires : tie.Need-put-units-requires
 put-units-requires c κs = asked (c .before .before .before .before .before) 4 (c .before .if1 .taken)
 
 put-units-requires-2 : tie.Need-put-units-requires-2
-put-units-requires-2 c κs = asked (c .before .before .before .before .before .before) 2 (c .before .if2 .taken)
-
-put-units-requires-3 : tie.Need-put-units-requires-3
-put-units-requires-3 c κs = asked (c .before .before .before .before .before .before) 1 (one (c .before))
+put-units-requires-2 c κs = asked (c .before .before .before .before .before) 2 (two (c .before))
 
 returns : tie.Need-returns
-returns c =
-    let d = c .before .before .before .before in
-    put (d .before .before .before .before) 4 (d .if1 .taken) _ (c .before .before .put-units .ensures)
+returns c = put (c .before .before .before .before .before .before .before .before) 4 (c .before .before .before .before .if1 .taken) _ (c .before .before .put-units .ensures)
 
 returns-2 : tie.Need-returns-2
-returns-2 c =
-    let d = c .before .before .before .before in
-    put (d .before .before .before .before .before) 2 (d .if2 .taken) _ (c .before .before .put-units2 .ensures)
-
-returns-3 : tie.Need-returns-3
-returns-3 c =
-    let d = c .before .before .before .before in
-    put (d .before .before .before .before .before) 1 (one d) _ (c .before .before .put-units3 .ensures)
+returns-2 c = put (c .before .before .before .before .before .before .before .before) 2 (two (c .before .before .before .before)) _ (c .before .before .put-units2 .ensures)
 
 pub put-arm-spec : {M : Type 1} → statement M
-put-arm-spec =
-    tie.close
-    (tie.spec
-    put-units-requires
-    put-units-requires-2
-    put-units-requires-3
-    (λ c. search needs)
-    returns
-    (λ c. search needs)
-    returns-2
-    (λ c. search needs)
-    returns-3)
+put-arm-spec = tie.close (tie.spec put-units-requires put-units-requires-2 (λ c. search needs) returns (λ c. search needs) returns-2)

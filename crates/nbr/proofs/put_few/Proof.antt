@@ -1,0 +1,62 @@
+-- `nbr::put_few` meets its contract: in each branch a unit's samples are as many as the branch says. Assumes nothing.
+use Prim.Native.Nat.{ℕ, _+_, _*_}
+use mathlib.Core.Path.{_≡_, subst}
+use native.Mathlib.Omega.{arith}
+use borrow.Author.Needs.{needs}
+use denote.Ref.{now}
+use lib.ListN.{length}
+use Rattle.nbr.specs.declared.Arm.{Arm}
+use Rattle.nbr.specs.Arms.{Within}
+use Rattle.nbr.proofs.Borders.{few-written}
+use Rattle.nbr.proofs.put_few.Statement.{statement}
+use Rattle.nbr.proofs.put_few.Tie as tie
+
+-- what is read of two units of m samples, and the run's length
+module _ (s : tie.Start) (m : ℕ) (e : s .args .border .n ≡ m) where
+  read : (a : Arm) → Within a (s .args .border .n) (now (s .args .plane)) (now (s .args .map-scu)) → Within a m (now (s .args .plane)) (now (s .args .map-scu))
+  read a h = subst (λ (k : ℕ). Within a k (now (s .args .plane)) (now (s .args .map-scu))) e h
+
+  long : length (now (s .args .run)) ≡ 2 * (2 * m) + 1
+  long = rw (s .pre .2, e) at (s .pre .1)
+
+-- not 4
+two : (c : tie.Else1) → c .before .before .before .before .args .border .n ≡ 2
+two c = c .before .before .before .before .pre .0 .sizes (c .if1 .left)
+
+put-units-requires : tie.Need-put-units-requires
+put-units-requires c κs = let e = c .before .if1 .taken in (read (c .before .before .before .before .before) 4 e _ (c .before .before .before .before .before .pre .0 .left-within), omega (arith, long (c .before .before .before .before .before) 4 e))
+
+put-units-requires-2 : tie.Need-put-units-requires-2
+put-units-requires-2 c κs = (c .before .before .before .before .before .before .before .before .before .pre .0 .corner-within, omega (arith, long (c .before .before .before .before .before .before .before .before .before) 4 (c .before .before .before .before .before .if1 .taken), c .before .before .before .put-units .kept .1 .1 .1 .1 .1 .1 .0))
+
+put-units-requires-3 : tie.Need-put-units-requires-3
+put-units-requires-3 c κs =
+    let e = c .before .before .before .before .before .before .before .before .before .if1 .taken in
+    (read (c .before .before .before .before .before .before .before .before .before .before .before .before .before) 4 e _ (c .before .before .before .before .before .before .before .before .before .before .before .before .before .pre .0 .up-within), omega (arith, long (c .before .before .before .before .before .before .before .before .before .before .before .before .before) 4 e, c .before .before .before .before .before .before .before .put-units .kept .1 .1 .1 .1 .1 .1 .0, c .before .before .before .put-units2 .kept .1 .1 .1 .1 .1 .1 .0))
+
+returns : tie.Need-returns
+returns c =
+    few-written _ _ _ _ _ _ _ _ 4 (c .before .before .before .before .before .before .before .before .before .before .before .before .before .before .before .before .pre .2) (c .before .before .before .before .before .before .before .before .before .before .before .before .if1 .taken)
+    (c .before .before .before .before .before .before .before .before .before .before .put-units .ensures) (c .before .before .before .before .before .before .put-units2 .ensures) (c .before .before .put-units3 .ensures)
+
+put-units-requires-4 : tie.Need-put-units-requires-4
+put-units-requires-4 c κs = let e = two (c .before) in (read (c .before .before .before .before .before) 2 e _ (c .before .before .before .before .before .pre .0 .left-within), omega (arith, long (c .before .before .before .before .before) 2 e))
+
+put-units-requires-5 : tie.Need-put-units-requires-5
+put-units-requires-5 c κs = (c .before .before .before .before .before .before .before .before .before .pre .0 .corner-within, omega (arith, long (c .before .before .before .before .before .before .before .before .before) 2 (two (c .before .before .before .before .before)), c .before .before .before .put-units4 .kept .1 .1 .1 .1 .1 .1 .0))
+
+put-units-requires-6 : tie.Need-put-units-requires-6
+put-units-requires-6 c κs =
+    let e = two (c .before .before .before .before .before .before .before .before .before) in
+    (read (c .before .before .before .before .before .before .before .before .before .before .before .before .before) 2 e _ (c .before .before .before .before .before .before .before .before .before .before .before .before .before .pre .0 .up-within), omega (arith, long (c .before .before .before .before .before .before .before .before .before .before .before .before .before) 2 e, c .before .before .before .before .before .before .before .put-units4 .kept .1 .1 .1 .1 .1 .1 .0, c .before .before .before .put-units5 .kept .1 .1 .1 .1 .1 .1 .0))
+
+returns-2 : tie.Need-returns-2
+returns-2 c =
+    few-written _ _ _ _ _ _ _ _ 2 (c .before .before .before .before .before .before .before .before .before .before .before .before .before .before .before .before .pre .2) (two (c .before .before .before .before .before .before .before .before .before .before .before .before))
+    (c .before .before .before .before .before .before .before .before .before .before .put-units4 .ensures) (c .before .before .before .before .before .before .put-units5 .ensures) (c .before .before .put-units6 .ensures)
+
+pub put-few-spec : {M : Type 1} → statement M
+put-few-spec =
+    tie.close
+    (tie.spec put-units-requires put-units-requires-2 put-units-requires-3 (λ c. search needs) returns put-units-requires-4 put-units-requires-5 put-units-requires-6
+    (λ c. search needs) returns-2)
