@@ -1,3 +1,4 @@
 pub mod Copies
 pub mod Leaves
+pub mod Maps
 pub mod Packing

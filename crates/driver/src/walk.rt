@@ -168,7 +168,7 @@ fn tell_row(
     }
 }
 
-// The units of a leaf, in maps of a picture w wide: the word of its record, the mode, and whether they are kept.
+// The units of a leaf, in maps of a picture w wide: the word of its record, the mode, and whether they are kept. A leaf of 4 is one unit, and no loop.
 fn tell(map_scu: &mut [u32], modes: &mut [u8], keep: &mut [u8], w: usize, leaf: Leaf, said: Record)
     requires { ⌜ Told (w / 4) (leaf .x .0 / 4) (leaf .z .0 / 4) (leaf .side / 4) (now «map_scu») (now modes) (now keep) ⌝ }
     ensures { λ _. ⌜ (now («map_scu» .exit) ≡ withUnits w (leaf .x .0) (leaf .z .0) (leaf .side) (leafWord (isMode (said .kind)) (said .qp) (codedY (said .mask))) (now («map_scu» .entry)))
@@ -183,6 +183,11 @@ fn tell(map_scu: &mut [u32], modes: &mut [u8], keep: &mut [u8], w: usize, leaf: 
     let word = word_of(said.kind, said.qp, said.mask);
     let mode = mode_of(said.kind);
     let mark = said.keep;
+    if n == 1 {
+        let at = y * columns + x;
+        tell_row(map_scu, modes, keep, at, 1, word, mode, mark);
+        return;
+    }
     let mut r = 0;
     while r < n {
         tell_row(

@@ -373,9 +373,12 @@ fn put_all(plane: &[u16], map_scu: &[u32], border: Border, constrained: bool, ru
     let units = border.units;
     let n = border.n;
     let at = units * n;
-    put_arm(plane, map_scu, border.left, units, n, constrained, &mut *run, 0);
-    put_units(plane, map_scu, border.corner, 1, 1, constrained, &mut *run, at);
-    put_arm(plane, map_scu, border.up, units, n, constrained, run, at + 1);
+    let left = border.left;
+    let corner = border.corner;
+    let up = border.up;
+    put_arm(plane, map_scu, left, units, n, constrained, &mut *run, 0);
+    put_units(plane, map_scu, corner, 1, 1, constrained, &mut *run, at);
+    put_arm(plane, map_scu, up, units, n, constrained, run, at + 1);
 }
 
 // The same for a block of 4.
@@ -384,15 +387,18 @@ fn put_few(plane: &[u16], map_scu: &[u32], border: Border, constrained: bool, ru
     ensures { λ _. ⌜ now (run .exit) ≡ borderIn border constrained (now (plane .entry)) (now («map_scu» .entry)) (now (run .entry)) ⌝ }
 {
     let n = border.n;
+    let left = border.left;
+    let corner = border.corner;
+    let up = border.up;
     if n == 4 {
-        put_units(plane, map_scu, border.left, 2, 4, constrained, &mut *run, 0);
-        put_units(plane, map_scu, border.corner, 1, 1, constrained, &mut *run, 8);
-        put_units(plane, map_scu, border.up, 2, 4, constrained, run, 9);
+        put_units(plane, map_scu, left, 2, 4, constrained, &mut *run, 0);
+        put_units(plane, map_scu, corner, 1, 1, constrained, &mut *run, 8);
+        put_units(plane, map_scu, up, 2, 4, constrained, run, 9);
         return;
     }
-    put_units(plane, map_scu, border.left, 2, 2, constrained, &mut *run, 0);
-    put_units(plane, map_scu, border.corner, 1, 1, constrained, &mut *run, 4);
-    put_units(plane, map_scu, border.up, 2, 2, constrained, run, 5);
+    put_units(plane, map_scu, left, 2, 2, constrained, &mut *run, 0);
+    put_units(plane, map_scu, corner, 1, 1, constrained, &mut *run, 4);
+    put_units(plane, map_scu, up, 2, 2, constrained, run, 5);
 }
 
 // ---- the call
@@ -409,7 +415,13 @@ fn lengths_ok(block: Block, plane: usize, words: usize) -> bool
 
 // Whether number 7 is not given: tested before anything is written. All samples near the block are joined first, whatever their units;
 // where one of those is over 1023 it may be that of a unit that is missing, and the units are asked one by one.
-fn samples_pass(plane: &[u16], map_scu: &[u32], block: Block, border: Border, constrained: bool) -> bool
+fn samples_pass(
+    plane: &[u16],
+    map_scu: &[u32],
+    block: Block,
+    border: Border,
+    constrained: bool,
+) -> bool
     requires { ⌜ Stands block × BorderOf block border × Reads border (now plane) (now «map_scu») ⌝ }
     ensures { λ r. ⌜ r ≡ samplesOk (aroundOf block (now (plane .entry)) (now («map_scu» .entry)) constrained) ⌝ }
 {

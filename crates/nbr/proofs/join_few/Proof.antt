@@ -23,7 +23,7 @@ join-near-requires-2 : tie.Need-join-near-requires-2
 join-near-requires-2 c κs = asked (c .before .before .before) 4 (c .if1 .taken) (c .before .before .before .args .border .left) (c .before .before .before .pre .0 .left-in)
 
 join-near-requires-3 : tie.Need-join-near-requires-3
-join-near-requires-3 c κs = asked (c .before .before .before .before) 4 (c .before .if1 .taken) (c .before .before .before .before .args .border .up) (c .before .before .before .before .pre .0 .up-in)
+join-near-requires-3 c κs = let s = c .before .before .before .before in asked s 4 (c .before .if1 .taken) (s .args .border .up) (s .pre .0 .up-in)
 
 returns : tie.Need-returns
 returns c =

@@ -6,7 +6,8 @@ use Rattle.nbr.proofs.put_all.Tie as tie
 
 returns : tie.Need-returns
 returns c =
-    border-written _ _ _ _ _ _ _ _ (c .before .before .before .before .before .before .before .before .before .before .put-arm .ensures) (c .before .before .before .before .before .before .put-units .ensures) (c .before .before .put-arm2 .ensures)
+    let left = c .before .before .before .before .before .before .before .before .before .before .put-arm .ensures in
+    border-written _ _ _ _ _ _ _ _ left (c .before .before .before .before .before .before .put-units .ensures) (c .before .before .put-arm2 .ensures)
 
 pub put-all-spec : {M : Type 1} → statement M
 put-all-spec =

@@ -11,12 +11,14 @@ join-border-requires c κs = near-of _ _ _ (c .before .before .pre .2)
 
 returns : tie.Need-returns
 returns c =
+    let s = c .before .before .before .before in
     let j = c .before .join-border in
-    near-joined _ _ _ _ _ (c .before .before .before .before .pre .0) (c .before .before .before .before .pre .1) (c .before .before .before .before .pre .2) (j .ensures (le-leb (j .result) 1023 (omega (arith, c .if1 .taken))))
+    near-joined _ _ _ _ _ (s .pre .0) (s .pre .1) (s .pre .2) (j .ensures (le-leb (j .result) 1023 (omega (arith, c .if1 .taken))))
 
 returns-2 : tie.Need-returns-2
 returns-2 c =
-    units-joined _ _ _ _ _ (c .before .before .before .before .before .before .before .pre .0) (c .before .before .before .before .before .before .before .pre .1) (c .before .before .join-units .result) (c .before .join-units2 .result) (c .join-units3 .result)
+    let s = c .before .before .before .before .before .before .before in
+    units-joined _ _ _ _ _ (s .pre .0) (s .pre .1) (c .before .before .join-units .result) (c .before .join-units2 .result) (c .join-units3 .result)
     (c .before .before .join-units .ensures) (c .before .join-units2 .ensures) (c .join-units3 .ensures)
 
 join-units-requires : tie.Need-join-units-requires
