@@ -1,24 +1,23 @@
 -- The paper's worked numbers: in one table what is asked, over the modules' own definitions, and what is to come out. The theorem is `numbers`.
 -- Assumes nothing: these are definitions.
-use Prim.Native.Nat.{ℕ, _+_, _*_}
-use mathlib.Core.Bool.{true, false}
+use Prim.Native.Nat.{ℕ, _+_}
+use mathlib.Core.Bool.{Bool, true, false}
 use mathlib.Core.List.{List, [], _∷_, _++_, map}
 use lib.IntN.{ℤ, pos, negsuc}
-use lib.ListN.{getD, replicate}
-use Rattle.laws.specs.Index.{pick, tabulate}
+use lib.ListN.{getD, set, replicate}
+use Rattle.laws.specs.Index.{tabulate}
 use Rattle.def.specs.declared.Component.{Component}
 use Rattle.def.specs.declared.Component.the-variants.{Luma, Chroma}
+use Rattle.def.specs.Word.{leafWord}
 use Rattle.chroma_qp_check.specs.Pivots.{Points, startOf, outOf}
 use Rattle.chroma_qp.specs.Mapping.{tableOf}
 use Rattle.ipred.specs.Modes.{predicted, blockOf}
-use Rattle.line.specs.declared.Mask.{Mask}
-use Rattle.line.specs.declared.Quad.{Quad}
-use Rattle.line.specs.declared.Motion.{Motion}
-use Rattle.line.specs.Line.{lineOf, maskOf}
-use Rattle.line.specs.Row.{rowOf}
+use Rattle.line.specs.Line.{maskOf}
+use Rattle.df_rules.specs.Strength.{Maps, rowAt, strengthOf}
+use Rattle.df_rules.specs.Window.{windowAt}
 
 pub data Asked : Type 0 where
-  -- the line A B | C D, filtered by an entry of the strength table
+  -- the line A B | C D, as deblocking leaves it: a window of one line, at the strength of an edge whose entry is given
   filtered : Component → (entry A B C D : ℕ) → Asked
   -- the strength row of two units, neither intra nor luma-coded, whose motion differs by a number
   row : (by : ℕ) → Asked
@@ -30,21 +29,25 @@ pub data Asked : Type 0 where
 
 -- ---- the answers
 
--- q where the mask writes, and else p
-abbrev pub written : Mask → Quad → Quad → Quad
-written m q p =
-    record { a = pick (m .a) (q .a) (p .a); b = pick (m .b) (q .b) (p .b); c = pick (m .c) (q .c) (p .c); d = pick (m .d) (q .d) (p .d) }
+-- two units of QP 30, P and then Q, intra or not: one reference each, in list 0, and Q's motion there is x
+abbrev pub units : Bool → (x : ℕ) → Maps
+units intra x =
+    record {
+      words = leafWord intra 30 false ∷ leafWord intra 30 false ∷ [];
+      over = record {
+        motion = pos 0 ∷ pos 0 ∷ pos 0 ∷ pos 0 ∷ pos x ∷ pos 0 ∷ pos 0 ∷ pos 0 ∷ [];
+        refs = pos 0 ∷ negsuc 0 ∷ pos 0 ∷ negsuc 0 ∷ [];
+        keep = 0 ∷ 0 ∷ [];
+      };
+    }
 
-abbrev pub samples : Quad → List ℤ
-samples q = pos (q .a) ∷ pos (q .b) ∷ pos (q .c) ∷ pos (q .d) ∷ []
-
--- one reference, in list 0, and motion x there
-abbrev pub moving : ℕ → Motion
-moving x = record { refi0 = pos 0; refi1 = negsuc 0; x0 = pos x; y0 = pos 0; x1 = pos 0; y1 = pos 0 }
+-- the strength between two intra units, by a table whose one entry above 0 is e, in row 0 at their QP
+abbrev pub strengthBy : (entry : ℕ) → ℕ
+strengthBy e = strengthOf (units true 0) (set (replicate 208 0) 30 e) (λ (qp : ℕ). qp) 1 0
 
 unfoldable pub answered : Asked → List ℤ
-answered (filtered c e A B C D) = samples (written (maskOf c false false) (lineOf A B C D (4 * e)) (record { a = A; b = B; c = C; d = D }))
-answered (row n) = pos (rowOf 0 0 (moving n) (moving 0)) ∷ []
+answered (filtered c e A B C D) = map pos (windowAt (maskOf c false false) (strengthBy e) 1 4 0 1 (A ∷ B ∷ C ∷ D ∷ []))
+answered (row n) = pos (rowAt (units false n) 1 0) ∷ []
 answered (dc side left corner up) = map pos (blockOf side (predicted 0 side (left ++ (corner ∷ up))))
 answered (entries p from n) = tabulate n (λ (m : ℕ). getD (tableOf (startOf true) p) (12 + (from + m)) (pos 0))
 answered (pivot-out p j) = outOf (startOf true) p j ∷ []
