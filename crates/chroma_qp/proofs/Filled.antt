@@ -14,18 +14,19 @@ use Rattle.laws.specs.Index.{tabulate}
 use Rattle.laws.specs.Plane.{withRow}
 use Rattle.laws.proofs.Planes.{Rowed, rowed-more, within-yes, within-low, length-row, getD-row}
 use Rattle.laws.proofs.Tabulate.{is-tabulate}
-use Rattle.chroma_qp_check.specs.Pivots.{qpAt}
+use Rattle.chroma_qp_check.specs.Pivots.{entryQp}
 
 -- l′ is l with what is held as x put at the next place, k
-pub row-more : (a : ℕ) (h : ℕ → ℕ) (l₀ l l′ : List ℤ) (c x k : ℕ) → a + c < length l₀ → k ≡ a + c → l′ ≡ set l k (qpAt x) → x ≡ h c → Rowed (pos 0) a (λ (k : ℕ). qpAt (h k)) l₀ l c → Rowed (pos 0) a (λ (k : ℕ). qpAt (h k)) l₀ l′ (c + 1)
-row-more a h l₀ l l′ c x k p q e f r = rw (e, q) (rowed-more (pos 0) a (λ (k : ℕ). qpAt (h k)) l₀ l c (qpAt x) p (ap qpAt f) r)
+pub row-more : (a : ℕ) (h : ℕ → ℕ) (l₀ l l′ : List ℤ) (c x k : ℕ) → a + c < length l₀ → k ≡ a + c → l′ ≡ set l k (entryQp x) → x ≡ h c
+    → Rowed (pos 0) a (λ (k : ℕ). entryQp (h k)) l₀ l c → Rowed (pos 0) a (λ (k : ℕ). entryQp (h k)) l₀ l′ (c + 1)
+row-more a h l₀ l l′ c x k p q e f r = rw (e, q) (rowed-more (pos 0) a (λ (k : ℕ). entryQp (h k)) l₀ l c (entryQp x) p (ap entryQp f) r)
 
 -- l′ is l with a run of n entries past place i
-pub row-last : (h : ℕ → ℕ) (l l′ : List ℤ) (i n : ℕ) → l′ ≡ withRow (pos 0) (i + 1) n (λ (k : ℕ). qpAt (h (k + 1))) l → 0 < n → i + n < length l → getD l′ (i + n) (pos 0) ≡ qpAt (h n)
+pub row-last : (h : ℕ → ℕ) (l l′ : List ℤ) (i n : ℕ) → l′ ≡ withRow (pos 0) (i + 1) n (λ (k : ℕ). entryQp (h (k + 1))) l → 0 < n → i + n < length l → getD l′ (i + n) (pos 0) ≡ entryQp (h n)
 row-last h l l′ i n e some p =
     let q : i + n - (i + 1) + 1 ≡ n = omega arith in
     ap (λ (l : List ℤ). getD l (i + n) (pos 0)) e
-    ∙ getD-row (pos 0) (i + 1) n (λ (k : ℕ). qpAt (h (k + 1))) l (i + n) p
+    ∙ getD-row (pos 0) (i + 1) n (λ (k : ℕ). entryQp (h (k + 1))) l (i + n) p
     ∙ rw (within-yes (i + 1) n (i + n) (omega arith) (omega arith), q)
 
 pub record Filled (f : ℕ → ℤ) (l : List ℤ) (n : ℕ) : Type 0 where

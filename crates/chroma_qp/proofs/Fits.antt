@@ -17,12 +17,12 @@ use Rattle.laws.proofs.Calls.{all-at}
 use Rattle.laws.proofs.Differences.{diff-same, diff-none, diff-neg}
 use Rattle.laws.proofs.Tabulate.{getD-tabulate}
 use Rattle.chroma_qp_check.specs.Check.{pointsOk, pivotTests, pivotOk, pivotsOk}
-use Rattle.chroma_qp_check.specs.Pivots.{Points, aAt, qpAt, inOf, outOf}
+use Rattle.chroma_qp_check.specs.Pivots.{Points, aAt, entryQp, inOf, outOf}
 use Rattle.chroma_qp_check.proofs.Offsets.{qp-le}
 use Rattle.chroma_qp_check.proofs.Pivots.{in-next}
 use Rattle.chroma_qp_check.proofs.Points.{countable}
 use Rattle.chroma_qp.specs.Held.{heldBelow, heldBetween, heldPast}
-use Rattle.chroma_qp.specs.Mapping.{upTo, lastOf, mapped, tableOf}
+use Rattle.chroma_qp.specs.Mapping.{upTo, lastOf, tableAt, tableOf}
 use Rattle.chroma_qp.proofs.Bytes.{entry-fits}
 use Rattle.chroma_qp.proofs.Pivots.{Reached, reached-first, reached-next, at-below, at-between, between-most, at-past}
 use Rattle.chroma_qp.proofs.Tables.{passes}
@@ -35,12 +35,12 @@ pub record Entry (z : ℤ) : Type 0 where
 -- a number that is held as v, at most `most`
 record Within (most : ℕ) (z : ℤ) : Type 0 where
   v : ℕ
-  is : z ≡ qpAt v
+  is : z ≡ entryQp v
   small : v ≤ most
 
 -- what lies within -12..57 is held as 69 at most
 in-range : (z : ℤ) → leZ (negsuc 11) z ≡ true → leZ z (pos 57) ≡ true → Within 69 z
-unfolding qpAt
+unfolding entryQp
 in-range (pos n) e f =
     let h : n ≤ 57 = leb-true n 57 f in
     record { v = n + 12; is = diff-none n ∙ diff-same n 0 (n + 12) 12 (omega arith); small = omega arith }
@@ -71,7 +71,7 @@ module _ (s : ℤ) (p : Points) (points : pointsOk (p .count) (p .a) ≡ true) (
     o : ℕ
     v : ℕ
     reached : Reached s p j i o v
-    entries : (k : ℕ) → k ≤ i → Within 103 (upTo s p j (qpAt k))
+    entries : (k : ℕ) → k ≤ i → Within 103 (upTo s p j (entryQp k))
 
   first : There 0
   unfolding heldBelow
@@ -89,12 +89,12 @@ module _ (s : ℤ) (p : Points) (points : pointsOk (p .count) (p .a) ≡ true) (
       }
 
   -- an entry up to pivot j is the same up to the next
-  earlier : (j i k : ℕ) → inOf s p j ≡ qpAt i → k ≤ i → upTo s p (suc j) (qpAt k) ≡ upTo s p j (qpAt k)
+  earlier : (j i k : ℕ) → inOf s p j ≡ entryQp i → k ≤ i → upTo s p (suc j) (entryQp k) ≡ upTo s p j (entryQp k)
   unfolding upTo
   earlier j i k e h = rw (e, qp-le k i, le-leb k i h)
 
-  module _ (j : ℕ) (t : There j) (x u : ℕ) (at-a : aAt p (suc j) ≡ pos x) (at-out : outOf s p (suc j) ≡ qpAt u) (small : u ≤ 69) (most : t .i + (x + 1) ≤ 69) where
-    up-to-next : (k : ℕ) → k ≤ t .i + (x + 1) → Dec (k ≤ t .i) → Within 103 (upTo s p (suc j) (qpAt k))
+  module _ (j : ℕ) (t : There j) (x u : ℕ) (at-a : aAt p (suc j) ≡ pos x) (at-out : outOf s p (suc j) ≡ entryQp u) (small : u ≤ 69) (most : t .i + (x + 1) ≤ 69) where
+    up-to-next : (k : ℕ) → k ≤ t .i + (x + 1) → Dec (k ≤ t .i) → Within 103 (upTo s p (suc j) (entryQp k))
     up-to-next k h (yes q) =
         let w = t .entries k q in
         record { v = w .v; is = earlier j (t .i) k (t .reached .in-is) q ∙ w .is; small = w .small }
@@ -103,7 +103,7 @@ module _ (s : ℤ) (p : Points) (points : pointsOk (p .count) (p .a) ≡ true) (
         let e : k ≡ t .i + m = omega arith in
         record {
           v = heldBetween (t .v) (t .o) u (x + 1) m;
-          is = ap (λ (n : ℕ). upTo s p (suc j) (qpAt n)) e ∙ at-between s p j (t .i) (t .o) (t .v) (t .reached) x u at-a at-out m (omega arith) (omega arith);
+          is = ap (λ (n : ℕ). upTo s p (suc j) (entryQp n)) e ∙ at-between s p j (t .i) (t .o) (t .v) (t .reached) x u at-a at-out m (omega arith) (omega arith);
           small = between-most s p j (t .i) (t .o) (t .v) (t .reached) x u at-a at-out m (omega arith) small most;
         }
 
@@ -118,21 +118,21 @@ module _ (s : ℤ) (p : Points) (points : pointsOk (p .count) (p .a) ≡ true) (
         }
 
   next : (j : ℕ) → suc j < p .count → There j → There (suc j)
-  unfolding qpAt
+  unfolding entryQp
   next j h t =
       let x = natAbs (aAt p (suc j)) in
       let b = the-out (suc j) h in
       let at-a : aAt p (suc j) ≡ pos x = plain-a (aAt p (suc j)) (countable (p .count) (p .a) points .not-below (suc j) h) in
-      let at-in : inOf s p (suc j) ≡ qpAt (t .i + (x + 1)) = in-next s p j (t .i) x (t .reached .in-is) at-a in
-      let top : leZ (qpAt (t .i + (x + 1))) (qpAt 69) ≡ true = rw at-in at (tests (suc j) h 1) in
+      let at-in : inOf s p (suc j) ≡ entryQp (t .i + (x + 1)) = in-next s p j (t .i) x (t .reached .in-is) at-a in
+      let top : leZ (entryQp (t .i + (x + 1))) (entryQp 69) ≡ true = rw at-in at (tests (suc j) h 1) in
       there-next j t x (b .v) at-a (b .is) (b .small) (leb-true (t .i + (x + 1)) 69 (sym (qp-le (t .i + (x + 1)) 69) ∙ top))
 
   there : (j : ℕ) → j < p .count → There j
   there zero h = first
   there (suc j) h = next j h (there j (omega arith))
 
-  by-place : (t : There (lastOf p)) (k : ℕ) → Dec (k ≤ t .i) → Within 103 (mapped s p (qpAt k))
-  unfolding mapped heldPast
+  by-place : (t : There (lastOf p)) (k : ℕ) → Dec (k ≤ t .i) → Within 103 (tableAt s p (entryQp k))
+  unfolding tableAt heldPast
   by-place t k (yes q) =
       let w = t .entries k q in
       record { v = w .v; is = rw (t .reached .in-is, qp-le k (t .i), le-leb k (t .i) q) (w .is); small = w .small }
@@ -141,7 +141,7 @@ module _ (s : ℤ) (p : Points) (points : pointsOk (p .count) (p .a) ≡ true) (
       let e : k ≡ t .i + m = omega arith in
       record {
         v = heldPast (t .v) m;
-        is = ap (λ (n : ℕ). mapped s p (qpAt n)) e ∙ at-past s p (t .i) (t .o) (t .v) m (t .reached) (omega arith);
+        is = ap (λ (n : ℕ). tableAt s p (entryQp n)) e ∙ at-past s p (t .i) (t .o) (t .v) m (t .reached) (omega arith);
         small = omega arith;
       }
 
@@ -150,10 +150,10 @@ module _ (s : ℤ) (p : Points) (points : pointsOk (p .count) (p .a) ≡ true) (
   held k h =
       let t = there (lastOf p) (omega (arith, countable (p .count) (p .a) points .some)) in
       let w = by-place t k (decLe k (t .i)) in
-      record { v = w .v; is = getD-tabulate (λ (n : ℕ). mapped s p (qpAt n)) 70 k (pos 0) h ∙ w .is; small = w .small }
+      record { v = w .v; is = getD-tabulate (λ (n : ℕ). tableAt s p (entryQp n)) 70 k (pos 0) h ∙ w .is; small = w .small }
 
   pub values-fit : (k : ℕ) → k < 70 → Entry (getD (tableOf s p) k (pos 0))
-  unfolding qpAt
+  unfolding entryQp
   values-fit k h =
       let w = held k h in
       rw (w .is)

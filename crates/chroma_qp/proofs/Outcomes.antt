@@ -13,7 +13,7 @@ use Rattle.def.specs.declared.Refusal.{Refusal}
 use Rattle.def.specs.declared.Answer.{Answer}
 use Rattle.def.specs.declared.Answer.the-variants.{Done, Refused}
 use Rattle.def.proofs.Answers.{on-refusal, on-done}
-use Rattle.chroma_qp_check.specs.Pivots.{qpAt}
+use Rattle.chroma_qp_check.specs.Pivots.{entryQp}
 use Rattle.chroma_qp_check.proofs.Checks.{Passed, passed, Long, long}
 use Rattle.chroma_qp.specs.Derived.{Input, checked, check, inputStart, refused, done, outcome}
 use Rattle.chroma_qp.specs.Held.{Checked}
@@ -26,7 +26,7 @@ unused false b e f = f
 -- nothing is refused, and s is the start, held
 pub record Ready (i : Input) (s : ℕ) : Type 0 where
   pub small : s ≤ 28
-  pub start : qpAt s ≡ inputStart i
+  pub start : entryQp s ≡ inputStart i
   pub told : check i ≡ Done
 
 module _ (i : Input) (s : ℕ) (r : Ready i s) where
@@ -50,12 +50,12 @@ module _ (i : Input) (s : ℕ) (r : Ready i s) where
         pivots = rw (r .start) (unused (i .same-table) _ e (all .second-pivots));
       }
 
-  module _ (t u : List ℤ) (first : t ≡ tableOf (qpAt s) (i .first)) where
+  module _ (t u : List ℤ) (first : t ≡ tableOf (entryQp s) (i .first)) where
     pub by-copy : i .same-table ≡ true → u ≡ t → Gives outcome i (record { number = 0; t0 = t; t1 = u })
     unfolding outcome
     by-copy e f = on-done (refused i) (done i) (check i) (check i) _ refl (r .told) (rw (e, f, first, r .start))
 
-    pub by-both : i .same-table ≡ false → u ≡ tableOf (qpAt s) (i .second) → Gives outcome i (record { number = 0; t0 = t; t1 = u })
+    pub by-both : i .same-table ≡ false → u ≡ tableOf (entryQp s) (i .second) → Gives outcome i (record { number = 0; t0 = t; t1 = u })
     unfolding outcome
     by-both e f = on-done (refused i) (done i) (check i) (check i) _ refl (r .told) (rw (e, f, first, r .start))
 

@@ -13,7 +13,7 @@ use native.Mathlib.Omega.{arith}
 use lib.IntN.{ℤ, pos, _+ℤ_, _-ℤ_, _*ℤ_}
 use lib.Signed.{quotZ}
 use Rattle.laws.proofs.Differences.{diff-same, diff-add, diff-mul, diff-quot, diff-none}
-use Rattle.chroma_qp_check.specs.Pivots.{qpAt}
+use Rattle.chroma_qp_check.specs.Pivots.{entryQp}
 use Rattle.chroma_qp_check.proofs.Offsets.{qp-sub}
 use Rattle.chroma_qp.specs.Held.{heldBetween}
 use Rattle.chroma_qp.specs.Mapping.{between}
@@ -105,20 +105,20 @@ module _ (v from to n m : ℕ) where
   held-down h = rw (none (to * m + n / 2) (from * m) n (omega arith)) (omega arith)
 
 module _ (i v from to n m : ℕ) (some : 0 < n) (within : m ≤ n) (high : from ≤ v) where
-  moved : qpAt v +ℤ (pos ((to * m + n / 2 - from * m) / n) -ℤ pos ((from * m - (to * m + n / 2)) / n)) ≡ qpAt (heldBetween v from to n m)
-  unfolding qpAt heldBetween
+  moved : entryQp v +ℤ (pos ((to * m + n / 2 - from * m) / n) -ℤ pos ((from * m - (to * m + n / 2)) / n)) ≡ entryQp (heldBetween v from to n m)
+  unfolding entryQp heldBetween
   moved =
       let x = (to * m + n / 2 - from * m) / n in
       let y = (from * m - (to * m + n / 2)) / n in
       let h : y ≤ from - to = down-most from to n m some within in
       diff-add v 12 x y ∙ diff-same (v + x) (12 + y) (v + x - y) 12 (omega arith)
 
-  pub between-held : between (qpAt v) (qpAt to -ℤ qpAt from) (pos n) (qpAt (i + m) -ℤ qpAt i) ≡ qpAt (heldBetween v from to n m)
+  pub between-held : between (entryQp v) (entryQp to -ℤ entryQp from) (pos n) (entryQp (i + m) -ℤ entryQp i) ≡ entryQp (heldBetween v from to n m)
   unfolding between
   between-held =
-      ap (λ (z : ℤ). qpAt v +ℤ quotZ (z *ℤ (qpAt (i + m) -ℤ qpAt i) +ℤ pos (n / 2)) (pos n)) (qp-sub to from)
-      ∙ ap (λ (z : ℤ). qpAt v +ℤ quotZ ((pos to -ℤ pos from) *ℤ z +ℤ pos (n / 2)) (pos n)) (qp-sub (i + m) i ∙ diff-same (i + m) i m 0 (omega arith) ∙ sym (diff-none m))
-      ∙ ap (λ (z : ℤ). qpAt v +ℤ quotZ z (pos n))
+      ap (λ (z : ℤ). entryQp v +ℤ quotZ (z *ℤ (entryQp (i + m) -ℤ entryQp i) +ℤ pos (n / 2)) (pos n)) (qp-sub to from)
+      ∙ ap (λ (z : ℤ). entryQp v +ℤ quotZ ((pos to -ℤ pos from) *ℤ z +ℤ pos (n / 2)) (pos n)) (qp-sub (i + m) i ∙ diff-same (i + m) i m 0 (omega arith) ∙ sym (diff-none m))
+      ∙ ap (λ (z : ℤ). entryQp v +ℤ quotZ z (pos n))
       (ap (λ (z : ℤ). z +ℤ pos (n / 2)) (diff-mul to from m) ∙ ap (λ (z : ℤ). (pos (to * m) -ℤ pos (from * m)) +ℤ z) (diff-none (n / 2)) ∙ diff-add (to * m) (from * m) (n / 2) 0)
-      ∙ ap (λ (z : ℤ). qpAt v +ℤ z) (ap (λ (k : ℕ). quotZ (pos (to * m + n / 2) -ℤ pos k) (pos n)) (add-zero (from * m)) ∙ diff-quot (to * m + n / 2) (from * m) n)
+      ∙ ap (λ (z : ℤ). entryQp v +ℤ z) (ap (λ (k : ℕ). quotZ (pos (to * m + n / 2) -ℤ pos k) (pos n)) (add-zero (from * m)) ∙ diff-quot (to * m + n / 2) (from * m) n)
       ∙ moved

@@ -11,39 +11,39 @@ use borrow.Author.Tests.{le-leb, lt-leb}
 use lib.IntN.{ℤ, pos, negsuc, _+ℤ_}
 use lib.Signed.{leZ}
 use Rattle.laws.proofs.Differences.{diff-abs}
-use Rattle.chroma_qp_check.specs.Pivots.{Points, aAt, qpAt, inOf, outOf}
+use Rattle.chroma_qp_check.specs.Pivots.{Points, aAt, entryQp, inOf, outOf}
 use Rattle.chroma_qp_check.proofs.Offsets.{qp-sub, qp-le, le-more}
 use Rattle.chroma_qp_check.proofs.Pivots.{in-next}
 use Rattle.chroma_qp.specs.Held.{heldBelow, heldBetween, heldPast}
-use Rattle.chroma_qp.specs.Mapping.{below, past, upTo, lastOf, mapped}
+use Rattle.chroma_qp.specs.Mapping.{below, past, upTo, lastOf, tableAt}
 use Rattle.chroma_qp.proofs.Clipped.{below-held, past-held}
 use Rattle.chroma_qp.proofs.Parts.{entry-most, end-least, end-most, between-held}
 
 module _ (s : ℤ) (p : Points) where
   -- ---- a pivot in range, and the entry at its in: never below its out, and above it by at most half of what lies below the in
   pub record Reached (j i o v : ℕ) : Type 0 where
-    pub in-is : inOf s p j ≡ qpAt i
-    pub out-is : outOf s p j ≡ qpAt o
-    pub entry-is : upTo s p j (qpAt i) ≡ qpAt v
+    pub in-is : inOf s p j ≡ entryQp i
+    pub out-is : outOf s p j ≡ entryQp o
+    pub entry-is : upTo s p j (entryQp i) ≡ entryQp v
     pub in-most : i ≤ 69
     pub out-most : o ≤ 69
     pub least : o ≤ v
     pub most : 2 * v ≤ 2 * o + i
 
   -- the entries up to pivot 0
-  pub at-below : (i o k : ℕ) → inOf s p 0 ≡ qpAt i → outOf s p 0 ≡ qpAt o → o ≤ 69 → k ≤ i → upTo s p 0 (qpAt k) ≡ qpAt (heldBelow i o k)
+  pub at-below : (i o k : ℕ) → inOf s p 0 ≡ entryQp i → outOf s p 0 ≡ entryQp o → o ≤ 69 → k ≤ i → upTo s p 0 (entryQp k) ≡ entryQp (heldBelow i o k)
   unfolding upTo
   at-below i o k e f h q =
       rw (e, f, qp-sub i k, diff-abs i k)
-      (ap (below (qpAt o)) (omega arith) ∙ below-held i o k h q)
+      (ap (below (entryQp o)) (omega arith) ∙ below-held i o k h q)
 
-  pub reached-first : (i o : ℕ) → inOf s p 0 ≡ qpAt i → outOf s p 0 ≡ qpAt o → i ≤ 69 → o ≤ 69 → Reached 0 i o o
+  pub reached-first : (i o : ℕ) → inOf s p 0 ≡ entryQp i → outOf s p 0 ≡ entryQp o → i ≤ 69 → o ≤ 69 → Reached 0 i o o
   unfolding heldBelow
   reached-first i o e f h k =
       record {
         in-is = e;
         out-is = f;
-        entry-is = at-below i o i e f k (omega arith) ∙ ap qpAt (omega arith);
+        entry-is = at-below i o i e f k (omega arith) ∙ ap entryQp (omega arith);
         in-most = h;
         out-most = k;
         least = omega arith;
@@ -51,8 +51,8 @@ module _ (s : ℤ) (p : Points) where
       }
 
   -- the entries of the part that starts at pivot j
-  module _ (j i o v : ℕ) (r : Reached j i o v) (x u : ℕ) (at-a : aAt p (suc j) ≡ pos x) (at-out : outOf s p (suc j) ≡ qpAt u) where
-    pub at-between : (m : ℕ) → 0 < m → m ≤ x + 1 → upTo s p (suc j) (qpAt (i + m)) ≡ qpAt (heldBetween v o u (x + 1) m)
+  module _ (j i o v : ℕ) (r : Reached j i o v) (x u : ℕ) (at-a : aAt p (suc j) ≡ pos x) (at-out : outOf s p (suc j) ≡ entryQp u) where
+    pub at-between : (m : ℕ) → 0 < m → m ≤ x + 1 → upTo s p (suc j) (entryQp (i + m)) ≡ entryQp (heldBetween v o u (x + 1) m)
     unfolding upTo
     at-between m h q =
         rw (r .in-is, at-a, at-out, r .out-is, r .entry-is, qp-le (i + m) i, lt-leb (i + m) i (omega arith))
@@ -92,16 +92,16 @@ module _ (s : ℤ) (p : Points) where
     kept z j zero h e = rw (add-zero j)
     kept z j (suc d) h e = rw (add-suc j d, climbs z j d (omega arith) e) (kept z j d (omega arith) e)
 
-    pub settled : (j i k : ℕ) → j < p .count → inOf s p j ≡ qpAt i → k ≤ i → mapped s p (qpAt k) ≡ upTo s p j (qpAt k)
-    unfolding mapped
+    pub settled : (j i k : ℕ) → j < p .count → inOf s p j ≡ entryQp i → k ≤ i → tableAt s p (entryQp k) ≡ upTo s p j (entryQp k)
+    unfolding tableAt
     settled j i k h e q =
         let d = p .count - 1 - j in
         let last : lastOf p ≡ j + d = omega arith in
-        let at : leZ (qpAt k) (inOf s p j) ≡ true = ap (leZ (qpAt k)) e ∙ qp-le k i ∙ le-leb k i q in
-        rw (last, climbs (qpAt k) j d (omega arith) at) (kept (qpAt k) j d (omega arith) at)
+        let at : leZ (entryQp k) (inOf s p j) ≡ true = ap (leZ (entryQp k)) e ∙ qp-le k i ∙ le-leb k i q in
+        rw (last, climbs (entryQp k) j d (omega arith) at) (kept (entryQp k) j d (omega arith) at)
 
-  pub at-past : (i o v m : ℕ) → Reached (lastOf p) i o v → 0 < m → mapped s p (qpAt (i + m)) ≡ qpAt (heldPast v m)
-  unfolding mapped
+  pub at-past : (i o v m : ℕ) → Reached (lastOf p) i o v → 0 < m → tableAt s p (entryQp (i + m)) ≡ entryQp (heldPast v m)
+  unfolding tableAt
   at-past i o v m r h =
       rw (r .in-is, r .entry-is, qp-le (i + m) i, lt-leb (i + m) i (omega arith), qp-sub (i + m) i, diff-abs (i + m) i)
-      (ap (past (qpAt v)) (omega arith) ∙ past-held v m h)
+      (ap (past (entryQp v)) (omega arith) ∙ past-held v m h)

@@ -6,7 +6,7 @@ use lib.IntN.{ℤ, pos, negsuc, natAbs, _+ℤ_, _-ℤ_, _*ℤ_}
 use lib.Signed.{leZ, quotZ}
 use Rattle.laws.specs.Clip.{clipZ}
 use Rattle.laws.specs.Index.{pick, tabulate}
-use Rattle.chroma_qp_check.specs.Pivots.{Points, aAt, qpAt, inOf, outOf}
+use Rattle.chroma_qp_check.specs.Pivots.{Points, aAt, entryQp, inOf, outOf}
 
 -- clipped to -12..57
 unfoldable pub clipQp : ℤ → ℤ
@@ -40,8 +40,8 @@ abbrev pub lastOf : Points → ℕ
 lastOf p = p .count - 1
 
 -- T at a QP: up to the last pivot, and past it one more a step
-unfoldable pub mapped : ℤ → Points → ℤ → ℤ
-mapped s p qp =
+unfoldable pub tableAt : ℤ → Points → ℤ → ℤ
+tableAt s p qp =
     let end = inOf s p (lastOf p) in
     let earlier = upTo s p (lastOf p) qp in
     let later = past (upTo s p (lastOf p) end) (natAbs (qp -ℤ end)) in
@@ -49,4 +49,4 @@ mapped s p qp =
 
 -- T's 70 entries, for the QPs -12..57
 unfoldable pub tableOf : ℤ → Points → List ℤ
-tableOf s p = tabulate 70 (λ (k : ℕ). mapped s p (qpAt k))
+tableOf s p = tabulate 70 (λ (k : ℕ). tableAt s p (entryQp k))

@@ -8,7 +8,7 @@ ghost use lib.ListN.{length, getD, set};
 ghost use Rattle.laws.specs.Call.{Gives};
 ghost use Rattle.laws.specs.Plane.{withRow};
 ghost use Rattle.def.specs.Answers.{answerNumber};
-ghost use Rattle.chroma_qp_check.specs.Pivots.{qpAt};
+ghost use Rattle.chroma_qp_check.specs.Pivots.{entryQp};
 ghost use Rattle.chroma_qp.specs.Derived.{outcome};
 ghost use Rattle.chroma_qp.specs.Held.{heldBelow, heldBetween, heldPast, Entry, Checked};
 ghost use Rattle.chroma_qp.specs.Mapping.{tableOf};
@@ -36,7 +36,7 @@ fn least(x: usize, y: usize) -> usize
 // The entry that is held as v, at k.
 fn put(t: &mut [i8], k: usize, v: usize)
     requires { ⌜ (k < length (now t)) × (v ≤ 103) ⌝ }
-    ensures { λ _. ⌜ now (t .exit) ≡ set (now (t .entry)) k (qpAt v) ⌝ }
+    ensures { λ _. ⌜ now (t .exit) ≡ set (now (t .entry)) k (entryQp v) ⌝ }
 {
     t[k] = v as i8 - 12;
 }
@@ -44,7 +44,7 @@ fn put(t: &mut [i8], k: usize, v: usize)
 // What the entry at k is held as.
 fn held_at(t: &[i8], k: usize) -> usize
     requires { ⌜ (k < length (now t)) × Entry (getD (now t) k (pos 0)) ⌝ }
-    ensures { λ r. ⌜ qpAt r ≡ getD (now (t .entry)) k (pos 0) ⌝ }
+    ensures { λ r. ⌜ entryQp r ≡ getD (now (t .entry)) k (pos 0) ⌝ }
 {
     (t[k] + 12) as usize
 }
@@ -69,7 +69,7 @@ fn between(v: usize, from: usize, to: usize, n: usize, m: usize) -> usize
 // The entries up to the first pivot: its out at its in, and one less a step below.
 fn fill_below(t: &mut [i8], qp_in: usize, qp_out: usize)
     requires { ⌜ (length (now t) ≡ 70) × («qp_in» ≤ 69) × («qp_out» ≤ 69) ⌝ }
-    ensures { λ _. ⌜ now (t .exit) ≡ withRow (pos 0) 0 («qp_in» + 1) (λ (k : ℕ). qpAt (heldBelow «qp_in» «qp_out» k)) (now (t .entry)) ⌝ }
+    ensures { λ _. ⌜ now (t .exit) ≡ withRow (pos 0) 0 («qp_in» + 1) (λ (k : ℕ). entryQp (heldBelow «qp_in» «qp_out» k)) (now (t .entry)) ⌝ }
 {
     let mut k = 0;
     while k <= qp_in {
@@ -81,7 +81,7 @@ fn fill_below(t: &mut [i8], qp_in: usize, qp_out: usize)
 // The n entries past a pivot, up to the next.
 fn fill_between(t: &mut [i8], qp_in: usize, v: usize, from: usize, to: usize, n: usize)
     requires { ⌜ (length (now t) ≡ 70) × («qp_in» + n ≤ 69) × (0 < n) × (from ≤ v) × (2 * v ≤ 2 * from + «qp_in») × (from ≤ 69) × (to ≤ 69) ⌝ }
-    ensures { λ _. ⌜ now (t .exit) ≡ withRow (pos 0) («qp_in» + 1) n (λ (m : ℕ). qpAt (heldBetween v from to n (m + 1))) (now (t .entry)) ⌝ }
+    ensures { λ _. ⌜ now (t .exit) ≡ withRow (pos 0) («qp_in» + 1) n (λ (m : ℕ). entryQp (heldBetween v from to n (m + 1))) (now (t .entry)) ⌝ }
 {
     let mut m = 0;
     while m < n {
@@ -93,7 +93,7 @@ fn fill_between(t: &mut [i8], qp_in: usize, v: usize, from: usize, to: usize, n:
 // The entries past the last pivot: one more a step.
 fn fill_past(t: &mut [i8], qp_in: usize, v: usize)
     requires { ⌜ (length (now t) ≡ 70) × («qp_in» ≤ 69) × (v ≤ 103) ⌝ }
-    ensures { λ _. ⌜ now (t .exit) ≡ withRow (pos 0) («qp_in» + 1) (69 - «qp_in») (λ (m : ℕ). qpAt (heldPast v (m + 1))) (now (t .entry)) ⌝ }
+    ensures { λ _. ⌜ now (t .exit) ≡ withRow (pos 0) («qp_in» + 1) (69 - «qp_in») (λ (m : ℕ). entryQp (heldPast v (m + 1))) (now (t .entry)) ⌝ }
 {
     let n = 69 - qp_in;
     let mut m = 0;
@@ -106,7 +106,7 @@ fn fill_past(t: &mut [i8], qp_in: usize, v: usize)
 // A table from its points. v is the entry at the pivot's in, from which the next part starts: it may differ from the pivot's out.
 fn fill(t: &mut [i8], s: usize, count: usize, a: &[i8], b: &[i8])
     requires { ⌜ (length (now t) ≡ 70) × Checked s (record { count = count; a = now a; b = now b }) ⌝ }
-    ensures { λ _. ⌜ now (t .exit) ≡ tableOf (qpAt s) (record { count = count; a = now (a .entry); b = now (b .entry) }) ⌝ }
+    ensures { λ _. ⌜ now (t .exit) ≡ tableOf (entryQp s) (record { count = count; a = now (a .entry); b = now (b .entry) }) ⌝ }
 {
     let mut qp_in = s + delta_in(a[0]);
     let mut qp_out = qp_in + delta_out(b[0]) - 128;

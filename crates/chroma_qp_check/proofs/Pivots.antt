@@ -13,42 +13,42 @@ use lib.IntN.{ℤ, pos, _+ℤ_, _-ℤ_, +ℤ-assoc}
 use Rattle.laws.proofs.Calls.{all-at}
 use Rattle.laws.proofs.Differences.{diff-add, diff-le, leb-alike}
 use Rattle.chroma_qp_check.specs.Check.{pivotOk}
-use Rattle.chroma_qp_check.specs.Pivots.{Points, aAt, bAt, qpAt, inOf, outOf}
+use Rattle.chroma_qp_check.specs.Pivots.{Points, aAt, bAt, entryQp, inOf, outOf}
 use Rattle.chroma_qp_check.proofs.Offsets.{qp-add, qp-of}
 
 module _ (s : ℤ) (p : Points) where
   pub record Held (j i q : ℕ) : Type 0 where
-    pub in-is : inOf s p j ≡ qpAt i
+    pub in-is : inOf s p j ≡ entryQp i
     pub out-is : outOf s p j ≡ pos q -ℤ pos 140
 
-  pub held-first : (k x y : ℕ) → s ≡ qpAt k → aAt p 0 ≡ pos x → bAt p 0 ≡ pos y -ℤ pos 128 → Held 0 (k + x) (k + x + y)
-  unfolding inOf outOf qpAt
+  pub held-first : (k x y : ℕ) → s ≡ entryQp k → aAt p 0 ≡ pos x → bAt p 0 ≡ pos y -ℤ pos 128 → Held 0 (k + x) (k + x + y)
+  unfolding inOf outOf entryQp
   held-first k x y e f g =
-      let h : s +ℤ aAt p 0 ≡ qpAt (k + x) = ap (λ (z : ℤ). z +ℤ aAt p 0) e ∙ ap (λ (z : ℤ). qpAt k +ℤ z) f ∙ qp-add k x in
-      record { in-is = h; out-is = ap (λ (z : ℤ). z +ℤ bAt p 0) h ∙ ap (λ (z : ℤ). qpAt (k + x) +ℤ z) g ∙ diff-add (k + x) 12 y 128 }
+      let h : s +ℤ aAt p 0 ≡ entryQp (k + x) = ap (λ (z : ℤ). z +ℤ aAt p 0) e ∙ ap (λ (z : ℤ). entryQp k +ℤ z) f ∙ qp-add k x in
+      record { in-is = h; out-is = ap (λ (z : ℤ). z +ℤ bAt p 0) h ∙ ap (λ (z : ℤ). entryQp (k + x) +ℤ z) g ∙ diff-add (k + x) 12 y 128 }
 
-  module _ (j i x : ℕ) (at-in : inOf s p j ≡ qpAt i) (at-a : aAt p (suc j) ≡ pos x) where
-    pub in-next : inOf s p (suc j) ≡ qpAt (i + (x + 1))
+  module _ (j i x : ℕ) (at-in : inOf s p j ≡ entryQp i) (at-a : aAt p (suc j) ≡ pos x) where
+    pub in-next : inOf s p (suc j) ≡ entryQp (i + (x + 1))
     unfolding inOf
-    in-next = ap (λ (z : ℤ). z +ℤ (aAt p (suc j) +ℤ pos 1)) at-in ∙ ap (λ (z : ℤ). qpAt i +ℤ (z +ℤ pos 1)) at-a ∙ qp-add i (x + 1)
+    in-next = ap (λ (z : ℤ). z +ℤ (aAt p (suc j) +ℤ pos 1)) at-in ∙ ap (λ (z : ℤ). entryQp i +ℤ (z +ℤ pos 1)) at-a ∙ qp-add i (x + 1)
 
-    pub held-next : (o y : ℕ) → outOf s p j ≡ qpAt o → bAt p (suc j) ≡ pos y -ℤ pos 128 → Held (suc j) (i + (x + 1)) (o + (x + 1) + y)
-    unfolding outOf qpAt
+    pub held-next : (o y : ℕ) → outOf s p j ≡ entryQp o → bAt p (suc j) ≡ pos y -ℤ pos 128 → Held (suc j) (i + (x + 1)) (o + (x + 1) + y)
+    unfolding outOf entryQp
     held-next o y at-out g =
         record {
           in-is = in-next;
           out-is =
               ap (λ (z : ℤ). z +ℤ (aAt p (suc j) +ℤ pos 1 +ℤ bAt p (suc j))) at-out
-              ∙ ap (λ (z : ℤ). qpAt o +ℤ (z +ℤ pos 1 +ℤ bAt p (suc j))) at-a
-              ∙ ap (λ (z : ℤ). qpAt o +ℤ (pos (x + 1) +ℤ z)) g
-              ∙ sym (+ℤ-assoc (qpAt o) (pos (x + 1)) (pos y -ℤ pos 128))
+              ∙ ap (λ (z : ℤ). entryQp o +ℤ (z +ℤ pos 1 +ℤ bAt p (suc j))) at-a
+              ∙ ap (λ (z : ℤ). entryQp o +ℤ (pos (x + 1) +ℤ z)) g
+              ∙ sym (+ℤ-assoc (entryQp o) (pos (x + 1)) (pos y -ℤ pos 128))
               ∙ ap (λ (z : ℤ). z +ℤ (pos y -ℤ pos 128)) (qp-add o (x + 1))
               ∙ diff-add (o + (x + 1)) 12 y 128;
         }
 
   -- the code's test of a pivot
   pub pivot-test : (j i q : ℕ) → Held j i q → (leb i 69 && leb 128 q && leb q 197) ≡ pivotOk s p j
-  unfolding pivotOk qpAt
+  unfolding pivotOk entryQp
   pivot-test j i q h =
       rw (
         h .in-is,
@@ -68,7 +68,7 @@ module _ (s : ℤ) (p : Points) where
     pub in-most : i ≤ 69
     pub out-least : 128 ≤ q
     pub out-most : q ≤ 197
-    pub out-is : outOf s p j ≡ qpAt (q - 128)
+    pub out-is : outOf s p j ≡ entryQp (q - 128)
 
   pub tested : (j i q : ℕ) → Held j i q → pivotOk s p j ≡ true → Tested j i q
   tested j i q h e =

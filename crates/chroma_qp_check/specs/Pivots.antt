@@ -34,5 +34,5 @@ outOf s p zero = s +ℤ aAt p 0 +ℤ bAt p 0
 outOf s p (suc j) = outOf s p j +ℤ (aAt p (suc j) +ℤ pos 1 +ℤ bAt p (suc j))
 
 -- the QP whose entry stands at k: the index is 12+QP
-unfoldable pub qpAt : ℕ → ℤ
-qpAt k = pos k -ℤ pos 12
+unfoldable pub entryQp : ℕ → ℤ
+entryQp k = pos k -ℤ pos 12

@@ -8,7 +8,7 @@ ghost use lib.ListN.{length};
 ghost use Rattle.laws.specs.Call.{Gives};
 ghost use Rattle.laws.specs.Clip.{maxZ};
 ghost use Rattle.chroma_qp_check.specs.Check.{lengthsOk, pointsOk, pivotsOk, Counted, check};
-ghost use Rattle.chroma_qp_check.specs.Pivots.{startOf, qpAt};
+ghost use Rattle.chroma_qp_check.specs.Pivots.{startOf, entryQp};
 use def::Answer;
 use def::Refusal;
 
@@ -16,7 +16,7 @@ use def::Refusal;
 
 // startQp: 16 with the global flag, else -12.
 pub fn start_qp(global_offset: bool) -> usize
-    ensures { λ r. ⌜ (qpAt r ≡ startOf «global_offset») × (r ≤ 28) ⌝ }
+    ensures { λ r. ⌜ (entryQp r ≡ startOf «global_offset») × (r ≤ 28) ⌝ }
 {
     if global_offset { 28 } else { 0 }
 }
@@ -68,7 +68,7 @@ fn points_ok(count: usize, a: &[i8]) -> bool
 // take it 128 below -12.
 fn pivots_ok(s: usize, count: usize, a: &[i8], b: &[i8]) -> bool
     requires { ⌜ Counted s (record { count = count; a = now a; b = now b }) ⌝ }
-    ensures { λ r. ⌜ r ≡ pivotsOk (qpAt s) (record { count = count; a = now (a .entry); b = now (b .entry) }) ⌝ }
+    ensures { λ r. ⌜ r ≡ pivotsOk (entryQp s) (record { count = count; a = now (a .entry); b = now (b .entry) }) ⌝ }
 {
     let mut qp_in = s + delta_in(a[0]);
     let mut qp_out = qp_in + delta_out(b[0]);
@@ -98,7 +98,7 @@ fn second_points_ok(same_table: bool, count: usize, a: &[i8]) -> bool
 
 fn second_pivots_ok(same_table: bool, s: usize, count: usize, a: &[i8], b: &[i8]) -> bool
     requires { ⌜ (s ≤ 28) × (length (now a) ≡ 58) × (length (now b) ≡ 58) × ((«same_table» || pointsOk count (now a)) ≡ true) ⌝ }
-    ensures { λ r. ⌜ r ≡ («same_table» || pivotsOk (qpAt s) (record { count = count; a = now (a .entry); b = now (b .entry) })) ⌝ }
+    ensures { λ r. ⌜ r ≡ («same_table» || pivotsOk (entryQp s) (record { count = count; a = now (a .entry); b = now (b .entry) })) ⌝ }
 {
     if same_table {
         return true;

@@ -8,6 +8,11 @@ abbrev pub scaleOf : Component → ℕ
 scaleOf Luma = 1
 scaleOf Chroma = 2
 
+-- samples along a unit's side
+abbrev pub unitSide : Component → ℕ
+unitSide Luma = 4
+unitSide Chroma = 2
+
 -- samples of the component's plane
 abbrev pub planeLength : Component → ℕ → ℕ → ℕ
 planeLength c w h = (w / scaleOf c) * (h / scaleOf c)

@@ -5,6 +5,7 @@ ghost use Prim.Native.Nat.{_/_, _≤_, _<_};
 ghost use Rattle.def.specs.Answers.{answerNumber};
 ghost use Rattle.def.specs.Blocks.{blockSideOk, componentSideOk, blockOk, unitOk};
 ghost use Rattle.def.specs.Components.{scaleOf};
+ghost use Rattle.def.specs.Formats.{inFormat};
 ghost use Rattle.def.specs.Picture.{sizeOk};
 ghost use Rattle.def.specs.Refusals.{numberOf};
 ghost use Rattle.def.specs.Word.{intraOf, qpOf, codedOf, doneOf, withDone, withoutDone, bit, leafWord};
@@ -45,6 +46,16 @@ pub fn in_component(c: Component, n: usize) -> usize
     match c {
         Component::Luma => n,
         Component::Chroma => n / 2,
+    }
+}
+
+// A length of colour, in a picture of the format.
+pub fn in_format(format: Format, n: usize) -> usize
+    ensures { λ r. ⌜ r ≡ inFormat format n ⌝ }
+{
+    match format {
+        Format::Grey => 0,
+        Format::Colour => n,
     }
 }
 

@@ -30,7 +30,7 @@ use Rattle.df_check.proofs.Bands.{band-size, few-above, few-rows}
 use Rattle.df_check.proofs.Passed.{word-any, mark-any}
 use Rattle.df_rules.specs.Filter.{Planes, inY, inU, inV, finished}
 use Rattle.df_rules.specs.Frame.{Frame}
-use Rattle.df_rules.specs.Leaves.{Accepted}
+use Rattle.split.specs.Accepted.{Accepted}
 use Rattle.df_rules.specs.Places.{unitQ, unitP}
 use Rattle.df_rules.specs.Window.{Samples}
 use Rattle.df_rules.specs.Visit.{allDone}
@@ -262,7 +262,7 @@ module _ (j : band.Input) (fine : band.check j ≡ Done) (pos : 1 ≤ band.wide 
   pub accepted : Accepted (j .w) (4 * n) (j .splits)
   accepted =
       record {
-        sides = band-size (j .next) (j .band) (sized (j .w) (j .h) (t .size)) (t .position) .own;
+        size = band-size (j .next) (j .band) (sized (j .w) (j .h) (t .size)) (t .position) .own;
         long = t .long-splits;
         walked = ap (λ (r : ℕ). pictureWalk (j .splits) w r .answer) walked-rows ∙ t .walk;
       }

@@ -18,7 +18,7 @@ use Rattle.strength.proofs.Strengths.{luma-entry, u-entry, v-entry}
 use Rattle.df_check.proofs.Passed.{Passed, passed}
 use Rattle.df_rules.specs.Filter.{Planes, inY, inU, inV, filterAll}
 use Rattle.df_rules.specs.Frame.{Frame, Both}
-use Rattle.df_rules.specs.Leaves.{Accepted}
+use Rattle.split.specs.Accepted.{Accepted}
 use Rattle.df_rules.specs.Places.{unitQ, unitP}
 use Rattle.df_rules.specs.Strength.{rowAt, qpAt, strengthOf, strength}
 use Rattle.df_rules.proofs.Planes.{planes-finished}
@@ -38,7 +38,7 @@ module _ (i : Input) (fine : check i ≡ Fine) where
   size = sized (i .w) (i .h) (told .size)
 
   pub accepted : Accepted (i .w) (i .h) (i .splits)
-  accepted = record { sides = told .size; long = told .lengths .splits; walked = told .walk }
+  accepted = record { size = told .size; long = told .lengths .splits; walked = told .walk }
 
   units : unitCount (i .w) (i .h) ≡ i .h / 4 * (i .w / 4)
   units = mul-comm (i .w / 4) (i .h / 4)

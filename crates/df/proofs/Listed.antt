@@ -27,7 +27,7 @@ use Rattle.split.specs.declared.Walked.the-variants.{Done as Counted, Refused a
 use Rattle.split.proofs.Callers.{index-back, leaves-given}
 use Rattle.split.proofs.Demand3.{edges-twice}
 use Rattle.split.proofs.Roots.{root-column, root-row}
-use Rattle.df_rules.specs.Leaves.{Accepted}
+use Rattle.split.specs.Accepted.{Accepted}
 use Rattle.df.specs.Plan.{edgesFrom, ListedRoot}
 use Rattle.split.specs.RootCall.{leafDown}
 use Rattle.edges.specs.Put.{Put}
@@ -43,8 +43,8 @@ module _ {w h : ℕ} {s : List ℕ} (a : Accepted w h s) (i : ℕ) (early : i < 
   passes : root-call.check rootIn ≡ Done
   unfolding root-call.checkOf
   passes =
-      let z = sized w h (a .sides) in
-      rw (a .sides, le-leb (top + h / 4) 1024 high, eq-eqb (length out) 512 long) (leaves-given w h s _ _ (a .sides) (a .long) (a .walked) (omega arith) (omega arith) (root-column z i early) (root-row z i early))
+      let z = sized w h (a .size) in
+      rw (a .size, le-leb (top + h / 4) 1024 high, eq-eqb (length out) 512 long) (leaves-given w h s _ _ (a .size) (a .long) (a .walked) (omega arith) (omega arith) (root-column z i early) (root-row z i early))
 
   module _ (g : Gives root-call.outcome rootIn (leaves-call.after r list)) where
     given : leaves-call.after r list ≡ root-call.done rootIn

@@ -26,7 +26,7 @@ use Rattle.split.proofs.Demand3.{demand-3, edges-twice}
 use Rattle.split.proofs.Induct.{Cases, walk-ind, test}
 use Rattle.split.proofs.Roots.{roots-units, some-wide}
 use Rattle.split.proofs.Walks.{each-done}
-use Rattle.df_rules.specs.Leaves.{Accepted}
+use Rattle.split.specs.Accepted.{Accepted}
 use Rattle.split.specs.RootCall.{leafDown}
 use Rattle.bands_rules.proofs.Lists.{Lies, list-in, map-mem}
 use Rattle.edges.proofs.RootLists.{block-few}
@@ -48,7 +48,7 @@ map-in f (q ∷ l) p m = ⊎-elim (λ e. List·Memᴰ·head (ap f e)) (λ i. Lis
 
 module _ (w h : ℕ) (s : List ℕ) (a : Accepted w h s) (i : ℕ) (early : i < rootCount w h) where
   abbrev size : Sized w h
-  size = sized w h (a .sides)
+  size = sized w h (a .size)
 
   in-time : i < roots (w / 4) (h / 4)
   in-time = rw (roots-units size) early

@@ -5,7 +5,7 @@ ghost use lib.ListN.{length, take, drop};
 ghost use Rattle.def.specs.Formats.{inFormat};
 ghost use Rattle.split.specs.Edges.{vertical, horizontal};
 ghost use Rattle.df_rules.specs.Frame.{Frame};
-ghost use Rattle.df_rules.specs.Leaves.{Accepted};
+ghost use Rattle.split.specs.Accepted.{Accepted};
 ghost use Rattle.bands_rules.specs.Bands.{listFrom, Both};
 ghost use Rattle.laws.specs.Call.{Gives};
 ghost use Rattle.df.specs.Band as Band;
@@ -15,10 +15,10 @@ use crate::entries_by;
 use def::Answer;
 use def::Format;
 use def::Refusal;
+use def::in_format;
 use df_check::Settings;
 use df_check::band_rows;
 use df_check::checked_band;
-use df_check::in_format;
 use df_check::rows_above;
 
 // A position in a picture that is done by bands: the band that comes next.

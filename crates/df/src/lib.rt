@@ -8,7 +8,7 @@ ghost use Rattle.split.specs.Edges.{vertical, horizontal};
 ghost use Rattle.bands_rules.specs.Bands.{listFrom, Both};
 ghost use Rattle.strength.specs.Entries.{entriesOf};
 ghost use Rattle.df_rules.specs.Frame.{Frame};
-ghost use Rattle.df_rules.specs.Leaves.{Accepted};
+ghost use Rattle.split.specs.Accepted.{Accepted};
 ghost use Rattle.df_rules.specs.Visit.{allDone};
 ghost use Rattle.df.specs.Deblock as Deblock;
 ghost use Rattle.df.specs.Plan.{RowsLent};

@@ -6,7 +6,7 @@ ghost use lib.ListN.{length};
 ghost use Rattle.def.specs.Picture.{rootCount};
 ghost use Rattle.bands_rules.specs.Bands.{listFrom};
 ghost use Rattle.df_rules.specs.Frame.{Frame};
-ghost use Rattle.df_rules.specs.Leaves.{Accepted};
+ghost use Rattle.split.specs.Accepted.{Accepted};
 ghost use Rattle.df.specs.Edges.{passOf};
 ghost use Rattle.df.specs.Plan.{ListedRoot, PassDone, RowsLent};
 use crate::filter::Size;

@@ -11,7 +11,8 @@ use Rattle.laws.specs.Call.{unless, allOf}
 use Rattle.laws.specs.Scan.{allIn}
 use Rattle.def.specs.Answers.{afterChecks}
 use Rattle.def.specs.Formats.{inFormat}
-use Rattle.def.specs.Picture.{sizeOk, lumaLength, chromaLength, unitCount, rootCount}
+pub use Rattle.def.specs.Formats.{colourLength}
+use Rattle.def.specs.Picture.{sizeOk, lumaLength, unitCount, rootCount}
 use Rattle.def.specs.Word.{qpOf}
 use Rattle.def.specs.declared.Answer.{Answer}
 use Rattle.def.specs.declared.Answer.the-variants.{Done, Refused}
@@ -24,10 +25,7 @@ use Rattle.split.specs.Picture.{pictureWalk}
 use Rattle.df_check.specs.declared.Settings.{Settings}
 use Rattle.df_check.specs.declared.check.Lengths.{Lengths}
 
--- of colour, in a picture of the format: the samples of a plane of h rows of luma samples, and the entries of a table
-abbrev pub colourLength : Format → (w h : ℕ) → ℕ
-colourLength f w h = inFormat f (chromaLength w h)
-
+-- entries of a chroma table, in a picture of the format
 abbrev pub tableLength : Format → ℕ
 tableLength f = inFormat f 70
 

@@ -4,7 +4,6 @@ ghost use mathlib.Core.Bool.{true};
 ghost use mathlib.Core.Path.{_≡_};
 ghost use Prim.Native.Nat.{_≤_};
 ghost use Rattle.laws.specs.Call.{Gives};
-ghost use Rattle.def.specs.Formats.{inFormat};
 ghost use Rattle.def.specs.Picture.{sizeOk};
 ghost use Rattle.def.proofs.Sizes.{Sized};
 ghost use Rattle.df_check.specs.Checks.{lengthsOk, leastOffset, mostOffset, offsetOk, settingsOk, keepOk, qpsOk, planesOk, fromLengths, checkOf};
@@ -12,18 +11,9 @@ use crate::Settings;
 use def::Answer;
 use def::Format;
 use def::Refusal;
+use def::in_format;
 
 // ---- 2: lengths
-
-// A length of colour, in a picture of the format.
-pub fn in_format(format: Format, n: usize) -> usize
-    ensures { λ r. ⌜ r ≡ inFormat format n ⌝ }
-{
-    match format {
-        Format::Grey => 0,
-        Format::Colour => n,
-    }
-}
 
 // How long each lent slice is.
 struct Lengths {

@@ -7,7 +7,6 @@ pub use band::band_rows;
 pub use band::checked_band;
 pub use band::rows_above;
 pub use check::checked;
-pub use check::in_format;
 use def::Format;
 
 // The transform limit, 5 or 6, the offsets of U's QP and of V's, -12..12 and in a grey picture 0, and the picture's format.

@@ -22,7 +22,7 @@ use Rattle.split.specs.Picture.{pictureWalk}
 use Rattle.split.specs.Rows.{EdgeOf, rowList}
 use Rattle.df_rules.specs.Demand3.{RowByRow, Demand3}
 use Rattle.df_rules.specs.Filter.{filtered, finished}
-use Rattle.df_rules.specs.Leaves.{Accepted}
+use Rattle.split.specs.Accepted.{Accepted}
 use Rattle.df_rules.specs.Places.{unitQ}
 use Rattle.df_rules.specs.Strength.{Maps}
 use Rattle.df_rules.proofs.Rows.{row-members, filtered-rows}
@@ -58,4 +58,4 @@ module _ (short : Bool) (s : List ℕ) (w h : ℕ) (pos : 1 ≤ w) (accepted : p
   demand-3 = record { lists = lists-3 short s w h pos accepted; rows = rows; only-rows = only-rows; planes = planes }
 
 pub accepted-demand-3 : (short : Bool) (s : List ℕ) (w h : ℕ) → Accepted w h s → Demand3 short s (w / 4) (h / 4)
-accepted-demand-3 short s w h a = demand-3 short s (w / 4) (h / 4) (some-wide (sized w h (a .sides))) (a .walked)
+accepted-demand-3 short s w h a = demand-3 short s (w / 4) (h / 4) (some-wide (sized w h (a .size))) (a .walked)

@@ -6,15 +6,11 @@ use mathlib.Core.Path.{_≡_}
 use lib.ListN.{getD}
 use Rattle.line.specs.declared.Mask.{Mask}
 use Rattle.line.specs.declared.Quad.{Quad}
-use Rattle.df_rules.specs.Window.{putIf}
+pub use Rattle.df_rules.specs.Window.{putLine}
 
 -- the four samples at `at`
 abbrev pub samplesAt : (step at : ℕ) → List ℕ → Quad
 samplesAt step at xs = record { a = getD xs at 0; b = getD xs (at + step) 0; c = getD xs (at + 2 * step) 0; d = getD xs (at + 3 * step) 0 }
-
--- q over the line at `at`: the samples that the mask says are written, and no other
-abbrev pub putLine : Mask → (step at : ℕ) → Quad → List ℕ → List ℕ
-putLine m step at q xs = putIf (m .d) (at + 3 * step) (q .d) (putIf (m .c) (at + 2 * step) (q .c) (putIf (m .b) (at + step) (q .b) (putIf (m .a) at (q .a) xs)))
 
 -- n lines, q k over the k-th
 unfoldable pub putLines : Mask → (q : ℕ → Quad) → (step next at n : ℕ) → List ℕ → List ℕ

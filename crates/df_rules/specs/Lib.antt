@@ -2,7 +2,6 @@ pub mod Demand3
 pub mod Filter
 pub mod Frame
 pub mod Lanes
-pub mod Leaves
 pub mod Moves
 pub mod Places
 pub mod Strength

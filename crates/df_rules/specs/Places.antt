@@ -1,14 +1,8 @@
 -- Where a pass's edges lie in planes and maps. A place is told across the pass's edges and along them, so that both passes are one definition.
 -- Assumes nothing: these are definitions.
 use Prim.Native.Nat.{ℕ, _+_, _-_, _*_}
-use Rattle.def.specs.declared.Component.{Component}
-use Rattle.def.specs.declared.Component.the-variants.{Luma, Chroma}
+pub use Rattle.def.specs.Components.{unitSide}
 use Rattle.split.specs.Edges.{Pass, vertical, horizontal, Edge}
-
--- samples along a unit's side
-abbrev pub unitSide : Component → ℕ
-unitSide Luma = 4
-unitSide Chroma = 2
 
 -- in a plane, or a map, of `wide` a row: from one place to the next across the edges, and along them
 abbrev pub stepAcross : Pass → ℕ → ℕ

@@ -19,11 +19,14 @@ abbrev pub putIf : Bool → (i v : ℕ) → List ℕ → List ℕ
 putIf true i v xs = set xs i v
 putIf false i v xs = xs
 
--- the samples that the mask says are written, and no other
-unfoldable pub lineAt : Mask → (st step at : ℕ) → List ℕ → List ℕ
-lineAt m st step at xs =
-    let q = quadAt st step at xs in
+-- q over the line at `at`: the samples that the mask says are written, and no other
+abbrev pub putLine : Mask → (step at : ℕ) → Quad → List ℕ → List ℕ
+putLine m step at q xs =
     putIf (m .d) (at + 3 * step) (q .d) (putIf (m .c) (at + 2 * step) (q .c) (putIf (m .b) (at + step) (q .b) (putIf (m .a) at (q .a) xs)))
+
+-- one line
+unfoldable pub lineAt : Mask → (st step at : ℕ) → List ℕ → List ℕ
+lineAt m st step at xs = putLine m step at (quadAt st step at xs) xs
 
 -- n lines, one after the other
 unfoldable pub linesAt : Mask → (st step next at n : ℕ) → List ℕ → List ℕ

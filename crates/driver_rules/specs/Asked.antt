@@ -8,16 +8,16 @@ use lib.ListN.{length, getD}
 use Rattle.def.specs.Blocks.{blockOk}
 use Rattle.def.specs.Components.{scaleOf, planeLength}
 use Rattle.def.specs.Formats.{inFormat}
-use Rattle.def.specs.Picture.{sizeOk, rootCount, unitCount}
+use Rattle.def.specs.Picture.{sizeOk, unitCount}
 use Rattle.def.specs.Word.{doneOf}
 use Rattle.def.specs.declared.Component.{Component}
 use Rattle.def.specs.declared.Component.the-variants.{Luma, Chroma}
 use Rattle.def.specs.declared.Format.the-variants.{Colour}
-use Rattle.def.specs.declared.Answer.the-variants.{Done}
 use Rattle.nbr.specs.Gather.{Around, unitSide}
 use Rattle.def.specs.Units.{unitAt}
 use Rattle.samples.specs.Samples.{samplesOk}
-use Rattle.split.specs.Picture.{pictureWalk, rootLeaves}
+pub use Rattle.split.specs.Accepted.{Accepted}
+use Rattle.split.specs.Picture.{rootLeaves}
 use Rattle.split.specs.Stored.{leavesFrom}
 use Rattle.driver_rules.specs.Records.{Place, maskAt, mostMask}
 use Rattle.driver_rules.specs.Steps.{Given, State, steps}
@@ -85,12 +85,6 @@ pub record Sides (l : List ℕ) (n : ℕ) : Type 0 where
   pub few : n ≤ 256
   pub units : (j : ℕ) → j < n → getD l (3 * j + 2) 0 % 4 ≡ 0
   pub most : (j : ℕ) → j < n → getD l (3 * j + 2) 0 ≤ 64
-
--- a picture whose walk is not refused
-pub record Accepted (w h : ℕ) (splits : List ℕ) : Type 0 where
-  pub size : sizeOk w h ≡ true
-  pub long : length splits ≡ 1024 * rootCount w h
-  pub walked : pictureWalk splits (w / 4) (h / 4) .answer ≡ Done
 
 -- the list holds the leaves of root i, n of them
 pub record Listed (w h : ℕ) (splits : List ℕ) (i : ℕ) (l : List ℕ) (n : ℕ) : Type 0 where

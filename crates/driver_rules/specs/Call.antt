@@ -8,8 +8,8 @@ use lib.ListN.{length}
 use Rattle.laws.specs.Call.{unless, allOf}
 use Rattle.laws.specs.Index.{tabulate}
 use Rattle.def.specs.Answers.{afterChecks}
-use Rattle.def.specs.Formats.{inFormat}
-use Rattle.def.specs.Picture.{sizeOk, lumaLength, chromaLength, unitCount, rootCount}
+pub use Rattle.def.specs.Formats.{colourLength}
+use Rattle.def.specs.Picture.{sizeOk, lumaLength, unitCount, rootCount}
 use Rattle.def.specs.Refusals.{numberOf}
 use Rattle.def.specs.declared.Format.{Format}
 use Rattle.def.specs.declared.Refusal.{Refusal}
@@ -45,10 +45,6 @@ abbrev pub leavesOf : (w h : ℕ) → List ℕ → List Leaf
 leavesOf w h splits = allLeaves splits (w / 4) (h / 4)
 
 -- ---- the checks
-
--- samples of U and of V: a grey picture has none
-abbrev pub colourLength : Format → (w h : ℕ) → ℕ
-colourLength f w h = inFormat f (chromaLength w h)
 
 -- 2: what is read, but the two lists; and what is written
 abbrev pub readTests : (w h : ℕ) → Format → (splits py pu pv : ℕ) → List Bool

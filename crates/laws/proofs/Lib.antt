@@ -13,7 +13,6 @@ pub mod Planes
 pub mod ScanAll
 pub mod Scans
 pub mod Signs
-pub mod Table
 pub mod Tabulate
 pub mod Whole
 pub mod Widths

@@ -6,4 +6,3 @@ pub mod Orders
 pub mod Plane
 pub mod Scan
 pub mod Sign
-pub mod Table

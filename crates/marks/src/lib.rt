@@ -42,8 +42,8 @@ fn byte_place(x: Pel, y: Pel, side: usize, level: usize) -> usize
     256 * level + (16 * row + column)
 }
 
-// Where a part of a block that is cut stands across or down, by its bit.
-fn part_at(at: Pel, half: usize, bit: usize) -> Pel
+// Across or down, where a part of a block that is cut stands, by its bit: half a side on, or not.
+fn half_on(at: Pel, half: usize, bit: usize) -> Pel
     requires { ⌜ (at .0 + half ≤ 8192) × (bit ≤ 1) ⌝ }
     ensures { λ r. ⌜ r .0 ≡ at .0 + bit * half ⌝ }
 {
@@ -124,8 +124,8 @@ fn mark_block(
     let half = side / 2;
     let mut part = 0;
     while part < 4 {
-        let part_x = part_at(x, half, part % 2);
-        let part_y = part_at(y, half, part / 2);
+        let part_x = half_on(x, half, part % 2);
+        let part_y = half_on(y, half, part / 2);
         count = mark_block(bytes, w, h, part_x, part_y, half, level + 1, out, count);
         part += 1;
     }
@@ -233,8 +233,8 @@ fn grow_block(
     let half = side / 2;
     let mut part = 0;
     while part < 4 {
-        let part_x = part_at(x, half, part % 2);
-        let part_y = part_at(y, half, part / 2);
+        let part_x = half_on(x, half, part % 2);
+        let part_y = half_on(y, half, part / 2);
         match grow_block(
             src,
             from,

@@ -16,7 +16,7 @@ use Rattle.def.specs.declared.Refusal.the-variants.{Size, Length, Block, Mode}
 use Rattle.def.specs.declared.Answer.the-variants.{Done}
 use Rattle.def.proofs.Ladders.{passes}
 use Rattle.def.proofs.Blocks.{placed}
-use Rattle.mpm.specs.Ranks.{Input, UnitOf, leftMode, upMode, modeOk, modesOk, indexOf, lengthTests, lengthsOk, check}
+use Rattle.mpm.specs.Ranks.{Input, UnitOf, leftMode, upMode, modeOk, modesOk, modeIndex, lengthTests, lengthsOk, check}
 
 -- maps of the picture's length, and one of its units
 pub unit-of : (w h : ℕ) (words modes : List ℕ) (table x y : ℕ) → lengthsOk w h (length words) (length modes) table ≡ true → x < w / 4 → y < h / 4 → UnitOf w h words modes x y
@@ -70,8 +70,8 @@ or-left false b f e = sym f ∙ e
 pub mode-small : (mode : ℕ) → eqb mode 255 ≡ false → modeOk mode ≡ true → mode ≤ 4
 mode-small mode f e = leb-true mode 4 (or-left (leb mode 4) (eqb mode 255) f e)
 
-pub index-small : (mode : ℕ) → modeOk mode ≡ true → indexOf mode ≤ 5
+pub index-small : (mode : ℕ) → modeOk mode ≡ true → modeIndex mode ≤ 5
 index-small mode e = go (eqb mode 255) refl where
-  go : (b : Bool) → eqb mode 255 ≡ b → indexOf mode ≤ 5
+  go : (b : Bool) → eqb mode 255 ≡ b → modeIndex mode ≤ 5
   go true f = rw f (omega arith)
   go false f = rw f (omega (arith, mode-small mode f e))

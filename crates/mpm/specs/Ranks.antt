@@ -57,11 +57,11 @@ modeOk mode = leb mode 4 || eqb mode 255
 -- ---- the row of ranks
 
 -- mode + 1, and 0 of none
-abbrev pub indexOf : ℕ → ℕ
-indexOf mode = pick (eqb mode 255) 0 (mode + 1)
+abbrev pub modeIndex : ℕ → ℕ
+modeIndex mode = pick (eqb mode 255) 0 (mode + 1)
 
 unfoldable pub rowStart : ℕ → (words modes : List ℕ) → (x y : ℕ) → ℕ
-rowStart w words modes x y = 5 * (6 * indexOf (leftMode w words modes x y) + indexOf (upMode w words modes x y))
+rowStart w words modes x y = 5 * (6 * modeIndex (leftMode w words modes x y) + modeIndex (upMode w words modes x y))
 
 -- ---- the two calls
 

@@ -6,7 +6,7 @@ ghost use denote.Ref.{ptr};
 ghost use Rattle.laws.specs.Call.{Gives};
 ghost use Rattle.def.specs.Answers.{answerNumber};
 ghost use Rattle.def.specs.declared.Answer.{Answer};
-ghost use Rattle.mpm.specs.Ranks.{UnitOf, modeAt, leftMode, upMode, modeOk, modesOk, indexOf, rowStart, lengthsOk, check, numberOutcome, partOutcome};
+ghost use Rattle.mpm.specs.Ranks.{UnitOf, modeAt, leftMode, upMode, modeOk, modesOk, modeIndex, rowStart, lengthsOk, check, numberOutcome, partOutcome};
 use def::Answer;
 use def::Refusal;
 use def::Scu;
@@ -53,9 +53,9 @@ fn mode_ok(mode: u8) -> bool
 }
 
 // mode + 1, and 0 of none.
-fn index_of(mode: u8) -> usize
+fn mode_index(mode: u8) -> usize
     requires { ⌜ modeOk mode ≡ true ⌝ }
-    ensures { λ r. ⌜ (r ≡ indexOf mode) × (r ≤ 5) ⌝ }
+    ensures { λ r. ⌜ (r ≡ modeIndex mode) × (r ≤ 5) ⌝ }
 {
     if mode == 255 {
         return 0;
@@ -110,8 +110,8 @@ fn row_start(w: usize, h: usize, map_scu: &[u32], map_ipm: &[u8], x: Scu, y: Scu
     requires { ⌜ UnitOf w h (now «map_scu») (now «map_ipm») (x .0) (y .0) × (modesOk w (now «map_scu») (now «map_ipm») (x .0) (y .0) ≡ true) ⌝ }
     ensures { λ r. ⌜ (r ≡ rowStart w (now («map_scu» .entry)) (now («map_ipm» .entry)) (x .0) (y .0)) × (r ≤ 175) ⌝ }
 {
-    let l = index_of(left_mode(w, h, map_scu, map_ipm, x, y));
-    let u = index_of(up_mode(w, h, map_scu, map_ipm, x, y));
+    let l = mode_index(left_mode(w, h, map_scu, map_ipm, x, y));
+    let u = mode_index(up_mode(w, h, map_scu, map_ipm, x, y));
     5 * (6 * l + u)
 }
 

@@ -12,9 +12,8 @@ use Rattle.def.specs.Answers.{afterChecks}
 use Rattle.def.specs.Refusals.{numberOf}
 use Rattle.def.specs.declared.Refusal.{Refusal}
 use Rattle.def.specs.declared.Refusal.the-variants.{Size, Setting, Sheet, Old}
-use Rattle.split.specs.Edges.{Pass, vertical, horizontal, Edge, visitOf, nearEdge}
+use Rattle.split.specs.Edges.{vertical, horizontal, Edge, edgesOf}
 use Rattle.split.specs.ListCall.{limitOk}
-use Rattle.split.specs.Walk.{Leaf}
 use Rattle.sheet_lines.specs.Lines.{firstBad, widthOf, heightOf, limitOf, oldOf, digitsOf}
 use Rattle.marks_rules.specs.Descent.{Descent}
 use Rattle.sheet.specs.Descent.{pictureDescent, asSheet}
@@ -33,10 +32,6 @@ sideTests w h = leb 4 w ∷ leb w 256 ∷ eqb (w % 4) 0 ∷ leb 4 h ∷ leb h 25
 
 unfoldable pub sidesOk : ℕ → ℕ → Bool
 sidesOk w h = allOf (sideTests w h)
-
--- a pass's edges, from the leaves in the order of the walk
-abbrev pub edgesOf : Pass → Bool → List Leaf → List Edge
-edgesOf d short l = each (nearEdge d) (each (visitOf d short) l)
 
 -- what the walk meets, digits that ran out among it; then digits that are left over; then the edges
 unfoldable pub foundBy : Bool → Descent → Found

@@ -1,3 +1,4 @@
+pub mod Accepted
 pub mod CheckCall
 pub mod Demand3
 pub mod Edges

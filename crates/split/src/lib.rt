@@ -85,12 +85,21 @@ fn put_unit(w: usize, h: usize, x: Pel, y: Pel, out: &mut [u16], n: usize) -> Wa
     put_leaf(w, h, x, y, 4, 4, out, n)
 }
 
-// evc_split_get_part_structure: where a part stands across or down, by its bit: the column's is the low one of the part's number, the row's the high one.
-fn part_at(at: Pel, half: usize, bit: usize) -> Pel
-    requires { ⌜ (at .0 + half ≤ 8192) × (bit ≤ 1) ⌝ }
-    ensures { λ r. ⌜ r .0 ≡ at .0 + bit * half ⌝ }
+// A part's place.
+struct Part {
+    x: Pel,
+    y: Pel,
+}
+
+// evc_split_get_part_structure: the place of one part of the block at (x, y), by its number: the low bit is its column's, the high one its row's.
+fn part_at(x: Pel, y: Pel, half: usize, part: usize) -> Part
+    requires { ⌜ (x .0 + half ≤ 8192) × (y .0 + half ≤ 8192) × (part < 4) ⌝ }
+    ensures { λ r. ⌜ (r .x .0 ≡ x .0 + part % 2 * half) × (r .y .0 ≡ y .0 + part / 2 * half) ⌝ }
 {
-    Pel(at.0 + bit * half)
+    Part {
+        x: Pel(x.0 + part % 2 * half),
+        y: Pel(y.0 + part / 2 * half),
+    }
 }
 
 // The leaves of the block at (x, y), of side 8 or more, in the order of the walk, which calls itself on blocks of half the side until they are units.
@@ -122,12 +131,11 @@ fn walk_block(
     let mut count = n;
     let mut part = 0;
     while part < 4 {
-        let part_x = part_at(x, half, part % 2);
-        let part_y = part_at(y, half, part / 2);
+        let place = part_at(x, y, half, part);
         let walked = if level == 3 {
-            put_unit(w, h, part_x, part_y, out, count)
+            put_unit(w, h, place.x, place.y, out, count)
         } else {
-            walk_block(bytes, w, h, part_x, part_y, half, level + 1, out, count)
+            walk_block(bytes, w, h, place.x, place.y, half, level + 1, out, count)
         };
         match walked {
             Walked::Done(met) => {

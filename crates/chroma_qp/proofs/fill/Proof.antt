@@ -6,7 +6,7 @@ use native.Mathlib.Omega.{arith}
 use borrow.Author.Needs.{needs}
 use denote.Ref.{now}
 use lib.IntN.{pos, _-ℤ_}
-use Rattle.chroma_qp_check.specs.Pivots.{Points, aAt, bAt, qpAt}
+use Rattle.chroma_qp_check.specs.Pivots.{Points, aAt, bAt, entryQp}
 use Rattle.chroma_qp_check.proofs.Bytes.{delta-in-is, delta-out-is}
 use Rattle.chroma_qp_check.proofs.Pivots.{Tested}
 use Rattle.chroma_qp_check.proofs.Points.{countable}
@@ -47,7 +47,8 @@ first-b : (c : tie.After-delta-out Inv-loop μ-loop) → bAt (points (c .before 
 first-b c = delta-out-is _ _ (record { sfits = c .before .delta-out-arg .given }) (c .delta-out .ensures .0)
 
 -- pivot 0 is in range
-first : (c : tie.After-delta-out Inv-loop μ-loop) → let at = c .before .before .before .before in let i = at .args .s + c .before .before .delta-in .result in Tested (qpAt (at .args .s)) (points at) 0 i (i + c .delta-out .result)
+first : (c : tie.After-delta-out Inv-loop μ-loop) → let at = c .before .before .before .before in
+    let i = at .args .s + c .before .before .delta-in .result in Tested (entryQp (at .args .s)) (points at) 0 i (i + c .delta-out .result)
 first c = first-range _ _ (c .before .before .before .before .pre .1) _ _ (first-a (c .before .before)) (first-b c)
 
 sub-qp-out : tie.Need-sub-qp-out Inv-loop μ-loop
@@ -88,7 +89,8 @@ add-next-2 : tie.Need-add-next-2 Inv-loop μ-loop
 add-next-2 c = omega (arith, c .before .before .before .before .before .loop .inv .reached .out-most)
 
 -- the next pivot's point, and that the pivot is in range
-point : (c : tie.After-delta-out2 Inv-loop μ-loop) → Next (points (c .before .before .before .before .before .before .before .before .before .before .before .before .before)) (c .before .before .before .before .before .loop .j) (c .before .before .delta-in2 .result) (c .delta-out2 .result)
+point : (c : tie.After-delta-out2 Inv-loop μ-loop) → Next (points (c .before .before .before .before .before .before .before .before .before .before .before .before .before))
+    (c .before .before .before .before .before .loop .j) (c .before .before .delta-in2 .result) (c .delta-out2 .result)
 point c =
     let two = c .before .before in
     let p = points (c .before .before .before .before .before .before .before .before .before .before .before .before .before) in
@@ -101,8 +103,11 @@ point c =
     delta-out-is _ _ (record { sfits = c .before .delta-out-arg2 .given }) (c .delta-out2 .ensures .0) in
     record { there = omega (arith, there); at-a = rw (add-one j) at a; at-b = rw (add-one j) at b }
 
-next : (c : tie.After-delta-out2 Inv-loop μ-loop) → let at = c .before .before .before .before .before .before .before .before .before .before .before .before .before in let l = c .before .before .before .before .before .loop in let n = c .before .before .delta-in2 .result + 1 in Tested (qpAt (at .args .s)) (points at) (suc (l .j)) (l .qp-in + n) (l .qp-out + n + c .delta-out2 .result)
-next c = next-range _ _ (c .before .before .before .before .before .before .before .before .before .before .before .before .before .pre .1) _ _ _ _ _ (c .before .before .before .before .before .loop .inv) _ _ (point c)
+next : (c : tie.After-delta-out2 Inv-loop μ-loop) → let at = c .before .before .before .before .before .before .before .before .before .before .before .before .before in
+    let l = c .before .before .before .before .before .loop in
+    let n = c .before .before .delta-in2 .result + 1 in Tested (entryQp (at .args .s)) (points at) (suc (l .j)) (l .qp-in + n) (l .qp-out + n + c .delta-out2 .result)
+next c = next-range _ _ (c .before .before .before .before .before .before .before .before .before .before .before .before .before .pre .1) _ _ _ _ _
+    (c .before .before .before .before .before .loop .inv) _ _ (point c)
 
 sub-next : tie.Need-sub-next Inv-loop μ-loop
 sub-next c = next c .out-least
@@ -119,8 +124,10 @@ add-qp-in-2 c = omega (arith, next (c .before .before .before) .in-most)
 held-at-requires : tie.Need-held-at-requires Inv-loop μ-loop
 held-at-requires c κs =
     let two = c .before .before .before .before in
-    let l = two .before .before .before .before .before in
-    (omega (arith, c .before .before .fill-between .kept .0, l .loop .inv .filled .long, next two .in-most), next-entry _ _ (l .before .before .before .before .before .before .before .before .pre .1) _ _ _ _ _ (l .loop .inv) _ _ (point two) _ (c .before .before .fill-between .ensures))
+    let l = two .before .before .before .before .before in (
+      omega (arith, c .before .before .fill-between .kept .0, l .loop .inv .filled .long, next two .in-most),
+      next-entry _ _ (l .before .before .before .before .before .before .before .before .pre .1) _ _ _ _ _ (l .loop .inv) _ _ (point two) _ (c .before .before .fill-between .ensures),
+    )
 
 loop-less : tie.Need-loop-less Inv-loop μ-loop
 loop-less c = omega (arith, c .before .before .before .before .before .before .before .before .before .loop-test .taken)
@@ -130,18 +137,21 @@ loop-again c =
     let two = c .before .before .before .before .before in
     let l = two .before .before .before .before .before in
     rw (add-one (l .loop .j))
-    (made-next _ _ (l .before .before .before .before .before .before .before .before .pre .1) _ _ _ _ _ (l .loop .inv) _ _ (point two) _ (c .before .before .before .fill-between .ensures) _ (c .held-at .ensures))
+    (made-next _ _ (l .before .before .before .before .before .before .before .before .pre .1) _ _ _ _ _ (l .loop .inv) _ _ (point two) _
+    (c .before .before .before .fill-between .ensures) _ (c .held-at .ensures))
 
 fill-past-requires : tie.Need-fill-past-requires Inv-loop μ-loop
 fill-past-requires c κs = let m = c .before .before .loop .inv in (m .filled .long, m .reached .in-most, omega (arith, m .reached .in-most, m .reached .most, m .reached .out-most))
 
 same-length : tie.Need-same-length Inv-loop μ-loop
-same-length c = c .before .fill-past .kept .0 ∙ c .before .before .before .before .loop .inv .filled .long ∙ sym (c .before .before .before .before .before .before .before .before .before .before .before .before .pre .0)
+same-length c = c .before .fill-past .kept .0 ∙ c .before .before .before .before .loop .inv .filled .long
+    ∙ sym (c .before .before .before .before .before .before .before .before .before .before .before .before .pre .0)
 
 returns : tie.Need-returns Inv-loop μ-loop
 returns c =
     let l = c .before .before .before .before .loop in
-    c .before .fill-past .ensures ∙ made-all _ _ (c .before .before .before .before .before .before .before .before .before .before .before .before .pre .1) _ _ _ _ _ (l .inv) (omega (arith, l .inv .within))
+    c .before .fill-past .ensures ∙ made-all _ _
+    (c .before .before .before .before .before .before .before .before .before .before .before .before .pre .1) _ _ _ _ _ (l .inv) (omega (arith, l .inv .within))
 
 pub fill-spec : {M : Type 1} → statement M
 fill-spec =

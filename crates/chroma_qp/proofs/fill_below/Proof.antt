@@ -4,14 +4,14 @@ use native.Mathlib.Omega.{arith}
 use borrow.Author.Needs.{needs}
 use lib.IntN.{pos}
 use Rattle.laws.proofs.Planes.{Rowed, rowed-none, rowed-all}
-use Rattle.chroma_qp_check.specs.Pivots.{qpAt}
+use Rattle.chroma_qp_check.specs.Pivots.{entryQp}
 use Rattle.chroma_qp.specs.Held.{heldBelow}
 use Rattle.chroma_qp.proofs.Filled.{row-more}
 use Rattle.chroma_qp.proofs.fill_below.Statement.{statement}
 use Rattle.chroma_qp.proofs.fill_below.Tie as tie
 
 abbrev Inv-loop : tie.InvT-loop
-Inv-loop t₀ qp-in qp-out k₀ t k = (k ≤ qp-in + 1) × Rowed (pos 0) 0 (λ (i : ℕ). qpAt (heldBelow qp-in qp-out i)) t₀ t k
+Inv-loop t₀ qp-in qp-out k₀ t k = (k ≤ qp-in + 1) × Rowed (pos 0) 0 (λ (i : ℕ). entryQp (heldBelow qp-in qp-out i)) t₀ t k
 
 abbrev μ-loop : tie.MeasureT-loop
 μ-loop t₀ qp-in qp-out k₀ t k = qp-in + 1 - k

@@ -4,7 +4,7 @@ use mathlib.Core.Path.{refl}
 use native.Mathlib.Omega.{arith}
 use lib.IntN.{pos}
 use Rattle.laws.proofs.Planes.{Rowed, rowed-none, rowed-all}
-use Rattle.chroma_qp_check.specs.Pivots.{qpAt}
+use Rattle.chroma_qp_check.specs.Pivots.{entryQp}
 use Rattle.chroma_qp.specs.Held.{heldBetween}
 use Rattle.chroma_qp.proofs.Filled.{row-more}
 use Rattle.chroma_qp.proofs.Parts.{entry-most}
@@ -12,7 +12,7 @@ use Rattle.chroma_qp.proofs.fill_between.Statement.{statement}
 use Rattle.chroma_qp.proofs.fill_between.Tie as tie
 
 abbrev Inv-loop : tie.InvT-loop
-Inv-loop t₀ qp-in v from to n m₀ t m = (m ≤ n) × Rowed (pos 0) (qp-in + 1) (λ (k : ℕ). qpAt (heldBetween v from to n (k + 1))) t₀ t m
+Inv-loop t₀ qp-in v from to n m₀ t m = (m ≤ n) × Rowed (pos 0) (qp-in + 1) (λ (k : ℕ). entryQp (heldBetween v from to n (k + 1))) t₀ t m
 
 abbrev μ-loop : tie.MeasureT-loop
 μ-loop t₀ qp-in v from to n m₀ t m = n - m
@@ -34,8 +34,11 @@ between-requires c κs = omega arith
 
 put-requires : tie.Need-put-requires Inv-loop μ-loop
 put-requires c κs =
-    let l = c .before .before .before .loop in
-    (omega (arith, l .inv .1 .long), rw (c .between .ensures) (entry-most (c .before .before .before .before .args .qp-in) _ _ _ _ (omega arith) (omega arith) (omega arith) _ (omega arith) (omega arith) (omega arith) (omega arith)))
+    let l = c .before .before .before .loop in (
+      omega (arith, l .inv .1 .long),
+      rw (c .between .ensures)
+          (entry-most (c .before .before .before .before .args .qp-in) _ _ _ _ (omega arith) (omega arith) (omega arith) _ (omega arith) (omega arith) (omega arith) (omega arith)),
+    )
 
 add-m : tie.Need-add-m Inv-loop μ-loop
 add-m c = omega arith

@@ -5,14 +5,14 @@ use native.Mathlib.Omega.{arith}
 use borrow.Author.Needs.{needs}
 use lib.IntN.{pos}
 use Rattle.laws.proofs.Planes.{Rowed, rowed-none, rowed-all}
-use Rattle.chroma_qp_check.specs.Pivots.{qpAt}
+use Rattle.chroma_qp_check.specs.Pivots.{entryQp}
 use Rattle.chroma_qp.specs.Held.{heldPast}
 use Rattle.chroma_qp.proofs.Filled.{row-more}
 use Rattle.chroma_qp.proofs.fill_past.Statement.{statement}
 use Rattle.chroma_qp.proofs.fill_past.Tie as tie
 
 abbrev Inv-loop : tie.InvT-loop
-Inv-loop t₀ qp-in v n m₀ t m = (m ≤ n) × Rowed (pos 0) (qp-in + 1) (λ (k : ℕ). qpAt (heldPast v (k + 1))) t₀ t m
+Inv-loop t₀ qp-in v n m₀ t m = (m ≤ n) × Rowed (pos 0) (qp-in + 1) (λ (k : ℕ). entryQp (heldPast v (k + 1))) t₀ t m
 
 abbrev μ-loop : tie.MeasureT-loop
 μ-loop t₀ qp-in v n m₀ t m = n - m

@@ -6,7 +6,7 @@ use mir.Syntax.{w8}
 use mir.Val.{toZ}
 use lib.IntN.{pos}
 use Rattle.laws.proofs.Widths.{sfits, back}
-use Rattle.chroma_qp_check.specs.Pivots.{qpAt}
+use Rattle.chroma_qp_check.specs.Pivots.{entryQp}
 use Rattle.chroma_qp.proofs.Bytes.{entry-fits}
 use Rattle.chroma_qp.proofs.put.Statement.{statement}
 use Rattle.chroma_qp.proofs.put.Tie as tie
@@ -15,11 +15,11 @@ plain : (v : ℕ) → v ≤ 103 → toZ w8 v ≡ pos v
 plain v h = back w8 (pos v) (sfits w8 103 h tt)
 
 sub-t : tie.Need-sub-t
-unfolding qpAt
+unfolding entryQp
 sub-t c = rw (plain (c .args .v) (c .pre .1)) (entry-fits (c .args .v) (c .pre .1))
 
 returns : tie.Need-returns
-unfolding qpAt
+unfolding entryQp
 returns c = rw (plain (c .args .v) (c .pre .1), back w8 _ (entry-fits (c .args .v) (c .pre .1)))
 
 pub put-spec : {M : Type 1} → statement M

@@ -11,7 +11,7 @@ use lib.IntN.{pos, _-ℤ_}
 use Rattle.laws.specs.Scan.{allBelow}
 use Rattle.laws.proofs.Scans.{scan-none, scan-more, scan-stop}
 use Rattle.chroma_qp_check.specs.Check.{pivotOk, pivotsOk}
-use Rattle.chroma_qp_check.specs.Pivots.{Points, aAt, bAt, qpAt}
+use Rattle.chroma_qp_check.specs.Pivots.{Points, aAt, bAt, entryQp}
 use Rattle.chroma_qp_check.proofs.Bytes.{delta-in-is, delta-out-is}
 use Rattle.chroma_qp_check.proofs.Pivots.{Held, held-first, held-next, pivot-test, Tested, tested}
 use Rattle.chroma_qp_check.proofs.Points.{countable}
@@ -21,27 +21,27 @@ use Rattle.chroma_qp_check.proofs.pivots_ok.Tie as tie
 -- pivots 0 to j - 1 pass, and pivot j is held
 record Scanned (s : ℕ) (p : Points) (i q j : ℕ) : Type 0 where
   within : j < p .count
-  passed : allBelow (pivotOk (qpAt s) p) j ≡ true
-  held : Held (qpAt s) p j i q
+  passed : allBelow (pivotOk (entryQp s) p) j ≡ true
+  held : Held (entryQp s) p j i q
   in-small : i ≤ 197
   out-small : q ≤ 452
 
 module _ (s : ℕ) (p : Points) (i q j : ℕ) (c : Scanned s p i q j) where
-  failed : (leb i 69 && leb 128 q && leb q 197) ≡ false → false ≡ pivotsOk (qpAt s) p
+  failed : (leb i 69 && leb 128 q && leb q 197) ≡ false → false ≡ pivotsOk (entryQp s) p
   unfolding pivotsOk
-  failed e = sym (scan-stop (pivotOk (qpAt s) p) (p .count) j (c .within) (sym (pivot-test (qpAt s) p j i q (c .held)) ∙ e))
+  failed e = sym (scan-stop (pivotOk (entryQp s) p) (p .count) j (c .within) (sym (pivot-test (entryQp s) p j i q (c .held)) ∙ e))
 
   module _ (e : (leb i 69 && leb 128 q && leb q 197) ≡ true) where
-    this : pivotOk (qpAt s) p j ≡ true
-    this = sym (pivot-test (qpAt s) p j i q (c .held)) ∙ e
+    this : pivotOk (entryQp s) p j ≡ true
+    this = sym (pivot-test (entryQp s) p j i q (c .held)) ∙ e
 
-    range : Tested (qpAt s) p j i q
-    range = tested (qpAt s) p j i q (c .held) this
+    range : Tested (entryQp s) p j i q
+    range = tested (entryQp s) p j i q (c .held) this
 
-    more : allBelow (pivotOk (qpAt s) p) (j + 1) ≡ true
-    more = scan-more (pivotOk (qpAt s) p) j (c .passed) this
+    more : allBelow (pivotOk (entryQp s) p) (j + 1) ≡ true
+    more = scan-more (pivotOk (entryQp s) p) j (c .passed) this
 
-    ended : j + 1 ≡ p .count → true ≡ pivotsOk (qpAt s) p
+    ended : j + 1 ≡ p .count → true ≡ pivotsOk (entryQp s) p
     unfolding pivotsOk
     ended k = sym (rw k at more)
 
@@ -52,7 +52,7 @@ module _ (s : ℕ) (p : Points) (i q j : ℕ) (c : Scanned s p i q j) where
           passed = more;
           held =
               rw (add-one j)
-              (held-next (qpAt s) p j i x (c .held .in-is) (rw (add-one j) at f) (q - 128) y (range .out-is) (rw (add-one j) at g));
+              (held-next (entryQp s) p j i x (c .held .in-is) (rw (add-one j) at f) (q - 128) y (range .out-is) (rw (add-one j) at g));
           in-small = omega (arith, range .in-most);
           out-small = omega (arith, range .out-most);
         }

@@ -21,7 +21,7 @@ use Rattle.marks.proofs.mark_block.Kinds as mark-block-kinds
 use Rattle.marks.proofs.+mark_block.Lts-mark_block as mark-block-lts
 use Rattle.marks.proofs.byte_place.Reads as byte-place-reads
 use Rattle.marks.proofs.mended.Reads as mended-reads
-use Rattle.marks.proofs.part_at.Reads as part-at-reads
+use Rattle.marks.proofs.half_on.Reads as half-on-reads
 use Rattle.marks.proofs.put_mark.Reads as put-mark-reads
 use Rattle.marks.proofs.+mark_block.{statement}
 use Rattle.marks.proofs.+mark_block.Tie.{close}
@@ -52,8 +52,8 @@ calls t = (
   mended-reads.Learnt,
   put-mark-reads.Asked,
   put-mark-reads.Learnt,
-  part-at-reads.Asked,
-  part-at-reads.Learnt,
+  half-on-reads.Asked,
+  half-on-reads.Learnt,
   mark-block-below t,
   mark-block.Post,
 )
@@ -77,24 +77,36 @@ pub +mark-block-spec : {M : Type 1} → statement M
     (λ c κs. let p = c .before .before .before .before .before .pre .1 in (p .0 .right, p .0 .bottom, p .1))
     (λ c. omega (arith, c .before .byte-place .ensures .1, c .before .before .before .before .before .before .before .pre .1 .2))
     (λ c κs. c .before .before .before .before .before .before .before .pre .1 .0)
-    (λ c κs. let p = c .before .before .before .before .before .before .before .before .before .pre .1 in (c .before .before .before .byte-place .ensures .1, c .before .mended .ensures .1, room-one (halved (p .0) (p .1)) _ _ (p .3)))
+    (λ c κs. let p = c .before .before .before .before .before .before .before .before .before .pre .1 in
+    (c .before .before .before .byte-place .ensures .1, c .before .mended .ensures .1, room-one (halved (p .0) (p .1)) _ _ (p .3)))
     -- a leaf
     (λ c. c .before .before .before .put-mark .kept .0)
     (λ c.
     let i = inside t (c .before .before .before .before .before .before .before .before) in
     let p = c .before .before .before .before .before .before .before .before .before .before .before .before .before .pre .1 in
-    listed-as (whole (c .before .before .before .before .before .before .before .before .before .before .before .before .before .args .bytes .now) (p .0) (p .1) (i .0) (i .1) _ _ (c .before .before .before .before .before .before .before .byte-place .ensures .0) (c .before .before .before .before .before .mended .ensures .0) (c .if2 .taken)) (c .before .before .before .put-mark .ensures))
+    listed-as (whole (c .before .before .before .before .before .before .before .before .before .before .before .before .before .args .bytes .now) (p .0) (p .1) (i .0)
+    (i .1) _ _ (c .before .before .before .before .before .before .before .byte-place .ensures .0)
+    (c .before .before .before .before .before .mended .ensures .0) (c .if2 .taken)) (c .before .before .before .put-mark .ensures))
     -- a cut into units
     (λ c. c .before .before .before .before .put-mark .kept .0)
     (λ c.
     let i = inside t (c .before .before .before .before .before .before .before .before .before) in
     let p = c .before .before .before .before .before .before .before .before .before .before .before .before .before .before .pre .1 in
-    listed-as (last (c .before .before .before .before .before .before .before .before .before .before .before .before .before .before .args .bytes .now) (p .0) (p .1) (i .0) (i .1) _ _ (c .before .before .before .before .before .before .before .before .byte-place .ensures .0) (c .before .before .before .before .before .before .mended .ensures .0) (c .before .if2 .left) (c .if3 .taken))
+    listed-as (last (c .before .before .before .before .before .before .before .before .before .before .before .before .before .before .args .bytes .now) (p .0) (p .1) (i .0)
+    (i .1) _ _ (c .before .before .before .before .before .before .before .before .byte-place .ensures .0)
+    (c .before .before .before .before .before .before .mended .ensures .0) (c .before .if2 .left) (c .if3 .taken))
     (c .before .before .before .before .put-mark .ensures))
     -- the loop over the four parts
-    (λ c. (zero-le, refl, no-part (c .before .before .before .before .before .before .before .before .before .before .before .before .before .before .args .bytes .now) (c .before .before .before .before .before .before .before .before .before .before .before .before .before .before .pre .1 .0) _ _))
-    (λ c κs. let p = c .before .before .before .before .before .before .before .before .before .before .before .before .before .before .before .before .pre .1 in (halved (p .0) (p .1) .right, low-bit _))
-    (λ c κs. let p = c .before .before .before .before .before .before .before .before .before .before .before .before .before .before .before .before .before .pre .1 in (halved (p .0) (p .1) .bottom, high-bit _ (c .before .loop-test .taken)))
+    (λ c. (
+      zero-le,
+      refl,
+      no-part (c .before .before .before .before .before .before .before .before .before .before .before .before .before .before .args .bytes .now)
+          (c .before .before .before .before .before .before .before .before .before .before .before .before .before .before .pre .1 .0) _ _,
+    ))
+    (λ c κs. let p = c .before .before .before .before .before .before .before .before .before .before .before .before .before .before .before .before .pre .1 in
+    (halved (p .0) (p .1) .right, low-bit _))
+    (λ c κs. let p = c .before .before .before .before .before .before .before .before .before .before .before .before .before .before .before .before .before .pre .1
+    in (halved (p .0) (p .1) .bottom, high-bit _ (c .before .loop-test .taken)))
     (λ c. record { fits = deeper _ (c .before .before .before .before .before .before .before .before .before .before .before .before .before .before .before .before .before .before .pre .1 .1) })
     (λ c κs.
     let s = c .before .before .before .before .before .before .before .before .before .before .before .before .before .before .before .before .before .before .before in
@@ -105,22 +117,25 @@ pub +mark-block-spec : {M : Type 1} → statement M
     let m = c .before .before .before .before .before .before .before .before .before .put-mark in (
       subst (λ (n : ℕ). s .args .side / 2 < n) (s .pre .0) (z .less),
       (
-        part-block z _ _ _ l (c .before .before .part-at .ensures) (c .before .part-at2 .ensures),
+        part-block z _ _ _ l (c .before .before .half-on .ensures) (c .before .half-on2 .ensures),
         not-last _ (p .1) (c .before .before .before .before .before .if3 .left),
         p .2,
         subst (λ (n : ℕ). c .before .before .before .before .loop .count + blocksIn n ≤ length (c .before .before .before .before .loop .out)) (sym (z .next))
-            (next-room _ _ _ _ _ _ l (few-parts (c .before .before .before .before .before .before .before .before .before .before .before .before .before .before .before .before .before .before .before .args .bytes .now) (p .0) _) (v .2 .count) (omega (arith, v .1, m .ensures .count, m .kept .0, z .room, p .3))),
+            (next-room _ _ _ _ _ _ l
+            (few-parts (s .args .bytes .now) (p .0) _) (v .2 .count) (omega (arith, v .1, m .ensures .count, m .kept .0, z .room, p .3))),
       ),
     ))
     (λ c. record { fits = counted _ (c .before .before .before .before .before .before .loop-test .taken) })
     (λ c. fewer _ (c .before .before .before .before .before .before .loop-test .taken))
     (λ c.
-    let p = c .before .before .before .before .before .before .before .before .before .before .before .before .before .before .before .before .before .before .before .before .before .before .pre .1 in
+    let s = c .before .before .before .before .before .before .before .before .before .before .before .before .before .before .before .before .before .before .before .before .before .before in
+    let p = s .pre .1 in
     let v = c .before .before .before .before .before .before .before .loop .inv in
     let m = c .before .before .mark-block in (
       within _ (c .before .before .before .before .before .before .loop-test .taken),
       listed-long (m .ensures) ∙ v .1,
-      part-more (c .before .before .before .before .before .before .before .before .before .before .before .before .before .before .before .before .before .before .before .before .before .before .args .bytes .now) (p .0) (p .1) _ (v .2) (c .before .before .before .before .before .part-at .ensures) (c .before .before .before .before .part-at2 .ensures) (m .ensures),
+      part-more (s .args .bytes .now) (p .0)
+          (p .1) _ (v .2) (c .before .before .before .before .before .half-on .ensures) (c .before .before .before .before .half-on2 .ensures) (m .ensures),
     ))
     -- all four
     (λ c. c .before .loop .inv .1 ∙ c .before .before .before .before .before .before .put-mark .kept .0)
@@ -128,5 +143,9 @@ pub +mark-block-spec : {M : Type 1} → statement M
     let i = inside t (c .before .before .before .before .before .before .before .before .before .before .before) in
     let p = c .before .before .before .before .before .before .before .before .before .before .before .before .before .before .before .before .pre .1 in
     let v = c .before .loop .inv in
-    listed-as (cut (c .before .before .before .before .before .before .before .before .before .before .before .before .before .before .before .before .args .bytes .now) (p .0) (p .1) (i .0) (i .1) _ _ (c .before .before .before .before .before .before .before .before .before .before .byte-place .ensures .0) (c .before .before .before .before .before .before .before .before .mended .ensures .0) (c .before .before .before .if2 .left))
-    (listed-then (c .before .before .before .before .before .before .put-mark .ensures) (part-all (c .before .before .before .before .before .before .before .before .before .before .before .before .before .before .before .before .args .bytes .now) (p .0) (p .1) _ (v .2) (c .loop-test .left) (v .0))))
+    listed-as (cut (c .before .before .before .before .before .before .before .before .before .before .before .before .before .before .before .before .args .bytes .now) (p .0)
+    (p .1) (i .0) (i .1) _ _ (c .before .before .before .before .before .before .before .before .before .before .byte-place .ensures .0)
+    (c .before .before .before .before .before .before .before .before .mended .ensures .0) (c .before .before .before .if2 .left))
+    (listed-then (c .before .before .before .before .before .before .put-mark .ensures)
+    (part-all (c .before .before .before .before .before .before .before .before .before .before .before .before .before .before .before .before .args .bytes .now) (p .0) (p .1) _
+    (v .2) (c .loop-test .left) (v .0))))

@@ -27,35 +27,45 @@ long c = bytes-long (sized _ _ (c .pre .0)) _ _ (c .pre .2) (c .pre .1)
 told : (c : tie.After-list-marks) → let a = c .before .before .before .before .before .args in
     let l = list-call.rootMarks (a .w) (a .h) (a .splits .now) (a .i) in
     (c .list-marks .result ≡ Counted (length l)) × Told l (c .list-marks .last .1 .1 .1 .1 .0)
-told c = list-told _ (c .list-marks .result) _ (c .before .before .before .before .before .pre .0) (c .before .before .before .before .before .pre .1) refl (c .before .before .before .before .before .pre .2) (c .list-marks .ensures)
+told c = list-told _ (c .list-marks .result) _ (c .before .before .before .before .before .pre .0) (c .before .before .before .before .before .pre .1) refl
+    (c .before .before .before .before .before .pre .2) (c .list-marks .ensures)
 
 count : (c : tie.After-n) → let a = c .before .before .before .before .before .before .before .before .args in c .n .given .0 .0 ≡ length (list-call.rootMarks (a .w) (a .h) (a .splits .now) (a .i))
 count c = counted-done _ _ Done (sym (c .n .given .1) ∙ told (c .before .before .before) .0) .1
 
 copy-requires : tie.Need-copy-requires
-copy-requires c κs = c .before .before .before .before .before .before .before .before .before .before .before .pre .3 ∙ sym (long (c .before .before .before .before .before .before .before .before .before .before .before))
+copy-requires c κs = c .before .before .before .before .before .before .before .before .before .before .before .pre .3
+    ∙ sym (long (c .before .before .before .before .before .before .before .before .before .before .before))
 
 put-marks-requires : tie.Need-put-marks-requires
 put-marks-requires c κs =
     let n = count (c .before .before .before .before .before .before .before .before) in
-    let t = told (c .before .before .before .before .before .before .before .before .before .before .before) .1 in
-    (c .before .before .before .before .copy .kept .1 .0 ∙ c .before .before .before .before .before .before .before .before .before .before .before .before .before .before .before .before .pre .3, omega (arith, n, t .few, t .long), λ j l. t .small j (subst (λ (k : ℕ). j < k) n l))
+    let t = told (c .before .before .before .before .before .before .before .before .before .before .before) .1 in (
+      c .before .before .before .before .copy .kept .1 .0
+          ∙ c .before .before .before .before .before .before .before .before .before .before .before .before .before .before .before .before .pre .3,
+      omega (arith, n, t .few, t .long),
+      λ j l. t .small j (subst (λ (k : ℕ). j < k) n l),
+    )
 
 list-changes-requires : tie.Need-list-changes-requires
 list-changes-requires c κs =
     let n = count (c .before .before .before .before .before .before .before .before .before .before .before .before .before .before) in
     let t = told (c .before .before .before .before .before .before .before .before .before .before .before .before .before .before .before .before .before) .1 in
-    (long (c .before .before .before .before .before .before .before .before .before .before .before .before .before .before .before .before .before .before .before .before .before .before), omega (arith, n, t .few, t .long), (λ j l. t .small j (subst (λ (k : ℕ). j < k) n l)), few (c .before .before .before .before .before .before .before .before .before .before .before .before .before .before .before .before .before .before .before .before .before .before), omega (arith, n, t .few, c .before .before .before .before .before .before .before .before .before .before .before .before .before .before .before .before .before .before .before .before .before .before .pre .4))
+    let s = c .before .before .before .before .before .before .before .before .before .before .before .before .before .before .before .before .before .before .before .before .before .before in
+    (long s, omega (arith, n, t .few, t .long), (λ j l. t .small j (subst (λ (k : ℕ). j < k) n l)), few s, omega (arith, n, t .few, s .pre .4))
 
 returns : tie.Need-returns
 returns c = not-both _ _ _ (told (c .before .before .before .before) .0) (c .before .r .given .1)
 
 returns-2 : tie.Need-returns-2
 returns-2 c =
-    let a = c .before .before .before .before .before .before .before .before .before .before .before .before .before .before .before .before .before .before .before .before .before .before .before .before .before .args in
+    let l = c .before .before .before .before .before .before .before .before .before .before .before .before .before .before .before .before .before .before .before .before in
+    let a = l .before .before .before .before .before .args in
     let n = count (c .before .before .before .before .before .before .before .before .before .before .before .before .before .before .before .before .before) in
     let t = told (c .before .before .before .before .before .before .before .before .before .before .before .before .before .before .before .before .before .before .before .before) .1 in (
-      root-mended (a .w) (a .h) (a .splits .now) (a .i) t n _ _ (c .before .before .before .before .before .before .before .before .before .before .before .before .before .copy .ensures) (c .before .before .before .before .before .before .before .before .put-marks .ensures),
+      root-mended (a .w) (a .h) (a .splits .now) (a .i) t n _ _
+          (c .before .before .before .before .before .before .before .before .before .before .before .before .before .copy .ensures)
+          (c .before .before .before .before .before .before .before .before .put-marks .ensures),
       root-listed (a .w) (a .h) (a .splits .now) (a .i) t n (c .before .before .list-changes .ensures),
     )
 

@@ -11,7 +11,7 @@ use borrow.Fn.PlainCycle.{Measures, is, falls, and}
 use lib.ListN.{length}
 use Rattle.split.specs.Stored.{Block, Stored}
 use Rattle.split.specs.Walk.{walk}
-use Rattle.split.proofs.Blocks.{Cut, cut, as-unit, room-one, low-bit, high-bit, only-one, deeper, not-last, counted, within, fewer, skip, started, at-bad, at-leaf}
+use Rattle.split.proofs.Blocks.{Cut, cut, as-unit, room-one, only-one, deeper, not-last, counted, within, fewer, skip, started, at-bad, at-leaf}
 use Rattle.split.proofs.Parts.{Turned, no-part, part-block, part-room, part-more, part-refused, whole}
 use Rattle.split.proofs.Stores.{stored-nothing, stored-refused, stored-as}
 use Rattle.split.proofs.walk_block.Reads as walk-block
@@ -63,28 +63,30 @@ inside t e = started _ _ _ _ (e .if1 .left)
 
 -- a part is about to be walked
 abbrev Next : ℕ → Type 0
-Next t = walk-block-lts.After-part-at2 (calls t) (walk-block-at t) walk-block.Post walk-block-Inv-loop walk-block-μ-loop
+Next t = walk-block-lts.After-part-at (calls t) (walk-block-at t) walk-block.Post walk-block-Inv-loop walk-block-μ-loop
 
 -- it is a block of its own, and there is room for its leaves
 part-asks : (t : ℕ) (c : Next t) →
-    let a = c .before .before .before .before .before .before .before .before .before .before .before .before .args in
-    let p = c .before .before .before .loop in
-    Block (a .w) (a .h) (c .before .part-at .result .0) (c .part-at2 .result .0) (a .side / 2) (a .level + 1) × (3 * (p .count + a .side / 2 / 4 * (a .side / 2 / 4)) ≤ length (p .out))
+    let a = c .before .before .before .before .before .before .before .before .before .before .before .args in
+    let p = c .before .before .loop in
+    Block (a .w) (a .h) (c .part-at .result .x .0) (c .part-at .result .y .0) (a .side / 2) (a .level + 1)
+    × (3 * (p .count + a .side / 2 / 4 * (a .side / 2 / 4)) ≤ length (p .out))
 part-asks t c =
-    let v = c .before .before .before .loop .inv in
-    let l = c .before .before .loop-test .taken in
-    let p = c .before .before .before .before .before .before .before .before .before .before .before .before .pre .1 in
-    (part-block (v .2) _ _ _ l (c .before .part-at .ensures) (c .part-at2 .ensures), part-room (v .2) (v .3) _ l (omega (arith, v .1, p .3)))
+    let v = c .before .before .loop .inv in
+    let l = c .before .loop-test .taken in
+    let p = c .before .before .before .before .before .before .before .before .before .before .before .pre .1 in
+    (part-block (v .2) _ _ _ l (c .part-at .ensures .0) (c .part-at .ensures .1), part-room (v .2) (v .3) _ l (omega (arith, v .1, p .3)))
 
 -- a part was walked: where the two ways meet
 abbrev Met : ℕ → Type 0
 Met t = walk-block-lts.Joined4 (calls t) (walk-block-at t) walk-block.Post walk-block-Inv-loop walk-block-μ-loop
 
 part-walked : (t : ℕ) (j : Met t) →
-    let a = j .before .before .before .before .before .before .before .before .before .before .before .before .before .args in
-    let p = j .before .before .before .before .loop in
+    let a = j .before .before .before .before .before .before .before .before .before .before .before .before .args in
+    let p = j .before .before .before .loop in
+    let q = j .before .part-at .result in
     (length (j .if4 .out) ≡ length (p .out))
-    × Stored (walk (a .bytes .now) (a .w / 4) (a .h / 4) (4 - (a .level + 1)) (j .before .before .part-at .result .0 / 4) (j .before .part-at2 .result .0 / 4)) (p .out) (p .count) (j .if4 .out) (j .if4 .walked)
+    × Stored (walk (a .bytes .now) (a .w / 4) (a .h / 4) (4 - (a .level + 1)) (q .x .0 / 4) (q .y .0 / 4)) (p .out) (p .count) (j .if4 .out) (j .if4 .walked)
 part-walked t j =
     ⊎-elim
     (λ u. rw (u .5, u .6) (u .2 .kept .1 .1 .1 .1 .0, rw (u .0 .taken) (u .2 .ensures _)))
@@ -122,36 +124,36 @@ pub +walk-block-spec : {M : Type 1} → statement M
     let i = inside t e in
     let p = e .before .before .before .before .before .pre .1 in
     (zero-le, refl, cut _ (p .0) (i .0) (i .1) (p .1) _ (g .get-split-mode .ensures) (only-one _ (c .before .if2 .left) (c .if3 .left)), no-part _ _ _ _ _ _ _ _))
-    (λ c κs. (c .before .loop .inv .2 .right, low-bit _))
-    (λ c κs. (c .before .before .loop .inv .2 .bottom, high-bit _ (c .before .loop-test .taken)))
+    (λ c κs. let v = c .before .loop .inv .2 in (v .right, v .bottom, c .loop-test .taken))
     -- what the next part asks, as a unit
     (λ c κs. let q = part-asks t (c .before .before) in (as-unit (q .0) (omega (arith, c .before .if4 .taken)), room-one (q .0) _ _ (q .1)))
     -- and as a block that is walked: half the side
-    (λ c. record { fits = deeper _ (c .before .before .before .before .before .before .before .before .before .before .before .before .before .pre .1 .1) })
+    (λ c. record { fits = deeper _ (c .before .before .before .before .before .before .before .before .before .before .before .before .pre .1 .1) })
     (λ c κs.
     let n = c .before .before in
     let q = part-asks t n in
-    let s = n .before .before .before .before .before .before .before .before .before .before .before .before in
+    let s = n .before .before .before .before .before .before .before .before .before .before .before in
     let p = s .pre in
-    (subst (λ (m : ℕ). s .args .side / 2 < m) (p .0) (n .before .before .before .loop .inv .2 .less), (q .0, not-last _ (p .1 .1) (c .before .if4 .left), p .1 .2, q .1)))
+    (subst (λ (m : ℕ). s .args .side / 2 < m) (p .0) (n .before .before .loop .inv .2 .less), (q .0, not-last _ (p .1 .1) (c .before .if4 .left), p .1 .2, q .1)))
     (λ c. search needs)
     (λ c. search needs)
     -- a part that is refused ends the walk
-    (λ c. let j = c .before .before .before in part-walked t j .0 ∙ j .before .before .before .before .loop .inv .1)
+    (λ c. let j = c .before .before .before in part-walked t j .0 ∙ j .before .before .before .loop .inv .1)
     (λ c.
     let j = c .before .before .before in
-    let v = j .before .before .before .before .loop .inv in
-    part-refused (v .2) (v .3) _ _ (j .before .before .part-at .ensures) (j .before .part-at2 .ensures) _ _ (part-walked t j .1) _ (j .before .before .before .loop-test .taken) (c .before .walked2 .given .1))
+    let v = j .before .before .before .loop .inv in
+    part-refused (v .2) (v .3) _ _ (j .before .part-at .ensures .0) (j .before .part-at .ensures .1) _ _ (part-walked t j .1) _
+    (j .before .before .loop-test .taken) (c .before .walked2 .given .1))
     -- a part more
-    (λ c. record { fits = counted _ (c .before .before .before .before .before .before .loop-test .taken) })
-    (λ c. fewer _ (c .before .before .before .before .before .before .loop-test .taken))
+    (λ c. record { fits = counted _ (c .before .before .before .before .before .loop-test .taken) })
+    (λ c. fewer _ (c .before .before .before .before .before .loop-test .taken))
     (λ c.
     let j = c .before .before .before in
-    let v = j .before .before .before .before .loop .inv in (
-      within _ (j .before .before .before .loop-test .taken),
+    let v = j .before .before .before .loop .inv in (
+      within _ (j .before .before .loop-test .taken),
       part-walked t j .0 ∙ v .1,
       v .2,
-      part-more (v .2) (v .3) _ _ (j .before .before .part-at .ensures) (j .before .part-at2 .ensures) _ _ (part-walked t j .1) _ (c .before .walked .given .1),
+      part-more (v .2) (v .3) _ _ (j .before .part-at .ensures .0) (j .before .part-at .ensures .1) _ _ (part-walked t j .1) _ (c .before .walked .given .1),
     ))
     -- all four
     (λ c. c .before .loop .inv .1)

@@ -1,15 +1,24 @@
 -- `split::part_at` meets its contract: a bit of the part's number moves it by half the side, or not at all. Assumes nothing.
+use Prim.Native.Nat.{_*_, _/_, _%_, _≤_}
 use native.Mathlib.Omega.{arith}
 use borrow.Author.Needs.{needs}
 use Rattle.split.proofs.Blocks.{at-most-half}
 use Rattle.split.proofs.part_at.Statement.{statement}
 use Rattle.split.proofs.part_at.Tie as tie
 
-mul-t4 : tie.Need-mul-t4
-mul-t4 c = omega (arith, at-most-half (c .args .bit) (c .args .half) (c .pre .1))
+-- neither bit moves it further than half the side
+column : (s : tie.Start) → s .args .part % 2 * s .args .half ≤ s .args .half
+column s = at-most-half (s .args .part % 2) (s .args .half) (omega arith)
 
-add-t5 : tie.Need-add-t5
-add-t5 c = omega (arith, at-most-half (c .before .args .bit) (c .before .args .half) (c .before .pre .1))
+row : (s : tie.Start) → s .args .part / 2 * s .args .half ≤ s .args .half
+row s = at-most-half (s .args .part / 2) (s .args .half) (omega (arith, s .pre .2))
 
 pub part-at-spec : {M : Type 1} → statement M
-part-at-spec = tie.close (tie.spec mul-t4 add-t5 (λ c. search needs))
+part-at-spec =
+    tie.close
+    (tie.spec
+    (λ c. omega (arith, column c, row c, c .pre))
+    (λ c. omega (arith, column (c .before), row (c .before), c .before .pre))
+    (λ c. omega (arith, column (c .before), row (c .before), c .before .pre))
+    (λ c. omega (arith, column (c .before .before), row (c .before .before), c .before .before .pre))
+    (λ c. search needs))

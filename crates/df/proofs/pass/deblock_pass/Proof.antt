@@ -28,7 +28,7 @@ abbrev maps : tie.Start Inv-loop μ-loop → Maps
 maps s = record { words = s .args .words .now; over = record { motion = s .args .motion .now; refs = s .args .refs .now; keep = s .args .keep .now } }
 
 size : (s : tie.Start Inv-loop μ-loop) → Sized (s .args .w) (s .args .h)
-size s = sized _ _ (s .pre .1 .sides)
+size s = sized _ _ (s .pre .1 .size)
 
 few : (s : tie.Start Inv-loop μ-loop) → (s .args .w + 63) / 64 * ((s .args .h + 63) / 64) ≤ 4096
 few s = few-roots (s .args .w) (s .args .h) (size s .wide) (size s .high)

@@ -10,7 +10,7 @@ use Rattle.df.proofs.pass.root_edges.Statement.{statement}
 use Rattle.df.proofs.pass.root_edges.Tie as tie
 
 size : (s : tie.Start) → Sized (s .args .w) (s .args .h)
-size s = sized _ _ (s .pre .0 .sides)
+size s = sized _ _ (s .pre .0 .size)
 
 column : (s : tie.Start) → 64 * (s .args .i % ((s .args .w + 63) / 64)) < s .args .w
 column s = root-column (size s) (s .args .i) (s .pre .1)

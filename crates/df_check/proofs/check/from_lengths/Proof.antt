@@ -75,18 +75,22 @@ past1 : (c : tie.Else1) (r : Answer) → r ≡ rest1 (c .before .before .before 
 unfolding fromLengths
 past1 c r p = goes-on _ _ _ _ r (c .before .lengths-ok .ensures) (c .if1 .left) p
 
-past2 : (c : tie.Else2) (r : Answer) → r ≡ rest2 (c .before .before .before .before .before .before .before .before .before .before) → r ≡ asked (c .before .before .before .before .before .before .before .before .before .before)
+past2 : (c : tie.Else2) (r : Answer) → r ≡ rest2 (c .before .before .before .before .before .before .before .before .before .before)
+    → r ≡ asked (c .before .before .before .before .before .before .before .before .before .before)
 past2 c r p = past1 (c .before .before) r (goes-on _ _ _ _ r (c .before .settings-ok .ensures) (c .if2 .left) p)
 
 -- the lengths
-told : (c : tie.Else1) → let s = c .before .before .before .before .before .before .before .before in LengthsTold (s .args .settings .format) (s .args .w) (s .args .lent) (s .args .own) (lengthsOf (of s))
+told : (c : tie.Else1) → let s = c .before .before .before .before .before .before .before .before in
+    LengthsTold (s .args .settings .format) (s .args .w) (s .args .lent) (s .args .own) (lengthsOf (of s))
 told c = lengths-told _ _ _ _ _ (sym (c .before .lengths-ok .ensures) ∙ not-false _ (c .if1 .left))
 
 -- what the walk found
-walk : (c : tie.After-check) → let s = c .before .before .before .before .before .before .before .before .before .before .before in c .check .result ≡ pictureWalk (of s .splits) (s .args .w / 4) (s .args .own / 4) .answer
+walk : (c : tie.After-check) → let s = c .before .before .before .before .before .before .before .before .before .before .before in
+    c .check .result ≡ pictureWalk (of s .splits) (s .args .w / 4) (s .args .own / 4) .answer
 walk c = walked _ _ _ _ (c .before .before .before .before .before .before .before .before .before .before .before .pre .1) (told (c .before .before .before) .splits) (c .check .ensures)
 
-past3 : (c : tie.After-enum-told) (r : Answer) → r ≡ rest3 (c .before .before .before .before .before .before .before .before .before .before .before .before .before) → r ≡ asked (c .before .before .before .before .before .before .before .before .before .before .before .before .before)
+past3 : (c : tie.After-enum-told) (r : Answer) → r ≡ rest3 (c .before .before .before .before .before .before .before .before .before .before .before .before .before)
+    → r ≡ asked (c .before .before .before .before .before .before .before .before .before .before .before .before .before)
 past3 c r p = past2 (c .before .before .before) r (on-done Refused _ _ _ r (walk (c .before .before)) (c .enum-told .given .1) p)
 
 -- what is not judged lies in what is lent
@@ -119,24 +123,38 @@ before s =
       few-colour = at-most (s .args .settings .format) _ _ small;
     }
 
-marks : (c : tie.After-keep-ok) → let s = c .before .before .before .before .before .before .before .before .before .before .before .before .before .before .before in c .keep-ok .result ≡ keepOk (drop (unitCount (s .args .w) (s .args .before)) (of s .keep))
-marks c = let s = c .before .before .before .before .before .before .before .before .before .before .before .before .before .before .before in c .keep-ok .ensures ∙ ap keepOk (whole-end (unitCount (s .args .w) (s .args .before)) (of s .keep))
+marks : (c : tie.After-keep-ok) → let s = c .before .before .before .before .before .before .before .before .before .before .before .before .before .before .before in
+    c .keep-ok .result ≡ keepOk (drop (unitCount (s .args .w) (s .args .before)) (of s .keep))
+marks c = let s = c .before .before .before .before .before .before .before .before .before .before .before .before .before .before .before in
+    c .keep-ok .ensures ∙ ap keepOk (whole-end (unitCount (s .args .w) (s .args .before)) (of s .keep))
 
-qps : (c : tie.After-qps-ok) → let s = c .before .before .before .before .before .before .before .before .before .before .before .before .before .before .before .before .before .before in c .qps-ok .result ≡ qpsOk (drop (unitCount (s .args .w) (s .args .before)) (of s .words))
-qps c = let s = c .before .before .before .before .before .before .before .before .before .before .before .before .before .before .before .before .before .before in c .qps-ok .ensures ∙ ap qpsOk (whole-end (unitCount (s .args .w) (s .args .before)) (of s .words))
+qps : (c : tie.After-qps-ok)
+    → let s = c .before .before .before .before .before .before .before .before .before .before .before .before .before .before .before .before .before .before in
+    c .qps-ok .result ≡ qpsOk (drop (unitCount (s .args .w) (s .args .before)) (of s .words))
+qps c = let s = c .before .before .before .before .before .before .before .before .before .before .before .before .before .before .before .before .before .before in
+    c .qps-ok .ensures ∙ ap qpsOk (whole-end (unitCount (s .args .w) (s .args .before)) (of s .words))
 
-planes : (c : tie.After-planes-ok) → let s = c .before .before .before .before .before .before .before .before .before .before .before .before .before .before .before .before .before .before .before .before .before .before .before .before in let n = colourLength (s .args .settings .format) (s .args .w) (s .args .before) in c .planes-ok .result ≡ planesOk (drop (lumaLength (s .args .w) (s .args .before)) (of s .y)) (drop n (of s .u)) (drop n (of s .v))
+planes : (c : tie.After-planes-ok) →
+    let q = c .before .before .before .before .before .before .before .before .before .before .before .before in
+    let s = q .before .before .before .before .before .before .before .before .before .before .before .before in
+    let n = colourLength (s .args .settings .format) (s .args .w) (s .args .before) in
+    c .planes-ok .result ≡ planesOk (drop (lumaLength (s .args .w) (s .args .before)) (of s .y)) (drop n (of s .u)) (drop n (of s .v))
 planes c =
-    let s = c .before .before .before .before .before .before .before .before .before .before .before .before .before .before .before .before .before .before .before .before .before .before .before .before in
+    let q = c .before .before .before .before .before .before .before .before .before .before .before .before in
+    let s = q .before .before .before .before .before .before .before .before .before .before .before .before in
     let n = colourLength (s .args .settings .format) (s .args .w) (s .args .before) in
     let e = c .before .before .before .before .in-format in
     let end : (l : List ℕ) → midOf (e .result) (length l - e .result) l ≡ drop n l = λ l. whole-end (e .result) l ∙ ap (λ (k : ℕ). drop k l) (e .ensures) in
     c .planes-ok .ensures ∙ (λ i. planesOk (whole-end (lumaLength (s .args .w) (s .args .before)) (of s .y) i) (end (of s .u) i) (end (of s .v) i))
 
-past4 : (c : tie.Else3) (r : Answer) → r ≡ rest4 (c .before .before .before .before .before .before .before .before .before .before .before .before .before .before .before .before) → r ≡ asked (c .before .before .before .before .before .before .before .before .before .before .before .before .before .before .before .before)
+past4 : (c : tie.Else3) (r : Answer) → r ≡ rest4
+    (c .before .before .before .before .before .before .before .before .before .before .before .before .before .before .before .before)
+    → r ≡ asked (c .before .before .before .before .before .before .before .before .before .before .before .before .before .before .before .before)
 past4 c r p = past3 (c .before .before .before) r (goes-on _ _ _ _ r (marks (c .before)) (c .if3 .left) p)
 
-past5 : (c : tie.Else4) (r : Answer) → r ≡ rest5 (c .before .before .before .before .before .before .before .before .before .before .before .before .before .before .before .before .before .before .before) → r ≡ asked (c .before .before .before .before .before .before .before .before .before .before .before .before .before .before .before .before .before .before .before)
+past5 : (c : tie.Else4) (r : Answer)
+    → r ≡ rest5 (c .before .before .before .before .before .before .before .before .before .before .before .before .before .before .before .before .before .before .before)
+    → r ≡ asked (c .before .before .before .before .before .before .before .before .before .before .before .before .before .before .before .before .before .before .before)
 past5 c r p = past4 (c .before .before .before) r (goes-on _ _ _ _ r (qps (c .before)) (c .if4 .left) p)
 
 lengths-ok-requires : tie.Need-lengths-ok-requires
@@ -156,10 +174,16 @@ mul-units : tie.Need-mul-units
 mul-units c = omega (arith, before (c .before .before .before .before .before .before .before .before .before .before .before .before .before) .few-units)
 
 sub-keep-ok : tie.Need-sub-keep-ok
-sub-keep-ok c = omega (arith, before (c .before .before .before .before .before .before .before .before .before .before .before .before .before) .units, told (c .before .before .before .before .before) .keep)
+sub-keep-ok c = omega
+    (arith, before (c .before .before .before .before .before .before .before .before .before .before .before .before .before) .units, told (c .before .before .before .before .before) .keep)
 
 part-keep-ok-start : tie.Need-part-keep-ok-start
-part-keep-ok-start c = omega (arith, before (c .before .before .before .before .before .before .before .before .before .before .before .before .before) .units, told (c .before .before .before .before .before) .keep)
+part-keep-ok-start c = omega (
+  arith,
+  before
+      (c .before .before .before .before .before .before .before .before .before .before .before .before .before) .units,
+  told (c .before .before .before .before .before) .keep,
+)
 
 returns-4 : tie.Need-returns-4
 returns-4 c = past3 (c .before .before .before) _ (stops _ _ _ _ (marks (c .before)) (c .if3 .taken))
@@ -168,10 +192,19 @@ mul-qps-ok : tie.Need-mul-qps-ok
 mul-qps-ok c = omega (arith, before (c .before .before .before .before .before .before .before .before .before .before .before .before .before .before .before .before) .few-units)
 
 sub-qps-ok : tie.Need-sub-qps-ok
-sub-qps-ok c = omega (arith, before (c .before .before .before .before .before .before .before .before .before .before .before .before .before .before .before .before) .units, told (c .before .before .before .before .before .before .before .before) .words)
+sub-qps-ok c = omega (
+  arith,
+  before (c .before .before .before .before .before .before .before .before .before .before .before .before .before .before .before .before) .units,
+  told (c .before .before .before .before .before .before .before .before) .words,
+)
 
 part-qps-ok-start : tie.Need-part-qps-ok-start
-part-qps-ok-start c = omega (arith, before (c .before .before .before .before .before .before .before .before .before .before .before .before .before .before .before .before) .units, told (c .before .before .before .before .before .before .before .before) .words)
+part-qps-ok-start c =
+    omega (
+      arith,
+      before (c .before .before .before .before .before .before .before .before .before .before .before .before .before .before .before .before) .units,
+      told (c .before .before .before .before .before .before .before .before) .words,
+    )
 
 returns-5 : tie.Need-returns-5
 returns-5 c = past4 (c .before .before .before) _ (stops _ _ _ _ (qps (c .before)) (c .if4 .taken))
@@ -180,34 +213,71 @@ mul-luma : tie.Need-mul-luma
 mul-luma c = omega (arith, before (c .before .before .before .before .before .before .before .before .before .before .before .before .before .before .before .before .before .before .before) .few-luma)
 
 mul-in-format : tie.Need-mul-in-format
-mul-in-format c = omega (arith, before (c .before .before .before .before .before .before .before .before .before .before .before .before .before .before .before .before .before .before .before) .few-chroma)
+mul-in-format c = omega
+    (arith, before (c .before .before .before .before .before .before .before .before .before .before .before .before .before .before .before .before .before .before .before) .few-chroma)
 
 mul-planes-ok : tie.Need-mul-planes-ok
-mul-planes-ok c = omega (arith, before (c .before .before .before .before .before .before .before .before .before .before .before .before .before .before .before .before .before .before .before .before) .few-luma)
+mul-planes-ok c = omega
+    (arith, before (c .before .before .before .before .before .before .before .before .before .before .before .before .before .before .before .before .before .before .before .before) .few-luma)
 
 sub-planes-ok : tie.Need-sub-planes-ok
-sub-planes-ok c = omega (arith, before (c .before .before .before .before .before .before .before .before .before .before .before .before .before .before .before .before .before .before .before .before) .luma, told (c .before .before .before .before .before .before .before .before .before .before .before .before) .y)
+sub-planes-ok c = omega (
+  arith,
+  before (c .before .before .before .before .before .before .before .before .before .before .before .before .before .before .before .before .before .before .before .before) .luma,
+  told (c .before .before .before .before .before .before .before .before .before .before .before .before) .y,
+)
 
 part-planes-ok-start : tie.Need-part-planes-ok-start
-part-planes-ok-start c = omega (arith, before (c .before .before .before .before .before .before .before .before .before .before .before .before .before .before .before .before .before .before .before .before) .luma, told (c .before .before .before .before .before .before .before .before .before .before .before .before) .y)
+part-planes-ok-start c = omega (
+  arith,
+  before
+      (c .before .before .before .before .before .before .before .before .before .before .before .before .before .before .before .before .before .before .before .before) .luma,
+  told (c .before .before .before .before .before .before .before .before .before .before .before .before) .y,
+)
 
 mul-planes-ok-2 : tie.Need-mul-planes-ok-2
-mul-planes-ok-2 c = omega (arith, c .before .in-format .ensures, before (c .before .before .before .before .before .before .before .before .before .before .before .before .before .before .before .before .before .before .before .before .before) .few-colour)
+mul-planes-ok-2 c = omega (
+  arith,
+  c .before .in-format .ensures,
+  before (c .before .before .before .before .before .before .before .before .before .before .before .before .before .before .before .before .before .before .before .before .before) .few-colour,
+)
 
 sub-planes-ok-2 : tie.Need-sub-planes-ok-2
-sub-planes-ok-2 c = omega (arith, c .before .in-format .ensures, before (c .before .before .before .before .before .before .before .before .before .before .before .before .before .before .before .before .before .before .before .before .before) .chroma, told (c .before .before .before .before .before .before .before .before .before .before .before .before .before) .u)
+sub-planes-ok-2 c = omega (
+  arith,
+  c .before .in-format .ensures,
+  before (c .before .before .before .before .before .before .before .before .before .before .before .before .before .before .before .before .before .before .before .before .before) .chroma,
+  told (c .before .before .before .before .before .before .before .before .before .before .before .before .before) .u,
+)
 
 part-planes-ok-start-2 : tie.Need-part-planes-ok-start-2
-part-planes-ok-start-2 c = omega (arith, c .before .in-format .ensures, before (c .before .before .before .before .before .before .before .before .before .before .before .before .before .before .before .before .before .before .before .before .before) .chroma, told (c .before .before .before .before .before .before .before .before .before .before .before .before .before) .u)
+part-planes-ok-start-2 c = omega (
+  arith,
+  c .before .in-format .ensures,
+  before (c .before .before .before .before .before .before .before .before .before .before .before .before .before .before .before .before .before .before .before .before .before) .chroma,
+  told (c .before .before .before .before .before .before .before .before .before .before .before .before .before) .u,
+)
 
 mul-planes-ok-3 : tie.Need-mul-planes-ok-3
-mul-planes-ok-3 c = omega (arith, c .before .before .in-format .ensures, before (c .before .before .before .before .before .before .before .before .before .before .before .before .before .before .before .before .before .before .before .before .before .before) .few-colour)
+mul-planes-ok-3 c =
+    let q = c .before .before .before .before .before .before .before .before .before .before in
+    omega (arith, c .before .before .in-format .ensures, before (q .before .before .before .before .before .before .before .before .before .before .before .before) .few-colour)
 
 sub-planes-ok-3 : tie.Need-sub-planes-ok-3
-sub-planes-ok-3 c = omega (arith, c .before .before .in-format .ensures, before (c .before .before .before .before .before .before .before .before .before .before .before .before .before .before .before .before .before .before .before .before .before .before) .chroma, told (c .before .before .before .before .before .before .before .before .before .before .before .before .before .before) .v)
+sub-planes-ok-3 c = omega (
+  arith,
+  c .before .before .in-format .ensures,
+  before (c .before .before .before .before .before .before .before .before .before .before .before .before .before .before .before .before .before .before .before .before .before .before) .chroma,
+  told (c .before .before .before .before .before .before .before .before .before .before .before .before .before .before) .v,
+)
 
 part-planes-ok-start-3 : tie.Need-part-planes-ok-start-3
-part-planes-ok-start-3 c = omega (arith, c .before .before .in-format .ensures, before (c .before .before .before .before .before .before .before .before .before .before .before .before .before .before .before .before .before .before .before .before .before .before) .chroma, told (c .before .before .before .before .before .before .before .before .before .before .before .before .before .before) .v)
+part-planes-ok-start-3 c = omega (
+  arith,
+  c .before .before .in-format .ensures,
+  before (c .before .before .before .before .before .before .before .before .before .before .before .before .before .before .before .before .before .before .before .before .before .before) .chroma,
+  told (c .before .before .before .before .before .before .before .before .before .before .before .before .before .before) .v,
+)
 
 returns-6 : tie.Need-returns-6
 returns-6 c = past5 (c .before .before .before .before .before .before) _ (stops _ _ _ _ (planes (c .before)) (c .if5 .taken))
