@@ -34,7 +34,8 @@ accepted i e =
     }
 
 -- the units around an accepted block are within reach
-pub in-reach : (w h : ℕ) (words : List ℕ) (x y side a b : ℕ) → check (record { w = w; h = h; words = words; x = x; y = y; side = side }) ≡ Done → a ≤ side / 4 + 1 → b ≤ 2 * (side / 4) + 1 → Reach w h words x y a b
+pub in-reach : (w h : ℕ) (words : List ℕ) (x y side a b : ℕ) → check (record { w = w; h = h; words = words; x = x; y = y; side = side }) ≡ Done
+    → a ≤ side / 4 + 1 → b ≤ 2 * (side / 4) + 1 → Reach w h words x y a b
 in-reach w h words x y side a b e p q =
     let ok = accepted (record { w = w; h = h; words = words; x = x; y = y; side = side }) e in
     let s = ok .size in

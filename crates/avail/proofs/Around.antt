@@ -126,7 +126,16 @@ module _ (i : Input) (ok : Accepted i) where
       → left ≡ doneOf (word 0 1) → right ≡ doneOf (word (units i + 1) 1)
       → upLeft ≡ doneOf (word 0 0) → upRight ≡ doneOf (word (units i + 1) 0)
       → lowLeft ≡ doneOf (word 0 (2 * units i)) → lowRight ≡ doneOf (word (units i + 1) (2 * units i))
-      → record { up = ltb 0 v; left = left; right = right; «up_left» = upLeft; «up_right» = upRight; «low_left» = left && lowLeft; «low_right» = right && lowRight; «right_up» = ltb 0 v } ≡ intraNeighbours i
+      → record {
+        up = ltb 0 v;
+        left = left;
+        right = right;
+        «up_left» = upLeft;
+        «up_right» = upRight;
+        «low_left» = left && lowLeft;
+        «low_right» = right && lowRight;
+        «right_up» = ltb 0 v;
+      } ≡ intraNeighbours i
   unfolding intraNeighbours
   intra-are v e left right upLeft upRight lowLeft lowRight l r ul ur ll lr =
       let k = ok .block in
@@ -144,7 +153,16 @@ module _ (i : Input) (ok : Accepted i) where
       → up ≡ intraOf (word 1 0) → upLeft ≡ doneNotIntra (word 0 0) → upRight ≡ doneNotIntra (word (units i + 1) 0)
       → lowLeft ≡ doneNotIntra (word 0 (units i + 1)) → lowRight ≡ doneNotIntra (word (units i + 1) (units i + 1))
       → rightUp ≡ intraOf (word (units i) 0)
-      → record { up = ltb 0 v && not up; left = left; right = right; «up_left» = upLeft; «up_right» = upRight; «low_left» = left && lowLeft; «low_right» = right && lowRight; «right_up» = ltb 0 v && not rightUp } ≡ interNeighbours i
+      → record {
+        up = ltb 0 v && not up;
+        left = left;
+        right = right;
+        «up_left» = upLeft;
+        «up_right» = upRight;
+        «low_left» = left && lowLeft;
+        «low_right» = right && lowRight;
+        «right_up» = ltb 0 v && not rightUp;
+      } ≡ interNeighbours i
   unfolding interNeighbours
   inter-are v e left right up upLeft upRight lowLeft lowRight rightUp l r u ul ur ll lr ru =
       let k = ok .block in

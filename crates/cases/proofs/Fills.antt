@@ -21,7 +21,8 @@ module _ {A : Type 0} (d : A) (f : Written → A) (s : List ℕ) (at : ℕ) wher
   unfolding placeOf
   filling-none out = record { upto = upto-none d _ out; here = refl }
 
-  pub filling-more : (out₀ out : List A) (i place : ℕ) (n : Written) (v : A) → i < length out₀ → n ≡ numberAt s place → v ≡ f n → Filling out₀ out i place → Filling out₀ (set out i v) (i + 1) (n .next)
+  pub filling-more : (out₀ out : List A) (i place : ℕ) (n : Written) (v : A) → i < length out₀ → n ≡ numberAt s place → v ≡ f n
+      → Filling out₀ out i place → Filling out₀ (set out i v) (i + 1) (n .next)
   unfolding placeOf
   filling-more out₀ out i place n v h e q u =
       let r : n ≡ numberAt s (placeOf s at i) = e ∙ ap (numberAt s) (u .here) in

@@ -58,7 +58,8 @@ one-table i q e f g = rw (same-answer i q e f g, e)
 
 -- ---- the order of 10 and 11
 
-pub points-first : (i : Input) → inputLengthsOk (checked i) ≡ true → (pointsOk (i .first .count) (i .first .a) && (i .same-table || pointsOk (i .second .count) (i .second .a))) ≡ false → outcome i .number ≡ 10
+pub points-first : (i : Input) → inputLengthsOk (checked i) ≡ true
+    → (pointsOk (i .first .count) (i .first .a) && (i .same-table || pointsOk (i .second .count) (i .second .a))) ≡ false → outcome i .number ≡ 10
 unfolding outcome
 points-first i long e = go (pointsOk (i .first .count) (i .first .a)) refl where
   go : (t : Bool) → pointsOk (i .first .count) (i .first .a) ≡ t → afterChecks (refused i) (done i) (check i) .number ≡ 10

@@ -38,11 +38,14 @@ module _ (i : Input) where
   unfolding check
   at-second-points a b e = rw (a, b, e)
 
-  pub at-first-pivots : inputLengthsOk i ≡ true → pointsOk (i .first .count) (i .first .a) ≡ true → (i .same-table || pointsOk (i .second .count) (i .second .a)) ≡ true → pivotsOk (inputStart i) (i .first) ≡ false → Refused Pivot ≡ check i
+  pub at-first-pivots : inputLengthsOk i ≡ true → pointsOk (i .first .count) (i .first .a) ≡ true
+      → (i .same-table || pointsOk (i .second .count) (i .second .a)) ≡ true → pivotsOk (inputStart i) (i .first) ≡ false → Refused Pivot ≡ check i
   unfolding check
   at-first-pivots a b c e = rw (a, b, c, e)
 
-  pub at-second-pivots : inputLengthsOk i ≡ true → pointsOk (i .first .count) (i .first .a) ≡ true → (i .same-table || pointsOk (i .second .count) (i .second .a)) ≡ true → pivotsOk (inputStart i) (i .first) ≡ true → (i .same-table || pivotsOk (inputStart i) (i .second)) ≡ false → Refused Pivot ≡ check i
+  pub at-second-pivots : inputLengthsOk i ≡ true → pointsOk (i .first .count) (i .first .a) ≡ true
+      → (i .same-table || pointsOk (i .second .count) (i .second .a)) ≡ true → pivotsOk (inputStart i) (i .first) ≡ true
+      → (i .same-table || pivotsOk (inputStart i) (i .second)) ≡ false → Refused Pivot ≡ check i
   unfolding check
   at-second-pivots a b c d e = rw (a, b, c, d, e)
 

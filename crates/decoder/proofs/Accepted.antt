@@ -138,7 +138,13 @@ given =
     ∷ []
 
 pub accepted : given ≡ replicate 19 0
-unfolding derived.outcome points-check.check points-check.lengthsOk points-check.pointsOk points-check.pivotsOk points-check.pivotOk inOf outOf avail.intraOutcome avail.interOutcome avail.checkOf ranks.numberOutcome ranks.check ranks.lengthsOk ranks.modesOk gather.outcome gather.checkOf gather.lengthsOk gather.samplesOk gather.runAt gather.nearAt predict.outcome predict.lengthsOk recon.outcome recon.blockCheck recon.lengthsOk plane.outcome plane.planeCheck plane.blockLengthsOk leaves.outcome leaves.checkOf leaves.lengthsOk leaves.rootOk check.outcome check.check rank.outcome rank.check list.outcome list.checkOf list.lengthsOk list.limitOk root-list.outcome root-list.checkOf mend.outcome mend.check mend.lengthsOk checks.checkOf checks.fromLengths checks.lengthsOk checks.settingsOk checks.offsetOk checks.qpsOk checks.planesOk deblock.outcome band-checks.checkOf band-checks.bandOk bandRows band.outcome sizeOk blockOk blockSideOk componentSideOk unitOk samplesOk flagAt fieldOf allBelow walk byByte inTurn onward leafWalk checks.keepOk
+unfolding derived.outcome points-check.check points-check.lengthsOk points-check.pointsOk points-check.pivotsOk points-check.pivotOk inOf outOf avail.intraOutcome
+    avail.interOutcome avail.checkOf ranks.numberOutcome ranks.check ranks.lengthsOk ranks.modesOk gather.outcome gather.checkOf gather.lengthsOk gather.samplesOk gather.runAt
+    gather.nearAt predict.outcome predict.lengthsOk recon.outcome recon.blockCheck recon.lengthsOk plane.outcome plane.planeCheck plane.blockLengthsOk leaves.outcome leaves.checkOf
+    leaves.lengthsOk leaves.rootOk check.outcome check.check rank.outcome rank.check list.outcome list.checkOf list.lengthsOk list.limitOk root-list.outcome root-list.checkOf
+    mend.outcome mend.check mend.lengthsOk checks.checkOf checks.fromLengths checks.lengthsOk checks.settingsOk checks.offsetOk checks.qpsOk checks.planesOk
+    deblock.outcome band-checks.checkOf band-checks.bandOk bandRows band.outcome sizeOk blockOk blockSideOk componentSideOk unitOk samplesOk flagAt
+    fieldOf allBelow walk byByte inTurn onward leafWalk checks.keepOk
 accepted = refl
 
 -- ---- that picture's map: its marks, and its compact form, four bits 1

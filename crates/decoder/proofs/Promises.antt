@@ -90,7 +90,8 @@ use Rattle.df.specs.Deblock as deblock
 use Rattle.rows.specs.Checks.{lengthsOk, checkMaps, rightOk}
 use Rattle.rows.specs.Rule.{edgeRow, ruleByte, rightBytes}
 use Rattle.df_laws.proofs.Apart.{reading-apart as deblocked-apart, banded-apart}
-use Rattle.sheet_lines.specs.Lines.{startOf, lineOf, startsWith, isNumber, numberLine, edgeLine, oldEdge, sameLine, splitsLine, numberAfter, valueFrom, lineOk, firstBad, widthOf, heightOf, limitOf, oldOf, digitsOf}
+use Rattle.sheet_lines.specs.Lines.{startOf, lineOf, startsWith, isNumber, numberLine, edgeLine, oldEdge, sameLine, splitsLine, numberAfter, valueFrom, lineOk, firstBad}
+use Rattle.sheet_lines.specs.Lines.{widthOf, heightOf, limitOf, oldOf, digitsOf}
 use Rattle.sheet_lines.specs.ReadCall as sheet
 use Rattle.sheet_lines.specs.Words.{widthKey, heightKey, limitKey, ownEdge, sourceEdge, splitsKey}
 use Rattle.sheet_lines.proofs.Answers.{reading-apart as sheet-apart}
@@ -165,7 +166,8 @@ use Rattle.decoder.proofs.listing.Reads as listing-reads
 
 -- ---- chroma QP
 
-pub derived-chroma-qp-mapping-tables-once : Sole 6 tables-kinds.ps tables-kinds.r tables-reads.Post (λ κs r x. ended r (now (x .1 .1 .1 .1 .1 .1 .1 .1 .0) ∷ now (x .1 .1 .1 .1 .1 .1 .1 .1 .1 .0) ∷ []))
+pub derived-chroma-qp-mapping-tables-once : Sole 6 tables-kinds.ps tables-kinds.r tables-reads.Post
+    (λ κs r x. ended r (now (x .1 .1 .1 .1 .1 .1 .1 .1 .0) ∷ now (x .1 .1 .1 .1 .1 .1 .1 .1 .1 .0) ∷ []))
 derived-chroma-qp-mapping-tables-once κs a r r′ x x′ p q = settled derived.outcome (λ o. o .number) (λ o. o .t0 ∷ o .t1 ∷ []) p q (answer-apart r r′)
 
 pub checked-points-once : Sole 4 checked-points-kinds.ps checked-points-kinds.r checked-points-reads.Post (λ κs r x. r)
@@ -229,7 +231,8 @@ abbrev unit : ℕ → List ℕ → ℕ → around.Input
 unit w words side = record { w = w; h = 4; words = words; x = 0; y = 0; side = side }
 
 -- whatever the neighbours are
-availability-refuses : (f : around.Input → Neighbours) → Refuses (λ (i : around.Input). afterChecks avail.refused (avail.done (f i)) (avail.check i)) (λ o. o .reading .number) (Size ∷ Length ∷ Block ∷ [])
+availability-refuses : (f : around.Input → Neighbours)
+    → Refuses (λ (i : around.Input). afterChecks avail.refused (avail.done (f i)) (avail.check i)) (λ o. o .reading .number) (Size ∷ Length ∷ Block ∷ [])
 unfolding avail.checkOf sizeOk blockOk blockSideOk
 availability-refuses f =
     record {
@@ -449,7 +452,8 @@ unfolding rank.outcome rank.check
 visiting-rank-refusals =
     record {
       only = λ i.
-          by-checks (λ o. o .reading .number) (λ r. rank.after (NotRanked r)) (rank.after (Ranked (visitingRank (i .x) (i .y)))) (Block ∷ []) (rank.check i) (λ r. refl) refl (rung (allOf (ltb (i .x) 16 ∷ ltb (i .y) 16 ∷ [])) Block _ last);
+          by-checks (λ o. o .reading .number) (λ r. rank.after (NotRanked r)) (rank.after (Ranked (visitingRank (i .x) (i .y)))) (Block ∷ []) (rank.check i)
+          (λ r. refl) refl (rung (allOf (ltb (i .x) 16 ∷ ltb (i .y) 16 ∷ [])) Block _ last);
       shown = record { x = 16; y = 0 } ∷ [];
       given = refl;
     }
@@ -548,7 +552,8 @@ driver-stops i =
     (rung (driver.lentOk (g .pred-y) (g .pred-u) (g .pred-v)) Sample _ last)))))))
 
 pub reconstruct-refusals : Refuses driver.outcome (λ o. o .number) by-driver
-unfolding driver.outcome driver.checkOf driver.readOk driver.writtenOk driver.dataCheck driver.recordsOk driver.lentOk bytesOk sizeOk leavesOf walk byByte inTurn onward leafWalk run samplesOk allBelow flagAt fieldOf
+unfolding driver.outcome driver.checkOf driver.readOk driver.writtenOk driver.dataCheck driver.recordsOk driver.lentOk bytesOk sizeOk leavesOf walk
+    byByte inTurn onward leafWalk run samplesOk allBelow flagAt fieldOf
 reconstruct-refusals =
     record {
       only = λ i. by-checks (λ o. o .number) (driver.refused i) (driver.done i) by-driver (driver.check i) (λ r. refl) refl (driver-stops i);
@@ -570,7 +575,8 @@ by-format =
     ∷ []
 
 pub format-numbers : map (λ (i : driver.Input). driver.outcome i .number) by-format ≡ 13 ∷ 2 ∷ 2 ∷ 0 ∷ []
-unfolding driver.outcome driver.checkOf driver.readOk driver.writtenOk driver.dataCheck driver.recordsOk driver.lentOk bytesOk sizeOk leavesOf walk byByte inTurn onward leafWalk run samplesOk allBelow flagAt fieldOf
+unfolding driver.outcome driver.checkOf driver.readOk driver.writtenOk driver.dataCheck driver.recordsOk driver.lentOk bytesOk sizeOk leavesOf walk
+    byByte inTurn onward leafWalk run samplesOk allBelow flagAt fieldOf
 format-numbers = refl
 
 -- by the keep byte: 0 or 1, and no other
@@ -582,7 +588,8 @@ by-keep =
     ∷ []
 
 pub keep-numbers : map (λ (i : driver.Input). driver.outcome i .number) by-keep ≡ 0 ∷ 0 ∷ 13 ∷ []
-unfolding driver.outcome driver.checkOf driver.readOk driver.writtenOk driver.dataCheck driver.recordsOk driver.lentOk bytesOk sizeOk leavesOf walk byByte inTurn onward leafWalk run samplesOk allBelow flagAt fieldOf
+unfolding driver.outcome driver.checkOf driver.readOk driver.writtenOk driver.dataCheck driver.recordsOk driver.lentOk bytesOk sizeOk leavesOf walk
+    byByte inTurn onward leafWalk run samplesOk allBelow flagAt fieldOf
 keep-numbers = refl
 
 -- ---- marks, and the compact form of a split map
@@ -786,7 +793,8 @@ unfolding checks.checkOf
 checks-stop i = rung (sizeOk (i .w) (i .h)) Size _ (rest-stops (i .h) (i .h) 0 i)
 
 pub deblock-refusals : Refuses deblock.outcome (λ o. o .reading .number) by-deblocking
-unfolding deblock.outcome checks.checkOf checks.fromLengths checks.lengthsOk checks.settingsOk checks.offsetOk checks.keepOk checks.qpsOk checks.planesOk list.limitOk sizeOk walk byByte inTurn onward leafWalk samplesOk allBelow fieldOf
+unfolding deblock.outcome checks.checkOf checks.fromLengths checks.lengthsOk checks.settingsOk checks.offsetOk checks.keepOk checks.qpsOk checks.planesOk
+    list.limitOk sizeOk walk byByte inTurn onward leafWalk samplesOk allBelow fieldOf
 deblock-refusals =
     record {
       only = λ i. by-checks (λ o. o .reading .number) (deblock.refused i) (deblock.done i) by-deblocking (deblock.check i) (λ r. refl) refl (checks-stop (deblock.checked i));
@@ -795,12 +803,14 @@ deblock-refusals =
     }
 
 pub checked-refusals : Refuses checks.checkOf answerNumber by-deblocking
-unfolding checks.checkOf checks.fromLengths checks.lengthsOk checks.settingsOk checks.offsetOk checks.keepOk checks.qpsOk checks.planesOk list.limitOk sizeOk walk byByte inTurn onward leafWalk samplesOk allBelow fieldOf
+unfolding checks.checkOf checks.fromLengths checks.lengthsOk checks.settingsOk checks.offsetOk checks.keepOk checks.qpsOk checks.planesOk list.limitOk
+    sizeOk walk byByte inTurn onward leafWalk samplesOk allBelow fieldOf
 checked-refusals = record { only = λ i. checks-stop i .by; shown = map deblock.checked filterings; given = refl }
 
 -- ---- the same by a map of edge rows
 
-pub deblock-by-rows-once : Sole 12 by-rows-kinds.ps by-rows-kinds.r by-rows-reads.Post (λ κs r x. ended r (now (x .1 .1 .0) ∷ now (x .1 .1 .1 .0) ∷ now (x .1 .1 .1 .1 .0) ∷ now (x .1 .1 .1 .1 .1 .0) ∷ []))
+pub deblock-by-rows-once : Sole 12 by-rows-kinds.ps by-rows-kinds.r by-rows-reads.Post
+    (λ κs r x. ended r (now (x .1 .1 .0) ∷ now (x .1 .1 .1 .0) ∷ now (x .1 .1 .1 .1 .0) ∷ now (x .1 .1 .1 .1 .1 .0) ∷ []))
 deblock-by-rows-once κs a r r′ x x′ p q = settled by-rows.outcome (λ o. o .reading) (λ o. o .y ∷ o .u ∷ o .v ∷ o .words ∷ []) p q (deblocked-apart r r′)
 
 abbrev with-rows : List Refusal
@@ -825,7 +835,9 @@ abbrev lending : List ℕ → deblock.Input → by-rows.Input
 lending rows i = record { given = i; rows = rows }
 
 pub deblock-by-rows-refusals : Refuses by-rows.outcome (λ o. o .reading .number) with-rows
-unfolding by-rows.outcome by-rows.check by-rows.rowsLengthOk by-rows.rowsOk rightOk checkMaps lengthsOk rightBytes ruleByte edgeRow withField checks.checkOf checks.fromLengths checks.lengthsOk checks.settingsOk checks.offsetOk checks.keepOk checks.qpsOk checks.planesOk list.limitOk sizeOk walk byByte inTurn onward leafWalk samplesOk allBelow fieldOf
+unfolding by-rows.outcome by-rows.check by-rows.rowsLengthOk by-rows.rowsOk rightOk checkMaps lengthsOk rightBytes ruleByte edgeRow withField checks.checkOf
+    checks.fromLengths checks.lengthsOk checks.settingsOk checks.offsetOk checks.keepOk checks.qpsOk checks.planesOk list.limitOk sizeOk walk
+    byByte inTurn onward leafWalk samplesOk allBelow fieldOf
 deblock-by-rows-refusals =
     record {
       only = λ i. by-checks (λ o. o .reading .number) (deblock.refused (i .given)) (deblock.done (i .given)) with-rows (by-rows.check i) (λ r. refl) refl (by-rows-stop i);
@@ -835,7 +847,9 @@ deblock-by-rows-refusals =
 
 -- a length that is neither is 2; no map and a right one are accepted
 pub deblock-by-rows-numbers : map (λ (rows : List ℕ). by-rows.outcome (lending rows (filtering 4 (root 1) 5 0 0 0)) .reading .number) ((0 ∷ 0 ∷ []) ∷ [] ∷ (0 ∷ []) ∷ []) ≡ 2 ∷ 0 ∷ 0 ∷ []
-unfolding by-rows.outcome by-rows.check by-rows.rowsLengthOk by-rows.rowsOk rightOk checkMaps lengthsOk rightBytes ruleByte edgeRow withField checks.checkOf checks.fromLengths checks.lengthsOk checks.settingsOk checks.offsetOk checks.keepOk checks.qpsOk checks.planesOk list.limitOk sizeOk walk byByte inTurn onward leafWalk samplesOk allBelow fieldOf
+unfolding by-rows.outcome by-rows.check by-rows.rowsLengthOk by-rows.rowsOk rightOk checkMaps lengthsOk rightBytes ruleByte edgeRow withField checks.checkOf
+    checks.fromLengths checks.lengthsOk checks.settingsOk checks.offsetOk checks.keepOk checks.qpsOk checks.planesOk list.limitOk sizeOk walk
+    byByte inTurn onward leafWalk samplesOk allBelow fieldOf
 deblock-by-rows-numbers = refl
 
 -- by the format: such a picture of a format, with n samples in U and in V, and U's offset
@@ -861,9 +875,11 @@ formatted f n table offset =
 
 -- chroma planes lent to a grey picture, a table lent to one, one in colour without them, an offset of 1 in grey and in colour, and a grey one that is accepted
 pub deblock-format-numbers : map (λ i. deblock.outcome i .reading .number)
-    (formatted Grey 4 [] (pos 0) ∷ formatted Grey 0 chroma-table (pos 0) ∷ formatted Colour 0 chroma-table (pos 0) ∷ formatted Grey 0 [] (pos 1) ∷ formatted Colour 4 chroma-table (pos 1) ∷ formatted Grey 0 [] (pos 0) ∷ [])
+    (formatted Grey 4 [] (pos 0) ∷ formatted Grey 0 chroma-table (pos 0) ∷ formatted Colour 0 chroma-table (pos 0) ∷ formatted Grey 0 [] (pos 1)
+    ∷ formatted Colour 4 chroma-table (pos 1) ∷ formatted Grey 0 [] (pos 0) ∷ [])
     ≡ 2 ∷ 2 ∷ 2 ∷ 3 ∷ 0 ∷ 0 ∷ []
-unfolding deblock.outcome checks.checkOf checks.fromLengths checks.lengthsOk checks.settingsOk checks.offsetOk checks.keepOk checks.qpsOk checks.planesOk list.limitOk sizeOk walk byByte inTurn onward leafWalk samplesOk allBelow fieldOf
+unfolding deblock.outcome checks.checkOf checks.fromLengths checks.lengthsOk checks.settingsOk checks.offsetOk checks.keepOk checks.qpsOk checks.planesOk
+    list.limitOk sizeOk walk byByte inTurn onward leafWalk samplesOk allBelow fieldOf
 deblock-format-numbers = refl
 
 -- ---- deblocking by bands
@@ -911,9 +927,11 @@ bandings =
     ∷ []
 
 pub band-format-numbers : map (λ i. band.outcome (banding i 0) .reading .number)
-    (formatted Grey 4 [] (pos 0) ∷ formatted Grey 0 chroma-table (pos 0) ∷ formatted Colour 0 chroma-table (pos 0) ∷ formatted Grey 0 [] (pos 1) ∷ formatted Colour 4 chroma-table (pos 1) ∷ formatted Grey 0 [] (pos 0) ∷ [])
+    (formatted Grey 4 [] (pos 0) ∷ formatted Grey 0 chroma-table (pos 0) ∷ formatted Colour 0 chroma-table (pos 0) ∷ formatted Grey 0 [] (pos 1)
+    ∷ formatted Colour 4 chroma-table (pos 1) ∷ formatted Grey 0 [] (pos 0) ∷ [])
     ≡ 2 ∷ 2 ∷ 2 ∷ 3 ∷ 0 ∷ 0 ∷ []
-unfolding band.outcome band-checks.checkOf band-checks.bandOk bandRows checks.fromLengths checks.lengthsOk checks.settingsOk checks.offsetOk checks.keepOk checks.qpsOk checks.planesOk list.limitOk sizeOk walk byByte inTurn onward leafWalk samplesOk allBelow fieldOf
+unfolding band.outcome band-checks.checkOf band-checks.bandOk bandRows checks.fromLengths checks.lengthsOk checks.settingsOk checks.offsetOk checks.keepOk checks.qpsOk
+    checks.planesOk list.limitOk sizeOk walk byByte inTurn onward leafWalk samplesOk allBelow fieldOf
 band-format-numbers = refl
 
 abbrev by-band : List Refusal
@@ -927,7 +945,8 @@ band-stops i =
     (rest-stops _ _ _ (i .lent)))
 
 pub deblock-band-refusals : Refuses band.outcome (λ o. o .reading .number) by-band
-unfolding band.outcome band-checks.checkOf band-checks.bandOk bandRows checks.fromLengths checks.lengthsOk checks.settingsOk checks.offsetOk checks.keepOk checks.qpsOk checks.planesOk list.limitOk sizeOk walk byByte inTurn onward leafWalk samplesOk allBelow fieldOf
+unfolding band.outcome band-checks.checkOf band-checks.bandOk bandRows checks.fromLengths checks.lengthsOk checks.settingsOk checks.offsetOk checks.keepOk checks.qpsOk
+    checks.planesOk list.limitOk sizeOk walk byByte inTurn onward leafWalk samplesOk allBelow fieldOf
 deblock-band-refusals =
     record {
       only = λ i. by-checks (λ o. o .reading .number) (band.refused i) (band.done i) by-band (band.check i) (λ r. refl) refl (band-stops (band.checked i));
@@ -936,7 +955,8 @@ deblock-band-refusals =
     }
 
 pub checked-band-refusals : Refuses band-checks.checkOf answerNumber by-band
-unfolding band-checks.checkOf band-checks.bandOk bandRows checks.fromLengths checks.lengthsOk checks.settingsOk checks.offsetOk checks.keepOk checks.qpsOk checks.planesOk list.limitOk sizeOk walk byByte inTurn onward leafWalk samplesOk allBelow fieldOf
+unfolding band-checks.checkOf band-checks.bandOk bandRows checks.fromLengths checks.lengthsOk checks.settingsOk checks.offsetOk checks.keepOk checks.qpsOk checks.planesOk
+    list.limitOk sizeOk walk byByte inTurn onward leafWalk samplesOk allBelow fieldOf
 checked-band-refusals = record { only = λ i. band-stops i .by; shown = map band.checked bandings; given = refl }
 
 -- ---- the sheet
@@ -969,7 +989,8 @@ sheet-of w limit edge splits =
 
 -- what is printed for a sheet that is refused: for a line; the sides; the limit; an old sheet; digits that ran out, a leaf, or digits left over
 pub sheet-refusals : Refuses foundIn refusalIn (Sheet ∷ Size ∷ Setting ∷ Old ∷ Sheet ∷ Leaf ∷ Sheet ∷ [])
-unfolding foundIn foundOf foundBy sidesOk list.limitOk firstBad lineOk startOf lineOf numberLine startsWith isNumber allBelow edgeLine oldEdge sameLine splitsLine numberAfter valueFrom descendBy descentsBy descendOn byByte inTurn onward leafWalk
+unfolding foundIn foundOf foundBy sidesOk list.limitOk firstBad lineOk startOf lineOf numberLine startsWith isNumber allBelow edgeLine oldEdge sameLine splitsLine
+    numberAfter valueFrom descendBy descentsBy descendOn byByte inTurn onward leafWalk
 sheet-refusals =
     record {
       only = λ s.

@@ -53,7 +53,8 @@ again true r k m p = p
 again false r k m p = record { by = m }
 
 -- the number of an outcome is that of the answer of the checks
-pub by-checks : {O : Type 0} (number : O → ℕ) (stop : Refusal → O) (done : O) (rs : List Refusal) (a : Answer) → ((r : Refusal) → number (stop r) ≡ numberOf r) → number done ≡ 0 → Stops rs a → OneOf rs (number (afterChecks stop done a))
+pub by-checks : {O : Type 0} (number : O → ℕ) (stop : Refusal → O) (done : O) (rs : List Refusal) (a : Answer) → ((r : Refusal) → number (stop r) ≡ numberOf r)
+    → number done ≡ 0 → Stops rs a → OneOf rs (number (afterChecks stop done a))
 by-checks number stop done rs Done f e p = subst (OneOf rs) (sym e) (p .by)
 by-checks number stop done rs (Refused r) f e p = subst (OneOf rs) (sym (f r)) (p .by)
 

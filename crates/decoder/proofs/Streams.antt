@@ -212,7 +212,8 @@ abbrev importing : List ℕ → List ℕ → import.Input
 importing s y = record { input = s; y = y; u = replicate 4 0; v = replicate 4 0 }
 
 pub import-frame-refusals : Refuses import.outcome (λ o. o .reading .number) by-import
-unfolding import.outcome headerIn words ending valueOk saidWith before isNumber valueFrom sameLine startsWith frame.checkOf frame.lengthsOk frame.frameOf matches linePlace planesOk samplesOk allBelow sizeOk tabulateFrom
+unfolding import.outcome headerIn words ending valueOk saidWith before isNumber valueFrom sameLine startsWith frame.checkOf frame.lengthsOk frame.frameOf
+    matches linePlace planesOk samplesOk allBelow sizeOk tabulateFrom
 import-frame-refusals =
     record {
       only = λ i. after-header i (header.readOf (i .input)) (by-header (headerIn (i .input)));
@@ -237,5 +238,7 @@ pub accepted :
     ∷ import.outcome (importing (four-by-four ++ bytes-of 3) (replicate 16 0)) .reading .number
     ∷ []
     ≡ replicate 5 0
-unfolding header.outcome header-out.outcome header-out.numbersOk frame-out.outcome frame-out.checkOf frame-out.lengthsOk frame-out.planesOk import.outcome headerIn words ending valueOk saidWith before isNumber valueFrom sameLine startsWith frame.outcome frame.checkOf frame.lengthsOk frame.frameOf matches linePlace planesOk samplesOk allBelow sizeOk tabulateFrom
+unfolding header.outcome header-out.outcome header-out.numbersOk frame-out.outcome frame-out.checkOf frame-out.lengthsOk frame-out.planesOk import.outcome headerIn
+    words ending valueOk saidWith before isNumber valueFrom sameLine startsWith frame.outcome frame.checkOf frame.lengthsOk frame.frameOf matches
+    linePlace planesOk samplesOk allBelow sizeOk tabulateFrom
 accepted = refl

@@ -10,7 +10,8 @@ use lib.ListN.{getD}
 use Rattle.def.specs.Answers.{answerNumber, afterChecks}
 use Rattle.def.specs.Refusals.{numberOf}
 use Rattle.def.specs.declared.Refusal.{Refusal}
-use Rattle.def.specs.declared.Refusal.the-variants.{Size, Length, Setting, Split, Leaf, Qp, Sample, Block, Mode, Points, Pivot, Sheet, Record, Band, Keep, Bits, Stream, Short, Rows, Old, Window, Turn}
+use Rattle.def.specs.declared.Refusal.the-variants.{Size, Length, Setting, Split, Leaf, Qp, Sample, Block, Mode, Points, Pivot, Sheet, Record, Band, Keep, Bits}
+use Rattle.def.specs.declared.Refusal.the-variants.{Stream, Short, Rows, Old, Window, Turn}
 use Rattle.def.specs.declared.Answer.{Answer}
 use Rattle.def.specs.declared.Answer.the-variants.{Done, Refused}
 

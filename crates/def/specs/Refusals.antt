@@ -2,7 +2,8 @@
 -- Assumes nothing: these are definitions.
 use Prim.Native.Nat.{ℕ}
 use Rattle.def.specs.declared.Refusal.{Refusal}
-use Rattle.def.specs.declared.Refusal.the-variants.{Size, Length, Setting, Split, Leaf, Qp, Sample, Block, Mode, Points, Pivot, Sheet, Record, Band, Keep, Bits, Stream, Short, Rows, Old, Window, Turn}
+use Rattle.def.specs.declared.Refusal.the-variants.{Size, Length, Setting, Split, Leaf, Qp, Sample, Block, Mode, Points, Pivot, Sheet, Record, Band, Keep, Bits}
+use Rattle.def.specs.declared.Refusal.the-variants.{Stream, Short, Rows, Old, Window, Turn}
 
 abbrev pub numberOf : Refusal → ℕ
 numberOf Size = 1

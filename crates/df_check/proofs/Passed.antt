@@ -31,7 +31,8 @@ use Rattle.samples.specs.Samples.{samplesOk}
 use Rattle.samples.proofs.Samples.{sample-any}
 use Rattle.split.specs.ListCall.{limitOk}
 use Rattle.split.specs.Picture.{pictureWalk}
-use Rattle.df_check.specs.Checks.{Input, colourLength, tableLength, lengthTests, lengthsOf, lengthsOk, leastOffset, mostOffset, offsetOk, settingsOk, keepOk, qpsOk, planesOk, fromLengths, checkOf}
+use Rattle.df_check.specs.Checks.{Input, colourLength, tableLength, lengthTests, lengthsOf, lengthsOk, leastOffset, mostOffset, offsetOk, settingsOk, keepOk, qpsOk}
+use Rattle.df_check.specs.Checks.{planesOk, fromLengths, checkOf}
 use Rattle.df_check.specs.declared.check.Lengths.{Lengths}
 use Rattle.df_check.proofs.Formats.{none-before}
 

@@ -25,6 +25,7 @@ found : (i : check-call.Input) (r : Answer) → Gives check-call.outcome i (chec
 unfolding check-call.outcome
 found i r e = answer-apart r (check-call.check i) (ap (λ (o : check-call.Outcome). o .number) (e ∙ number-of (check-call.check i)))
 
-pub walked : (w h : ℕ) (splits : List ℕ) (r : Answer) → sizeOk w h ≡ true → length splits ≡ 1024 * rootCount w h → Gives check-call.outcome (record { w = w; h = h; splits = splits }) (check-call.numbered (answerNumber r)) → r ≡ pictureWalk splits (w / 4) (h / 4) .answer
+pub walked : (w h : ℕ) (splits : List ℕ) (r : Answer) → sizeOk w h ≡ true → length splits ≡ 1024 * rootCount w h
+    → Gives check-call.outcome (record { w = w; h = h; splits = splits }) (check-call.numbered (answerNumber r)) → r ≡ pictureWalk splits (w / 4) (h / 4) .answer
 unfolding check-call.check
 walked w h splits r size long e = found (record { w = w; h = h; splits = splits }) r e ∙ rw (size, eq-eqb _ _ long)

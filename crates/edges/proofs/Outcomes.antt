@@ -65,4 +65,5 @@ pub list-done : (i : list-call.Input) (a : Answer) (m n : List ℕ) (u v : ℕ) 
     → list-call.after (Listed′ (u / 2) (v / 2)) m n ≡ list-call.outcome i
 unfolding list-call.outcome
 list-done i a m n u v e q p o =
-    on-done (list-call.refused i) (list-call.done i) a (list-call.check i) _ e q (rw (counted-half (list-call.passEdges vertical i) p, counted-half (list-call.passEdges horizontal i) o, p .put, o .put))
+    on-done (list-call.refused i) (list-call.done i) a (list-call.check i) _ e q
+    (rw (counted-half (list-call.passEdges vertical i) p, counted-half (list-call.passEdges horizontal i) o, p .put, o .put))

@@ -109,7 +109,9 @@ module _ (i : root-call.Input) where
     unfolding root-call.outcome leaves-call.outcome
     leaves-refused list o r q room g e =
         refused-as (leaves-call.checkOf (i .w) (i .h) (i .splits) (i .x) (i .y) 768) q (leavesInput i list) o
-        (ap (λ (a : Walked). leaves-call.after a o) (sym e) ∙ g ∙ ap (λ (n : ℕ). afterChecks (leaves-call.refused (leavesInput i list)) (leaves-call.done (leavesInput i list)) (leaves-call.checkOf (i .w) (i .h) (i .splits) (i .x) (i .y) n)) room)
+        (ap (λ (a : Walked). leaves-call.after a o) (sym e) ∙ g
+        ∙ ap (λ (n : ℕ). afterChecks (leaves-call.refused (leavesInput i list)) (leaves-call.done (leavesInput i list))
+        (leaves-call.checkOf (i .w) (i .h) (i .splits) (i .x) (i .y) n)) room)
         ∙ ap (afterChecks (root-call.refused i) (root-call.done i)) (sym check-is)
 
     module _ (list o : List ℕ) (r : Walked) (n : ℕ) (room : length list ≡ 768) (g : Gives leaves-call.outcome (leavesInput i list) (leaves-call.after r o)) (e : r ≡ Counted n) where
@@ -139,7 +141,9 @@ module _ (i : root-call.Input) where
 
       fine : leaves-call.checkOf (i .w) (i .h) (i .splits) (i .x) (i .y) 768 ≡ Done
       unfolding leaves-call.outcome
-      fine = done-as _ (leavesInput i list) n o (ap (λ (a : Walked). leaves-call.after a o) (sym e) ∙ g ∙ ap (λ (b : ℕ). afterChecks (leaves-call.refused (leavesInput i list)) (leaves-call.done (leavesInput i list)) (leaves-call.checkOf (i .w) (i .h) (i .splits) (i .x) (i .y) b)) room)
+      fine = done-as _ (leavesInput i list) n o (ap (λ (a : Walked). leaves-call.after a o) (sym e) ∙ g
+          ∙ ap (λ (b : ℕ). afterChecks (leaves-call.refused (leavesInput i list)) (leaves-call.done (leavesInput i list))
+          (leaves-call.checkOf (i .w) (i .h) (i .splits) (i .x) (i .y) b)) room)
 
       pub root-done : (out : List ℕ) (k : ℕ) → Put (each edgeNumbers (edgesOf (passOf (i .horizontal)) (i .short) (map (leafDown (i .top)) (leavesFrom o n)))) (i .out) 0 out k
           → Gives root-call.outcome i (leaves-call.after (Counted (k / 2)) out)

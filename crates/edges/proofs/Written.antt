@@ -59,7 +59,8 @@ module _ (b short : Bool) {x y side : ℕ} (l : LeafAt x y side) where
   p = leaf′ (x / 4) (y / 4) (side / 4)
 
   -- in the pass's own coordinates
-  in-pass : (t : Bool) (cross along : ℕ) → cross % 4 ≡ 0 → X (passOf t) p ≡ cross / 4 → Y (passOf t) p ≡ along / 4 → leafEdgeNumbers t short cross along side ≡ each edgeNumbers (leafEdges (passOf t) short p)
+  in-pass : (t : Bool) (cross along : ℕ) → cross % 4 ≡ 0 → X (passOf t) p ≡ cross / 4 → Y (passOf t) p ≡ along / 4
+      → leafEdgeNumbers t short cross along side ≡ each edgeNumbers (leafEdges (passOf t) short p)
   unfolding leafEdges
   in-pass t cross along e f g =
       let d = passOf t in
@@ -163,7 +164,8 @@ all-written {b} {short} {top} {list} {out₀} {at} {out} {j} {k} {n} z p q =
     put-as (ap (λ (i : ℕ). numbersOf (passOf b) short (leavesDown top list i)) e) (z .written)
 
 module _ {b short : Bool} {top : ℕ} {list : List ℕ} {n : ℕ} (r : ReadyAt top list n) {out₀ : List ℕ} {at : ℕ} {out : List ℕ} {j k : ℕ} (z : Written b short top list out₀ at out j k) (h : j < n)
-    {x y side cross along : ℕ} (ex : x ≡ getD list (3 * j) 0) (ey : y ≡ getD list (3 * j + 1) 0 + 4 * top) (es : side ≡ getD list (3 * j + 2) 0) (ec : cross ≡ pick b y x) (ea : along ≡ pick b x y) where
+    {x y side cross along : ℕ} (ex : x ≡ getD list (3 * j) 0) (ey : y ≡ getD list (3 * j + 1) 0 + 4 * top) (es : side ≡ getD list (3 * j + 2) 0)
+    (ec : cross ≡ pick b y x) (ea : along ≡ pick b x y) where
   leaf : LeafAt x y side
   leaf = rw (ex, ey, es) (r .leaves j h)
 

@@ -122,7 +122,12 @@ module _ {A : Type 0} (d : A) where
     on e (no p) (yes q) =
         simp (within-yes ((y + t) * w + x) s k (omega (arith, flat e)) (omega (arith, flat e)), within-yes y (t + 1) R (omega arith) (omega arith), within-yes x s C (omega arith) q)
         (cc (row e, column e (omega arith)))
-    on e (no p) (no q) = simp (within-high ((y + t) * w + x) s k (omega (arith, flat e)), within-high y t R (omega arith), within-yes y (t + 1) R (omega arith) (omega arith), within-high x s C (omega arith))
+    on e (no p) (no q) = simp (
+      within-high ((y + t) * w + x) s k (omega (arith, flat e)),
+      within-high y t R (omega arith),
+      within-yes y (t + 1) R (omega arith) (omega arith),
+      within-high x s C (omega arith),
+    )
 
     below : y + t < R → Same
     unfolding Same cell
@@ -139,7 +144,8 @@ module _ {A : Type 0} (d : A) where
   unfolding withRow
   getD-row a n g l k h = getD-tabulate _ (length l) k d h
 
-  pub getD-block : (w x y s t : ℕ) (f : ℕ → ℕ → A) (l : List A) (k : ℕ) → k < length l → getD (withBlock d w x y s t f l) k d ≡ pick (within y t (k / w)) (pick (within x s (k % w)) (f (k / w - y) (k % w - x)) (getD l k d)) (getD l k d)
+  pub getD-block : (w x y s t : ℕ) (f : ℕ → ℕ → A) (l : List A) (k : ℕ) → k < length l → getD (withBlock d w x y s t f l) k d ≡ pick (within y t (k / w))
+      (pick (within x s (k % w)) (f (k / w - y) (k % w - x)) (getD l k d)) (getD l k d)
   unfolding withBlock
   getD-block w x y s t f l k h = getD-tabulate _ (length l) k d h
 
@@ -150,9 +156,11 @@ module _ {A : Type 0} (d : A) where
       let n : length m ≡ length l = length-block w x y s t f l in
       ext-getD d _ _ (length-row _ s (f t) m ∙ n ∙ sym (length-block w x y s (t + 1) f l))
       (λ k p. let q : k < length l = subst (λ (j : ℕ). k < j) (length-row _ s (f t) m ∙ n) p in at k q n) where
-        at : (k : ℕ) → k < length l → length (withBlock d w x y s t f l) ≡ length l → getD (withRow d ((y + t) * w + x) s (f t) (withBlock d w x y s t f l)) k d ≡ getD (withBlock d w x y s (t + 1) f l) k d
+        at : (k : ℕ) → k < length l → length (withBlock d w x y s t f l) ≡ length l
+            → getD (withRow d ((y + t) * w + x) s (f t) (withBlock d w x y s t f l)) k d ≡ getD (withBlock d w x y s (t + 1) f l) k d
         at k q n =
             getD-row _ s (f t) (withBlock d w x y s t f l) k (subst (λ (j : ℕ). k < j) (sym n) q)
             ∙ ap (pick (within ((y + t) * w + x) s k) (f t (k - ((y + t) * w + x)))) (getD-block w x y s t f l k q)
-            ∙ all w x y s t f fits (k / w) (k % w) k (div-add-mod' k w) (mod-lt k some) (getD l k d) (decLt (k / w) y) (decLt (k / w) (y + t)) (decLt (y + t) (k / w)) (decLt (k % w) x) (decLt (k % w) (x + s))
+            ∙ all w x y s t f fits (k / w) (k % w) k (div-add-mod' k w) (mod-lt k some) (getD l k d) (decLt (k / w) y) (decLt (k / w) (y + t))
+            (decLt (y + t) (k / w)) (decLt (k % w) x) (decLt (k % w) (x + s))
             ∙ sym (getD-block w x y s (t + 1) f l k q)

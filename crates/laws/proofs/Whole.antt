@@ -32,7 +32,8 @@ module _ {A : Type 0} (d : A) where
 
   module _ (a m n : ℕ) (g h f : ℕ → A) (l : List A) (first : (j : ℕ) → j < m → f j ≡ g j) (then : (j : ℕ) → j < n → f (m + j) ≡ h j) where
     -- one place k, that holds z before
-    joined : (k : ℕ) (z : A) → Dec (k < a) → Dec (k < a + m) → Dec (k < a + m + n) → pick (within (a + m) n k) (h (k - (a + m))) (pick (within a m k) (g (k - a)) z) ≡ pick (within a (m + n) k) (f (k - a)) z
+    joined : (k : ℕ) (z : A) → Dec (k < a) → Dec (k < a + m) → Dec (k < a + m + n)
+        → pick (within (a + m) n k) (h (k - (a + m))) (pick (within a m k) (g (k - a)) z) ≡ pick (within a (m + n) k) (f (k - a)) z
     joined k z (yes p) q r = simp (within-low (a + m) n k (omega arith), within-low a m k p, within-low a (m + n) k p)
     joined k z (no p) (yes q) r = simp (within-low (a + m) n k q, within-yes a m k (omega arith) q, within-yes a (m + n) k (omega arith) (omega arith)) (sym (first (k - a) (omega arith)))
     joined k z (no p) (no q) (yes r) =
@@ -70,7 +71,8 @@ module _ {A : Type 0} (d : A) where
     rows-none = record { long = refl; written = block-none d w x y s f l₀ }
 
     -- m is l with a row more, from a
-    pub rows-more : (l m : List A) (r a : ℕ) (g : ℕ → A) → x + s ≤ w → 0 < w → a ≡ (y + r) * w + x → ((j : ℕ) → j < s → g j ≡ f r j) → m ≡ withRow d a s g l → Rows w x y s f l₀ l r → Rows w x y s f l₀ m (r + 1)
+    pub rows-more : (l m : List A) (r a : ℕ) (g : ℕ → A) → x + s ≤ w → 0 < w → a ≡ (y + r) * w + x → ((j : ℕ) → j < s → g j ≡ f r j)
+        → m ≡ withRow d a s g l → Rows w x y s f l₀ l r → Rows w x y s f l₀ m (r + 1)
     rows-more l m r a g fits some e same q u =
         record {
           long = ap length q ∙ length-row d a s g l ∙ u .long;

@@ -175,7 +175,8 @@ module _ (list : List ℕ) where
       let e : j + suc (n - suc j) ≡ n = omega arith in
       record {
         rest = map markFrom (take (n - suc j) (drop (suc j) list));
-        split = ap (λ (k : ℕ). map markFrom (take k list)) (sym e) ∙ ap (map markFrom) (take-add j (suc (n - suc j)) list ∙ ap (λ (z : List ℕ). take j list ++ take (suc (n - suc j)) z) (drop-cons list j 0 (omega arith)))
+        split = ap (λ (k : ℕ). map markFrom (take k list)) (sym e)
+            ∙ ap (map markFrom) (take-add j (suc (n - suc j)) list ∙ ap (λ (z : List ℕ). take j list ++ take (suc (n - suc j)) z) (drop-cons list j 0 (omega arith)))
             ∙ map-append (take j list) _;
       }
 

@@ -21,7 +21,8 @@ use Rattle.split.proofs.Walks.{not-done, onward-done}
 use Rattle.split.specs.Stored.{Block}
 use Rattle.split.specs.Walk.{Walk, nothing, andThen, leafWalk, place}
 use Rattle.marks_rules.proofs.Blocks.{partX, partY}
-use Rattle.marks_rules.proofs.Descents.{partOf, descend-x, descend-y, descend-none, descend-leaf, descend-cut, descents-none, descents-more, descents-stop, then-done, Quiet, unit-quiet, all-quiet, few-grown, few-descents}
+use Rattle.marks_rules.proofs.Descents.{partOf, descend-x, descend-y, descend-none, descend-leaf, descend-cut, descents-none, descents-more, descents-stop, then-done}
+use Rattle.marks_rules.proofs.Descents.{Quiet, unit-quiet, all-quiet, few-grown, few-descents}
 use Rattle.marks_rules.specs.Descent.{Descent, grown, descendThen, descents, runOut, after, descend}
 use Rattle.marks_rules.specs.Marks.{Mark, mark, blocksIn}
 use Rattle.marks.specs.Stored.{numbers, one, counted, Listed, Grew}

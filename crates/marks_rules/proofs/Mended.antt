@@ -85,7 +85,8 @@ module _ (s : List ℕ) where
   unfolding judge stop
   judge-append [] m = refl
   judge-append (n ∷ l) m = by (eqb (getD s (n .place) 0) (n .byte)) (judge-append l m) where
-    by : (t : Bool) → judge s (l ++ m) ≡ stop (judge s l) (judge s m) → unless t (Refused (wrong (getD s (n .place) 0))) (judge s (l ++ m)) ≡ stop (unless t (Refused (wrong (getD s (n .place) 0))) (judge s l)) (judge s m)
+    by : (t : Bool) → judge s (l ++ m) ≡ stop (judge s l) (judge s m) → unless t (Refused (wrong (getD s (n .place) 0))) (judge s (l ++ m)) ≡ stop
+        (unless t (Refused (wrong (getD s (n .place) 0))) (judge s l)) (judge s m)
     by true e = e
     by false e = refl
 

@@ -27,7 +27,8 @@ module _ (s : List ℕ) (w h : ℕ) (n : List ℕ) where
       by-start w h x y (walk n w h zero x y ≡ walk s w h zero x y) (λ p. walk-x n w h 0 x y p ∙ sym (walk-x s w h 0 x y p)) (λ p q. walk-y n w h 0 x y p q ∙ sym (walk-y s w h 0 x y p q))
       (λ p q. walk-unit n w h x y p q ∙ sym (walk-unit s w h x y p q))
   same-walk (suc k) x y d g =
-      by-start w h x y (walk n w h (suc k) x y ≡ walk s w h (suc k) x y) (λ p. walk-x n w h (suc k) x y p ∙ sym (walk-x s w h (suc k) x y p)) (λ p q. walk-y n w h (suc k) x y p q ∙ sym (walk-y s w h (suc k) x y p q))
+      by-start w h x y (walk n w h (suc k) x y ≡ walk s w h (suc k) x y) (λ p. walk-x n w h (suc k) x y p ∙ sym (walk-x s w h (suc k) x y p))
+      (λ p q. walk-y n w h (suc k) x y p q ∙ sym (walk-y s w h (suc k) x y p q))
       (λ p q. by-byte (byteOf s k x y) (walk n w h (suc k) x y ≡ walk s w h (suc k) x y)
       (λ e. walk-leaf n w h k x y p q (g _ (subst (List·Memᴰ (mark (place k x y) 0)) (sym (marks-leaf (byteOf s) w h k x y p q e)) (List·Memᴰ·head refl))) ∙ sym (walk-leaf s w h k x y p q e))
       (λ e.

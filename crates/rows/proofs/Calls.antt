@@ -90,7 +90,8 @@ module _ (w h : ℕ) (words : List ℕ) (motion refs : List ℤ) (rows : List �
   unfolding rightOk
   right-refused k r e q = on-refusal (λ r. false) _ k _ r e q
 
-  pub right-done : (k : Answer) → k ≡ checkMaps w h (length words) (length motion) (length refs) (length rows) → k ≡ Done → rightBytes words motion refs (w / 4) rows ≡ rightOk w h words motion refs rows
+  pub right-done : (k : Answer) → k ≡ checkMaps w h (length words) (length motion) (length refs) (length rows) → k ≡ Done
+      → rightBytes words motion refs (w / 4) rows ≡ rightOk w h words motion refs rows
   unfolding rightOk
   right-done k e q = on-done (λ r. false) _ k _ _ e q refl
 

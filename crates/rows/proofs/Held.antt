@@ -226,11 +226,13 @@ but-flagged a word words l r = record { word = λ k n. getD-set-other words a k 
 edit-right : (w h : ℕ) (e : Edit) (s : Held) → Right w h s → Right w h (after w h e s)
 unfolding move.outcome flag.outcome
 edit-right w h (moves x y m) s g = go (move.check (motionInput w h s x y m)) where
-  go : (k : Answer) → let o = afterChecks (move.refused (motionInput w h s x y m)) (move.done (motionInput w h s x y m)) k in Right w h (record { words = s .words; motion = o .motion; refs = o .refs; rows = o .rows })
+  go : (k : Answer) → let o = afterChecks (move.refused (motionInput w h s x y m)) (move.done (motionInput w h s x y m)) k in
+      Right w h (record { words = s .words; motion = o .motion; refs = o .refs; rows = o .rows })
   go (Refused r) = g
   go Done = stays-right w h (s .rows) (but-moved (y * (w / 4) + x) m (s .words) (s .motion) (s .refs)) g
 edit-right w h (flags x y f on) s g = go (flag.check (flagInput w h s x y f on)) where
-  go : (k : Answer) → let o = afterChecks (flag.refused (flagInput w h s x y f on)) (flag.done (flagInput w h s x y f on)) k in Right w h (record { words = o .words; motion = s .motion; refs = s .refs; rows = o .rows })
+  go : (k : Answer) → let o = afterChecks (flag.refused (flagInput w h s x y f on)) (flag.done (flagInput w h s x y f on)) k in
+      Right w h (record { words = o .words; motion = s .motion; refs = s .refs; rows = o .rows })
   go (Refused r) = g
   go Done = stays-right w h (s .rows) (but-flagged (y * (w / 4) + x) _ (s .words) (s .motion) (s .refs)) g
 

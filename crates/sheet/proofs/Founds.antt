@@ -83,7 +83,8 @@ module _ (w h limit : ℕ) (digits : List ℕ) where
         leaves : pictureDescent (w / 4) (h / 4) digits .walk .list ≡ allLeaves map (w / 4) (h / 4)
         leaves = sym (ap (λ (v : Walk). v .list) (met .reads)) ∙ leaves-met map (w / 4) (h / 4) (roots (w / 4) (h / 4)) walked
 
-        pub all-listed : length digits ≤ next → listedText (edgeList vertical (eqb limit 5) map (w / 4) (h / 4)) (edgeList horizontal (eqb limit 5) map (w / 4) (h / 4)) ≡ printed (foundOf w h limit false digits)
+        pub all-listed : length digits ≤ next → listedText (edgeList vertical (eqb limit 5) map (w / 4) (h / 4))
+            (edgeList horizontal (eqb limit 5) map (w / 4) (h / 4)) ≡ printed (foundOf w h limit false digits)
         unfolding foundOf foundBy
         all-listed l =
             let e : eqb (length (pictureDescent (w / 4) (h / 4) digits .left)) 0 ≡ true = eq-eqb (length (pictureDescent (w / 4) (h / 4) digits .left)) 0 (omega (arith, met .left)) in

@@ -27,7 +27,8 @@ pub buffer-no : (input out : List ℕ) → (length out ≡ 81920 → ⊥) → Gi
 unfolding outcome check
 buffer-no input out n = rw (ne-eqb (length out) 81920 n)
 
-pub printed-whole : (input out out′ : List ℕ) (r : ℕ) → length out ≡ 81920 → Starts (textOf input) out out′ r → Gives outcome (record { input = input; out = out }) (record { reading = readingOf (Wrote r); out = out′ })
+pub printed-whole : (input out out′ : List ℕ) (r : ℕ) → length out ≡ 81920 → Starts (textOf input) out out′ r
+    → Gives outcome (record { input = input; out = out }) (record { reading = readingOf (Wrote r); out = out′ })
 unfolding outcome check
 printed-whole input out out′ r n p =
     let text = textOf input in
@@ -47,7 +48,8 @@ reading-apart (NotPrinted r) (NotPrinted q) e = ap NotPrinted (number-apart r q 
 part-fits : (text out : List ℕ) → length (text ++ drop (length text) out) ≡ length out → length text ≤ length out
 part-fits text out e = omega (arith, length-append text (drop (length text) out), length-drop (length text) out)
 
-pub text-fits : (input out out′ : List ℕ) (r : Printed) (n : ℕ) → length out′ ≡ length out → Gives outcome (record { input = input; out = out }) (record { reading = readingOf r; out = out′ }) → r ≡ Wrote n → n ≤ length out′
+pub text-fits : (input out out′ : List ℕ) (r : Printed) (n : ℕ) → length out′ ≡ length out
+    → Gives outcome (record { input = input; out = out }) (record { reading = readingOf r; out = out′ }) → r ≡ Wrote n → n ≤ length out′
 unfolding outcome
 text-fits input out out′ r n l g e = go (check (record { input = input; out = out })) g where
   go : (k : Answer) → record { reading = readingOf r; out = out′ } ≡ afterChecks (refused (record { input = input; out = out })) (done (record { input = input; out = out })) k → n ≤ length out′

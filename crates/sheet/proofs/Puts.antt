@@ -92,7 +92,8 @@ put-two a b out at =
     let e : at + 1 + 1 ≡ at + 2 = omega arith in
     subst (Put (a ∷ b ∷ []) out at (set (set out at a) (at + 1) b)) e (put-then (put-byte a out at) (put-byte b (set out at a) (at + 1)))
 
-module _ (letter x y : ℕ) (out : List ℕ) (at : ℕ) {out₁ out₂ : List ℕ} {m n : ℕ} (p : Put (decimal x) (set (set out at letter) (at + 1) 32) (at + 2) out₁ m) (q : Put (decimal y) (set out₁ m 32) (m + 1) out₂ n) where
+module _ (letter x y : ℕ) (out : List ℕ) (at : ℕ) {out₁ out₂ : List ℕ} {m n : ℕ}
+    (p : Put (decimal x) (set (set out at letter) (at + 1) 32) (at + 2) out₁ m) (q : Put (decimal y) (set out₁ m 32) (m + 1) out₂ n) where
   pub place-put : Put (placeText letter x y) out at (set out₂ n 10) (n + 1)
   unfolding placeText
   place-put = put-then (put-two letter 32 out at) (put-then p (put-then (put-byte 32 out₁ m) (put-then q (put-byte 10 out₂ n))))

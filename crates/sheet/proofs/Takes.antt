@@ -45,7 +45,12 @@ module _ (w h : ℕ) (digits bits map : List ℕ) (s : Sides w h) (few : length 
   checked : take-call.check asked ≡ take-call.descent asked .walk .answer
   unfolding take-call.check take-call.placesOk
   checked =
-      rw (size-fits w h s, eq-eqb (length map) (1024 * rootCount w h) (long ∙ ap (λ (n : ℕ). 1024 * n) (sym (count-roots w h s .0))), le-leb 0 (length digits) (omega arith), le-leb (length digits) 4611686018427387904 (omega arith))
+      rw (
+        size-fits w h s,
+        eq-eqb (length map) (1024 * rootCount w h) (long ∙ ap (λ (n : ℕ). 1024 * n) (sym (count-roots w h s .0))),
+        le-leb 0 (length digits) (omega arith),
+        le-leb (length digits) 4611686018427387904 (omega arith),
+      )
 
   module _ (a : Answer) (at : ℕ) (m : List ℕ) (p : record { number = answerNumber a; at = at; map = m } ≡ take-call.outcome asked) (e : take-call.digits asked ≡ valuesOf digits) where
     told : pictureDescent (w / 4) (h / 4) digits .walk .answer ≡ a

@@ -99,7 +99,8 @@ pub record Whole (s : List ℕ) (w h limit : ℕ) (old : Bool) (from to : ℕ) :
   pub digits : take (to - from) (drop from s) ≡ digitsOf s
   pub two : binary (take (to - from) (drop from s)) ≡ true
 
-splits-at : (s : List ℕ) → lineOk Splits s (startOf s 4) ≡ true → (startOf s 4 + length (line s 4) < length s) × (startOf s 4 + length (line s 4) < 4096) × (length splitsKey ≤ length (line s 4)) × (binary (digitsOf s) ≡ true)
+splits-at : (s : List ℕ) → lineOk Splits s (startOf s 4) ≡ true → (startOf s 4 + length (line s 4) < length s) × (startOf s 4 + length (line s 4) < 4096)
+    × (length splitsKey ≤ length (line s 4)) × (binary (digitsOf s) ≡ true)
 unfolding lineOk splitsLine
 splits-at s e =
     let f = all-at (lineTests Splits s (startOf s 4)) 2 e in (

@@ -15,7 +15,8 @@ use lib.ListN.{length, take, drop, length-drop}
 use lib.Seq.{take-all}
 use Rattle.laws.specs.Index.{pick}
 use Rattle.laws.proofs.Bools.{both-right}
-use Rattle.sheet_lines.specs.Lines.{lineOf, lineFrom, nextLine, startsWith, isNumber, valueFrom, numberLine, numberAfter, sameLine, edgeLine, oldEdge, splitsLine, noValue, binary, formOf, saysOf, lineOk}
+use Rattle.sheet_lines.specs.Lines.{lineOf, lineFrom, nextLine, startsWith, isNumber, valueFrom, numberLine, numberAfter, sameLine, edgeLine, oldEdge, splitsLine}
+use Rattle.sheet_lines.specs.Lines.{noValue, binary, formOf, saysOf, lineOk}
 use Rattle.sheet_lines.specs.Words.{ownEdge, sourceEdge, splitsKey}
 use Rattle.sheet_lines.specs.Fields.{valueBy, fieldOf}
 use Rattle.sheet_lines.specs.declared.Kind.{Kind}
@@ -46,7 +47,8 @@ module _ (key l : List ℕ) where
   unfolding numberLine
   number-no-digits e n = rw (e, sym (ap isNumber (rest-of (length key) l)) ∙ n)
 
-  pub number-is : (v : ℕ) → startsWith key l ≡ true → isNumber (take (length l - length key) (drop (length key) l)) ≡ true → v ≡ valueFrom 0 (take (length l - length key) (drop (length key) l)) → Is v ≡ valueBy (numberLine key) (numberAfter key) l
+  pub number-is : (v : ℕ) → startsWith key l ≡ true → isNumber (take (length l - length key) (drop (length key) l)) ≡ true
+      → v ≡ valueFrom 0 (take (length l - length key) (drop (length key) l)) → Is v ≡ valueBy (numberLine key) (numberAfter key) l
   unfolding numberLine numberAfter
   number-is v e n q = rw (e, sym (ap isNumber (rest-of (length key) l)) ∙ n) (ap Is (q ∙ ap (valueFrom 0) (rest-of (length key) l)))
 

@@ -113,7 +113,8 @@ module _ {w h : ℕ} (z : Sized w h) where
   pub bytes-long : (s : List ℕ) (i : ℕ) → i < rootCount w h → length s ≡ 1024 * rootCount w h → length (take (1024 * i + 1024 - 1024 * i) (drop (1024 * i) s)) ≡ 1024
   bytes-long s i l e = simp (length-take, length-drop) (omega arith)
 
-  pub root-same : (s : List ℕ) (i : ℕ) → walk (take (1024 * i + 1024 - 1024 * i) (drop (1024 * i) s)) (w / 4) (h / 4) 4 (64 * (i % rootsAlong w) / 4) (64 * (i / rootsAlong w) / 4) ≡ rootWalk s (w / 4) (h / 4) i
+  pub root-same : (s : List ℕ) (i : ℕ) → walk (take (1024 * i + 1024 - 1024 * i) (drop (1024 * i) s)) (w / 4) (h / 4) 4 (64 * (i % rootsAlong w) / 4)
+      (64 * (i / rootsAlong w) / 4) ≡ rootWalk s (w / 4) (h / 4) i
   root-same s i =
       let e = across-units in
       let a : 64 * (i % rootsAlong w) / 4 ≡ 16 * (i % rootsAlong w) = omega arith in

@@ -17,11 +17,13 @@ use Rattle.avail.specs.Calls.{checkOf}
 use Rattle.avail.proofs.checked.Statement.{statement}
 use Rattle.avail.proofs.checked.Tie as tie
 
-past1 : (c : tie.Else1) (r : Answer) → let a = c .before .before .args in r ≡ unless (eqb (a .words) (unitCount (a .w) (a .h))) (Refused Length) (unless (blockOk (a .w) (a .h) (a .x .0) (a .y .0) (a .side)) (Refused Block) Done) → r ≡ checkOf (a .w) (a .h) (a .words) (a .x .0) (a .y .0) (a .side)
+past1 : (c : tie.Else1) (r : Answer) → let a = c .before .before .args in r ≡ unless (eqb (a .words) (unitCount (a .w) (a .h))) (Refused Length)
+    (unless (blockOk (a .w) (a .h) (a .x .0) (a .y .0) (a .side)) (Refused Block) Done) → r ≡ checkOf (a .w) (a .h) (a .words) (a .x .0) (a .y .0) (a .side)
 unfolding checkOf
 past1 c r p = goes-on _ _ _ _ r (c .before .size-ok .ensures) (c .if1 .left) p
 
-past2 : (c : tie.Else2) (r : Answer) → let a = c .before .before .before .args in r ≡ unless (blockOk (a .w) (a .h) (a .x .0) (a .y .0) (a .side)) (Refused Block) Done → r ≡ checkOf (a .w) (a .h) (a .words) (a .x .0) (a .y .0) (a .side)
+past2 : (c : tie.Else2) (r : Answer) → let a = c .before .before .before .args in
+    r ≡ unless (blockOk (a .w) (a .h) (a .x .0) (a .y .0) (a .side)) (Refused Block) Done → r ≡ checkOf (a .w) (a .h) (a .words) (a .x .0) (a .y .0) (a .side)
 past2 c r p = past1 (c .before) r (past-refusal _ _ _ r (eq-eqb _ _ (c .if2 .left)) p)
 
 returns : tie.Need-returns

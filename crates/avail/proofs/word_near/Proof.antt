@@ -23,7 +23,9 @@ returns-4 : tie.Need-returns-4
 returns-4 c = none-across _ _ _ _ _ _ _ (counted-in _ _ (omega arith) (omega arith)) (counted-past _ _ (omega arith))
 
 -- past the four tests the place is within the words
-place : (c : tie.Else4) → let s = c .before .before .before .before in let a = s .before .before .before .before .before .args in (s .before .pel2scu2 .result .0 + a .b - 1) * (a .w / 4) + (s .before .before .before .pel2scu .result .0 + a .a - 1) < length (now (a .map-scu))
+place : (c : tie.Else4) → let s = c .before .before .before .before in
+    let a = s .before .before .before .before .before .args in
+    (s .before .pel2scu2 .result .0 + a .b - 1) * (a .w / 4) + (s .before .before .before .pel2scu .result .0 + a .a - 1) < length (now (a .map-scu))
 place c = found-below _ _ _ _ _ (omega arith) (omega arith) (omega arith) (omega arith) (c .before .before .before .before .before .before .before .before .before .pre .long)
 
 mul-at : tie.Need-mul-at

@@ -49,4 +49,5 @@ returns c = filling-all _ _ _ _ _ _ (c .before .loop .i) _ (omega arith) (c .bef
 pub fill-i16-spec : {M : Type 1} → statement M
 fill-i16-spec =
     tie.close
-    (tie.spec Inv-loop μ-loop loop-holds (λ c κs. search needs) (λ c κs. search needs) cast-out (λ c. search needs) (λ c. search needs) (λ c. search needs) (λ c. search needs) loop-again same-length returns)
+    (tie.spec Inv-loop μ-loop loop-holds (λ c κs. search needs) (λ c κs. search needs) cast-out (λ c. search needs) (λ c. search needs)
+    (λ c. search needs) (λ c. search needs) loop-again same-length returns)

@@ -80,7 +80,8 @@ second-pivots-ok-requires c κs =
     let l = lengths (three .before .before .before .before) in
     (c .before .before .start-qp .ensures .1, l .a1, l .b1, past-3 three)
 
-second-pivots : (c : tie.After-second-pivots-ok) → let i = input (c .before .before .before .before .before .before .before .before .before .before) in c .second-pivots-ok .result ≡ (i .same-table || pivotsOk (inputStart i) (i .second))
+second-pivots : (c : tie.After-second-pivots-ok) → let i = input (c .before .before .before .before .before .before .before .before .before .before) in
+    c .second-pivots-ok .result ≡ (i .same-table || pivotsOk (inputStart i) (i .second))
 second-pivots c =
     let i = input (c .before .before .before .before .before .before .before .before .before .before) in
     c .second-pivots-ok .ensures ∙ ap (λ (z : ℤ). i .same-table || pivotsOk z (i .second)) (c .before .before .before .start-qp .ensures .0)

@@ -26,7 +26,9 @@ leaf-edges-requires : tie.Need-leaf-edges-requires Inv-loop μ-loop
 leaf-edges-requires c κs =
     let l = c .before .before .before .before .before .before .before .loop in
     let p = c .before .before .before .before .before .before .before .before .before .before .pre in
-    leaf-asks (p .0) (l .inv .3) (c .before .before .before .before .before .before .loop-test .taken) (c .before .before .before .before .before .number-at .ensures) (ap (λ (m : ℕ). m + 4 * c .before .before .before .before .before .before .before .before .before .before .args .top) (c .before .before .before .before .number-at2 .ensures)) (c .before .before .before .number-at3 .ensures)
+    leaf-asks (p .0) (l .inv .3) (c .before .before .before .before .before .before .loop-test .taken) (c .before .before .before .before .before .number-at .ensures)
+    (ap (λ (m : ℕ). m + 4 * c .before .before .before .before .before .before .before .before .before .before .args .top)
+    (c .before .before .before .before .number-at2 .ensures)) (c .before .before .before .number-at3 .ensures)
     (c .before .before .across .ensures) (c .before .across2 .ensures) _ (omega (arith, p .1, l .inv .1))
 
 loop-again : tie.Need-loop-again Inv-loop μ-loop
@@ -36,7 +38,11 @@ loop-again c =
       omega arith,
       e .kept .1 .1 .1 .1 .1 .0 ∙ l .inv .1,
       l .inv .2,
-      one-written (c .before .before .before .before .before .before .before .before .before .before .before .before .before .pre .0) (l .inv .3) (c .before .before .before .before .before .before .before .before .before .loop-test .taken) (c .before .before .before .before .before .before .before .before .number-at .ensures) (ap (λ (m : ℕ). m + 4 * c .before .before .before .before .before .before .before .before .before .before .before .before .before .args .top) (c .before .before .before .before .before .before .before .number-at2 .ensures)) (c .before .before .before .before .before .before .number-at3 .ensures)
+      one-written (c .before .before .before .before .before .before .before .before .before .before .before .before .before .pre .0) (l .inv .3)
+          (c .before .before .before .before .before .before .before .before .before .loop-test .taken)
+          (c .before .before .before .before .before .before .before .before .number-at .ensures)
+          (ap (λ (m : ℕ). m + 4 * c .before .before .before .before .before .before .before .before .before .before .before .before .before .args .top)
+          (c .before .before .before .before .before .before .before .number-at2 .ensures)) (c .before .before .before .before .before .before .number-at3 .ensures)
           (c .before .before .before .before .before .across .ensures) (c .before .before .before .before .across2 .ensures) _ _ (e .ensures),
     )
 

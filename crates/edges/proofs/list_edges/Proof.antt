@@ -22,7 +22,9 @@ returns c = list-refused _ _ _ (c .before .before .before .list-checked .ensures
 
 returns-2 : tie.Need-returns-2
 returns-2 c =
-    list-done _ _ _ _ _ _ (c .before .before .before .before .before .before .before .before .before .before .list-checked .ensures) (c .before .before .before .before .before .before .before .before .enum-told .given .1) (c .before .before .before .before .before .before .pass-edges .ensures) (c .before .before .pass-edges2 .ensures)
+    list-done _ _ _ _ _ _ (c .before .before .before .before .before .before .before .before .before .before .list-checked .ensures)
+    (c .before .before .before .before .before .before .before .before .enum-told .given .1)
+    (c .before .before .before .before .before .before .pass-edges .ensures) (c .before .before .pass-edges2 .ensures)
 
 pub list-edges-spec : {M : Type 1} → statement M
 list-edges-spec =

@@ -43,13 +43,19 @@ returns-3 : tie.Need-returns-3
 returns-3 c = long-refused (inputOf (c .before .before .before .before .before .before)) (size-fine (c .before .before)) (top-fine (c .before)) (c .if3 .taken)
 
 leaves-edges-requires : tie.Need-leaves-edges-requires
-leaves-edges-requires c κs = root-ready (inputOf (c .before .before .before .before .before .before .before .before .before .before .before .before .before .before)) (early (c .before .before .before .before .before .before .before .before)) _ _ _ _ refl (c .before .before .before .before .before .before .leaves .ensures) (c .before .before .before .n .given .1)
+leaves-edges-requires c κs = root-ready (inputOf (c .before .before .before .before .before .before .before .before .before .before .before .before .before .before))
+    (early (c .before .before .before .before .before .before .before .before)) _ _ _ _ refl
+    (c .before .before .before .before .before .before .leaves .ensures) (c .before .before .before .n .given .1)
 
 returns-4 : tie.Need-returns-4
-returns-4 c = leaves-refused (inputOf (c .before .before .before .before .before .before .before .before .before .before .before .before)) (early (c .before .before .before .before .before .before)) _ _ _ _ refl (c .before .before .before .before .leaves .ensures) (c .before .r .given .1)
+returns-4 c = leaves-refused (inputOf (c .before .before .before .before .before .before .before .before .before .before .before .before))
+    (early (c .before .before .before .before .before .before)) _ _ _ _ refl (c .before .before .before .before .leaves .ensures) (c .before .r .given .1)
 
 returns-5 : tie.Need-returns-5
-returns-5 c = root-done (inputOf (c .before .before .before .before .before .before .before .before .before .before .before .before .before .before .before .before .before)) (early (c .before .before .before .before .before .before .before .before .before .before .before)) _ _ _ _ refl (c .before .before .before .before .before .before .before .before .before .leaves .ensures) (c .before .before .before .before .before .before .n .given .1) _ _ (c .before .before .leaves-edges .ensures)
+returns-5 c = root-done (inputOf (c .before .before .before .before .before .before .before .before .before .before .before .before .before .before .before .before .before))
+    (early (c .before .before .before .before .before .before .before .before .before .before .before)) _ _ _ _ refl
+    (c .before .before .before .before .before .before .before .before .before .leaves .ensures)
+    (c .before .before .before .before .before .before .n .given .1) _ _ (c .before .before .leaves-edges .ensures)
 
 pub root-list-spec : {M : Type 1} → statement M
 root-list-spec =

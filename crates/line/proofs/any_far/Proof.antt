@@ -16,7 +16,8 @@ returns c =
     let q = read (s .before .args .q) (f .0 .1) (f .1 .0 .1) (f .1 .1 .0 .1) (f .1 .1 .1 .0 .1) (f .1 .1 .1 .1 .0 .1) (f .1 .1 .1 .1 .1 .0 .1) in
     let p = read (s .before .args .p) (g .0 .1) (g .1 .0 .1) (g .1 .1 .0 .1) (g .1 .1 .1 .0 .1) (g .1 .1 .1 .1 .0 .1) (g .1 .1 .1 .1 .1 .0 .1) in
     (λ i.
-    (c .before .before .before .before .before .before .before .before .before .before .before .before .before .before .before .counted-far .ensures ∙ (λ j. far (countedAs (q .refi0 j) (q .x0 j)) (countedAs (p .refi0 j) (p .x0 j)))) i
+    (c .before .before .before .before .before .before .before .before .before .before .before .before .before .before .before .counted-far .ensures
+    ∙ (λ j. far (countedAs (q .refi0 j) (q .x0 j)) (countedAs (p .refi0 j) (p .x0 j)))) i
     || (c .before .before .before .before .before .before .before .before .before .before .counted-far2 .ensures ∙ (λ j. far (countedAs (q .refi0 j) (q .y0 j)) (countedAs (p .refi0 j) (p .y0 j)))) i
     || (c .before .before .before .before .before .counted-far3 .ensures ∙ (λ j. far (countedAs (q .refi1 j) (q .x1 j)) (countedAs (p .refi1 j) (p .x1 j)))) i
     || (c .counted-far4 .ensures ∙ (λ j. far (countedAs (q .refi1 j) (q .y1 j)) (countedAs (p .refi1 j) (p .y1 j)))) i)

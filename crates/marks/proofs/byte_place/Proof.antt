@@ -12,7 +12,8 @@ cell level row column p q r = omega arith
 
 returns : tie.Need-returns
 returns c = (
-  ap₂ (λ (m n : ℕ). 256 * c .before .before .before .before .before .before .args .level + (16 * (m % 16) + n % 16)) (c .before .pel2scu2 .ensures) (c .before .before .before .before .pel2scu .ensures),
+  ap₂ (λ (m n : ℕ). 256 * c .before .before .before .before .before .before .args .level + (16 * (m % 16) + n % 16))
+      (c .before .pel2scu2 .ensures) (c .before .before .before .before .pel2scu .ensures),
   cell _ _ _ (c .before .before .before .before .before .before .pre .2) (omega arith) (omega arith),
 )
 

@@ -23,12 +23,15 @@ size-told c = sized _ _ (sym (c .before .size-ok .ensures) ∙ not-false _ (c .i
 lengths : (c : tie.After-roots-in) → let a = c .before .before .before .before .before .args in
     (eqb (length (a .splits .now)) (1024 * c .roots-in .result) && eqb (length (a .out .now)) 85) ≡ list-call.lengthsOk (a .w) (a .h) (length (a .splits .now)) (length (a .out .now))
 unfolding list-call.lengthsOk
-lengths c = ap (λ (n : ℕ). eqb (length (c .before .before .before .before .before .args .splits .now)) (1024 * n) && eqb (length (c .before .before .before .before .before .args .out .now)) 85) (c .roots-in .ensures .0)
+lengths c = ap (λ (n : ℕ). eqb (length (c .before .before .before .before .before .args .splits .now)) (1024 * n) && eqb
+    (length (c .before .before .before .before .before .args .out .now)) 85) (c .roots-in .ensures .0)
 
-in-picture : (c : tie.Else3) → c .before .before .before .before .before .before .before .args .root < rootCount (c .before .before .before .before .before .before .before .args .w) (c .before .before .before .before .before .before .before .args .h)
+in-picture : (c : tie.Else3) → c .before .before .before .before .before .before .before .args .root < rootCount
+    (c .before .before .before .before .before .before .before .args .w) (c .before .before .before .before .before .before .before .args .h)
 in-picture c = omega (arith, c .if3 .left, c .before .before .roots-in .ensures .0)
 
-outside : (c : tie.Then3) → rootCount (c .before .before .before .before .before .before .before .args .w) (c .before .before .before .before .before .before .before .args .h) ≤ c .before .before .before .before .before .before .before .args .root
+outside : (c : tie.Then3) → rootCount (c .before .before .before .before .before .before .before .args .w)
+    (c .before .before .before .before .before .before .before .args .h) ≤ c .before .before .before .before .before .before .before .args .root
 outside c = omega (arith, c .if3 .taken, c .before .before .roots-in .ensures .0)
 
 returns : tie.Need-returns

@@ -16,7 +16,8 @@ returns c = ap (λ (t : Bool). pick t (rootCount (c .before .before .args .w) (c
 returns-2 : tie.Need-returns-2
 returns-2 c =
     c .roots-in .ensures .0
-    ∙ ap (λ (t : Bool). pick t (rootCount (c .before .before .before .args .w) (c .before .before .before .args .h)) 0) (sym (sym (c .before .before .size-ok .ensures) ∙ not-false _ (c .before .if1 .left)))
+    ∙ ap (λ (t : Bool). pick t (rootCount (c .before .before .before .args .w) (c .before .before .before .args .h)) 0)
+    (sym (sym (c .before .before .size-ok .ensures) ∙ not-false _ (c .before .if1 .left)))
 
 pub root-count-spec : {M : Type 1} → statement M
 root-count-spec =

@@ -20,7 +20,8 @@ unfolding blocksIn
 mark-block-requires c κs = let p = c .before .before .before .before .pre in (root-block (p .0) _ (p .2), omega arith, bytes-long (p .0) _ _ (p .2) (p .1), omega (arith, p .3))
 
 returns : tie.Need-returns
-returns c = listed-as (root-listed (c .before .before .before .before .before .before .before .pre .0) (c .before .before .before .before .before .before .before .args .i) (c .before .before .before .before .before .before .before .args .splits .now)) (c .before .before .mark-block .ensures)
+returns c = listed-as (root-listed (c .before .before .before .before .before .before .before .pre .0) (c .before .before .before .before .before .before .before .args .i)
+    (c .before .before .before .before .before .before .before .args .splits .now)) (c .before .before .mark-block .ensures)
 
 pub root-marks-spec : {M : Type 1} → statement M
 root-marks-spec =

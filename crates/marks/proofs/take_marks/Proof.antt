@@ -20,10 +20,12 @@ use Rattle.marks.proofs.take_marks.Tie as tie
 size-told : (c : tie.Else1) → Sized (c .before .before .before .before .args .w) (c .before .before .before .before .args .h)
 size-told c = sized _ _ (sym (c .before .size-ok .ensures) ∙ not-false _ (c .if1 .left))
 
-in-picture : (c : tie.Else3) → c .before .before .before .before .before .before .before .args .root < rootCount (c .before .before .before .before .before .before .before .args .w) (c .before .before .before .before .before .before .before .args .h)
+in-picture : (c : tie.Else3) → c .before .before .before .before .before .before .before .args .root < rootCount
+    (c .before .before .before .before .before .before .before .args .w) (c .before .before .before .before .before .before .before .args .h)
 in-picture c = omega (arith, c .if3 .left, c .before .roots-in .ensures .0)
 
-outside : (c : tie.Then3) → rootCount (c .before .before .before .before .before .before .before .args .w) (c .before .before .before .before .before .before .before .args .h) ≤ c .before .before .before .before .before .before .before .args .root
+outside : (c : tie.Then3) → rootCount (c .before .before .before .before .before .before .before .args .w)
+    (c .before .before .before .before .before .before .before .args .h) ≤ c .before .before .before .before .before .before .before .args .root
 outside c = omega (arith, c .if3 .taken, c .before .roots-in .ensures .0)
 
 -- the call's input
@@ -33,7 +35,8 @@ input c =
     record { w = a .w; h = a .h; src = a .src .now; from = a .from; to = a .to; root = a .root; out = a .out .now }
 
 -- how many digits there are
-count-is : (c : tie.Joined4) → c .if4 .count ≡ c .before .before .before .before .before .before .before .before .args .to - c .before .before .before .before .before .before .before .before .args .from
+count-is : (c : tie.Joined4) → c .if4 .count ≡ c .before .before .before .before .before .before .before .before .args .to
+    - c .before .before .before .before .before .before .before .before .args .from
 count-is c = ⊎-elim (λ u. omega (arith, u)) (λ u. omega (arith, u)) (c .if4 .came)
 
 -- 1, 2 and 8 have passed
@@ -66,16 +69,23 @@ root-grown-requires c κs =
 copy-requires : tie.Need-copy-requires
 copy-requires c κs =
     let m = c .before .before .before .before .before .before .root-grown in
-    let f = taken-few (input (c .before .before .before .before .before .before .before .before .before .before .before .before .before .before .before .before)) (count-is (c .before .before .before .before .before .before .before .before)) (m .ensures) _ (c .before .before .before .n .given .1) in
+    let f = taken-few (input (c .before .before .before .before .before .before .before .before .before .before .before .before .before .before .before .before))
+    (count-is (c .before .before .before .before .before .before .before .before)) (m .ensures) _ (c .before .before .before .n .given .1) in
     (omega (arith, f, m .kept .1 .1 .1 .1 .1 .1 .0), omega (arith, f, c .before .before .before .before .before .before .before .before .before .before .before .if2 .left))
 
 returns-4 : tie.Need-returns-4
 returns-4 c =
-    take-stopped (input (c .before .before .before .before .before .before .before .before .before .before .before .before .before .before)) (count-is (c .before .before .before .before .before .before)) (c .before .before .before .before .root-grown .ensures) _ (c .before .r .given .1) (passed (c .before .before .before .before .before .before))
+    take-stopped (input (c .before .before .before .before .before .before .before .before .before .before .before .before .before .before))
+    (count-is (c .before .before .before .before .before .before)) (c .before .before .before .before .root-grown .ensures) _ (c .before .r .given .1)
+    (passed (c .before .before .before .before .before .before))
 
 returns-5 : tie.Need-returns-5
 returns-5 c =
-    take-done (input (c .before .before .before .before .before .before .before .before .before .before .before .before .before .before .before .before .before .before .before)) (count-is (c .before .before .before .before .before .before .before .before .before .before .before)) (c .before .before .before .before .before .before .before .before .before .root-grown .ensures) _ _ refl (c .before .before .before .before .before .before .n .given .1) (passed (c .before .before .before .before .before .before .before .before .before .before .before)) (c .before .before .copy .ensures)
+    take-done (input (c .before .before .before .before .before .before .before .before .before .before .before .before .before .before .before .before .before .before .before))
+    (count-is (c .before .before .before .before .before .before .before .before .before .before .before))
+    (c .before .before .before .before .before .before .before .before .before .root-grown .ensures) _ _ refl
+    (c .before .before .before .before .before .before .n .given .1)
+    (passed (c .before .before .before .before .before .before .before .before .before .before .before)) (c .before .before .copy .ensures)
 
 pub take-marks-spec : {M : Type 1} → statement M
 take-marks-spec =

@@ -26,7 +26,8 @@ returns : tie.Need-returns Inv-loop μ-loop
 returns c =
     let v = c .before .loop .inv in
     let e = le-antisymm (v .0) (c .loop-test .left) in
-    sym (take-length (c .before .loop .out)) ∙ ap (λ (n : ℕ). take n (c .before .loop .out)) (v .1 ∙ sym e) ∙ v .2 ∙ ap (λ (n : ℕ). take n (c .before .before .args .bytes .now)) e ∙ take-length (c .before .before .args .bytes .now)
+    sym (take-length (c .before .loop .out)) ∙ ap (λ (n : ℕ). take n (c .before .loop .out)) (v .1 ∙ sym e) ∙ v .2
+    ∙ ap (λ (n : ℕ). take n (c .before .before .args .bytes .now)) e ∙ take-length (c .before .before .args .bytes .now)
 
 pub copy-spec : {M : Type 1} → statement M
 copy-spec =

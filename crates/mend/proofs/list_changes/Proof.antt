@@ -20,7 +20,13 @@ abbrev μ-loop : tie.MeasureT-loop
 μ-loop bytes marks n root list₀ count met₀ j₀ list met j = n - j
 
 loop-holds : tie.Need-loop-holds Inv-loop μ-loop
-loop-holds c = (zero-le, refl, listed-as (changes-none (c .before .before .before .args .bytes .now) (c .before .before .before .args .root) (c .before .before .before .args .marks .now)) (listed-none _ _), omega arith)
+loop-holds c = (
+  zero-le,
+  refl,
+  listed-as
+      (changes-none (c .before .before .before .args .bytes .now) (c .before .before .before .args .root) (c .before .before .before .args .marks .now)) (listed-none _ _),
+  omega arith,
+)
 
 in-list : (c : tie.In-loop Inv-loop μ-loop) → c .before .loop .j < length (c .before .before .before .before .before .args .marks .now)
 in-list c = omega (arith, c .loop-test .taken, c .before .before .before .before .before .pre .1)
@@ -40,7 +46,8 @@ put-change-requires c κs =
 -- the change of the mark at j
 listed-next : (c : tie.After-put-change Inv-loop μ-loop) → let a = c .before .before .before .before .before .before .before .before .before .before .before .before .args in
     let m = markFrom (getD (a .marks .now) (c .before .before .before .before .before .before .before .before .loop .j) 0) in
-    Listed (changeOf (a .root) (m .place) (getD (a .bytes .now) (m .place) 0) (m .byte)) (c .before .before .before .before .before .before .before .before .loop .list) (c .before .before .before .before .before .before .before .before .loop .met) (c .put-change .last .0) (c .put-change .result)
+    Listed (changeOf (a .root) (m .place) (getD (a .bytes .now) (m .place) 0) (m .byte)) (c .before .before .before .before .before .before .before .before .loop .list)
+    (c .before .before .before .before .before .before .before .before .loop .met) (c .put-change .last .0) (c .put-change .result)
 listed-next c =
     let a = c .before .before .before .before .before .before .before .before .before .before .before .before .args in
     let p = c .before .before .before .before .before .mark-place .ensures in
@@ -56,7 +63,8 @@ loop-again c =
     let f = change-few (a .root) (m .place) (getD (a .bytes .now) (m .place) 0) (m .byte) in (
       omega (arith, c .before .before .before .before .before .before .before .before .before .loop-test .taken),
       listed-long d ∙ v .1,
-      listed-as (changes-more (a .bytes .now) (a .root) (a .marks .now) (c .before .before .before .before .before .before .before .before .before .before .loop .j) (in-list (c .before .before .before .before .before .before .before .before .before))) (listed-then (v .2) d),
+      listed-as (changes-more (a .bytes .now) (a .root) (a .marks .now) (c .before .before .before .before .before .before .before .before .before .before .loop .j)
+          (in-list (c .before .before .before .before .before .before .before .before .before))) (listed-then (v .2) d),
       omega (arith, d .count, f, v .3),
     )
 

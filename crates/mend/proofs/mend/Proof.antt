@@ -54,7 +54,8 @@ returns-3 : tie.Need-returns-3
 unfolding mend-call.check
 returns-3 c =
     mend-done _ _ _ _
-    (goes-on _ _ _ _ _ (c .before .before .before .before .before .before .before .before .before .before .size-ok .ensures) (c .before .before .before .before .before .before .before .before .before .if1 .left)
+    (goes-on _ _ _ _ _ (c .before .before .before .before .before .before .before .before .before .before .size-ok .ensures)
+    (c .before .before .before .before .before .before .before .before .before .if1 .left)
     (goes-on _ _ _ _ _ (lengths (c .before .before .before .before .before .before .before .before)) (c .before .before .before .before .before .before .before .if2 .left) refl))
     (c .before .before .before .before .mend-roots .ensures .0) (c .before .before .before .before .mend-roots .ensures .1)
 

@@ -64,7 +64,13 @@ own-long c =
     mid-len (1024 * i) (1024 * i + 1024) (c .before .loop .out) (room c) ∙ e
 
 mend-root-requires : tie.Need-mend-root-requires Inv-loop μ-loop
-mend-root-requires c κs = (c .before .before .before .before .before .before .before .before .pre .size, c .before .before .before .before .before .before .before .before .pre .bytes, inside (c .before .before), own-long (c .before .before), rows (c .before .before))
+mend-root-requires c κs = (
+  c .before .before .before .before .before .before .before .before .pre .size,
+  c .before .before .before .before .before .before .before .before .pre .bytes,
+  inside (c .before .before),
+  own-long (c .before .before),
+  rows (c .before .before),
+)
 
 loop-again : tie.Need-loop-again Inv-loop μ-loop
 loop-again c =
@@ -76,7 +82,8 @@ loop-again c =
       omega (arith, c .before .before .before .before .before .before .before .loop-test .taken),
       same-len-mid (1024 * l .i) (1024 * l .i + 1024 - 1024 * l .i) (l .out) (m .last .1 .1 .1 .1 .0) k ∙ v .1,
       listed-long (m .ensures .1) ∙ v .2,
-      roots-more (mendRoot (a .splits .now) (a .w / 4) (a .h / 4)) (l .out) (m .last .1 .1 .1 .1 .0) (l .i) (1024 * l .i + 1024 - 1024 * l .i) (room (c .before .before .before .before .before .before .before)) (k ∙ own-long (c .before .before .before .before .before .before .before)) (v .3) (m .ensures .0),
+      roots-more (mendRoot (a .splits .now) (a .w / 4) (a .h / 4)) (l .out) (m .last .1 .1 .1 .1 .0) (l .i) (1024 * l .i + 1024 - 1024 * l .i)
+          (room (c .before .before .before .before .before .before .before)) (k ∙ own-long (c .before .before .before .before .before .before .before)) (v .3) (m .ensures .0),
       listed-more (a .splits .now) (a .w / 4) (a .h / 4) (l .i) (v .4) (m .ensures .1),
     )
 

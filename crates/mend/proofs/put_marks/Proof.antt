@@ -40,7 +40,9 @@ loop-again c =
       simp length-set (v .1),
       ap₂ (set (c .before .before .before .before .before .loop .out)) (c .before .before .mark-place .ensures) (c .mark-byte .ensures)
           ∙ ap (λ (z : List ℕ). set z (m .place) (m .byte)) (v .2)
-          ∙ put-more (c .before .before .before .before .before .before .before .before .args .marks .now) (c .before .before .before .before .before .before .before .before .args .out .now) (c .before .before .before .before .before .loop .j) (in-list (c .before .before .before .before)),
+          ∙ put-more (c .before .before .before .before .before .before .before .before .args .marks .now)
+          (c .before .before .before .before .before .before .before .before .args .out .now)
+          (c .before .before .before .before .before .loop .j) (in-list (c .before .before .before .before)),
     )
 
 returns : tie.Need-returns Inv-loop μ-loop

@@ -31,7 +31,8 @@ shared-slice-read-word : tie.Need-shared-slice-read-word
 shared-slice-read-word c = in-words (c .before .before .before)
 
 -- the flags of the unit's word
-flags : (c : tie.After-get-cod) → let a = c .before .before .before .before .before .args in let word = unitAt (a .w) (now (a .map-scu)) (a .u) (a .v) in (c .before .get-if .result && c .get-cod .result) ≡ (intraOf word && doneOf word)
+flags : (c : tie.After-get-cod) → let a = c .before .before .before .before .before .args in
+    let word = unitAt (a .w) (now (a .map-scu)) (a .u) (a .v) in (c .before .get-if .result && c .get-cod .result) ≡ (intraOf word && doneOf word)
 flags c = rw (c .before .get-if .ensures, c .get-cod .ensures)
 
 shared-slice-read-result : tie.Need-shared-slice-read-result

@@ -24,7 +24,8 @@ size-told c = sym (c .before .size-ok .ensures) ∙ not-false _ (c .if1 .left)
 roots-are : (c : tie.After-root-count) → c .root-count .result ≡ rootCount (c .before .before .before .before .before .args .w) (c .before .before .before .before .before .args .h)
 roots-are c = roots-told _ _ _ (size-told (c .before)) (c .root-count .ensures)
 
-mapped : (c : tie.Else2) → Mapped (c .before .before .before .before .before .before .args .w) (c .before .before .before .before .before .before .args .h) (length (c .before .before .before .before .before .before .args .map .now))
+mapped : (c : tie.Else2) → Mapped (c .before .before .before .before .before .before .args .w) (c .before .before .before .before .before .before .args .h)
+    (length (c .before .before .before .before .before .before .args .map .now))
 mapped c = record { size = size-told (c .before .before); bytes = c .if2 .left ∙ ap (λ (n : ℕ). 1024 * n) (roots-are (c .before)) }
 
 returns : tie.Need-returns
@@ -48,8 +49,16 @@ returns-3 c = get-past _ (mapped (c .before .before)) (past _ _ _ (c .before .bi
 
 get-taken-requires : tie.Need-get-taken-requires
 get-taken-requires c κs =
-    let b = c .before .before .bits-in .ensures in
-    (mapped (c .before .before .before), record { first = refl; last = b .0; inside = within (c .before .before .before .before .before .before .before .before .before .args .at) _ (length (c .before .before .before .before .before .before .before .before .before .args .src .now)) (b .0) (c .before .if3 .left); near = b .1 }) where
+    let b = c .before .before .bits-in .ensures in (
+      mapped (c .before .before .before),
+      record {
+        first = refl;
+        last = b .0;
+        inside = within (c .before .before .before .before .before .before .before .before .before .args .at) _
+            (length (c .before .before .before .before .before .before .before .before .before .args .src .now)) (b .0) (c .before .if3 .left);
+        near = b .1;
+      },
+    ) where
       within : (at end bytes : ℕ) → end ≡ bitsIn bytes → at ≤ end → (at + 7) / 8 * 8 ≤ end
       within at end bytes e l = omega arith
 

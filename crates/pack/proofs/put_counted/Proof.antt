@@ -44,8 +44,12 @@ put-digits-requires c κs =
 returns-3 : tie.Need-returns-3
 returns-3 c =
     let b = c .before .before .before .before .before .before .before .before .before .before .bits-in .ensures .0 in
-    put-done _ (c .before .before .before .before .before .before .before .before .before .before .before .before .before .pre) _ _ (inside _ _ _ b (c .before .before .before .before .before .before .before .before .if2 .left)) refl
-    (filled _ _ _ _ (c .before .before .before .before .before .before .before .before .before .before .before .before .before .args .at) (c .before .before .before .before .before .before .before .before .before .before .before .before .before .args .n) (c .before .before .before .before .before .before .before .before .before .before .before .before .before .pre .count) (c .before .before .before .before .before .before .put-digits .ensures) (c .before .before .put-zeros .ensures)) where
+    put-done _ (c .before .before .before .before .before .before .before .before .before .before .before .before .before .pre) _ _
+    (inside _ _ _ b (c .before .before .before .before .before .before .before .before .if2 .left)) refl
+    (filled _ _ _ _ (c .before .before .before .before .before .before .before .before .before .before .before .before .before .args .at)
+    (c .before .before .before .before .before .before .before .before .before .before .before .before .before .args .n)
+    (c .before .before .before .before .before .before .before .before .before .before .before .before .before .pre .count)
+    (c .before .before .before .before .before .before .put-digits .ensures) (c .before .before .put-zeros .ensures)) where
       inside : (next end bits : ℕ) → end ≡ bits → next ≤ end → next ≤ bits
       inside next end bits e l = omega arith
 
@@ -62,7 +66,12 @@ put-counted-spec =
     (λ c. omega (arith, c .if1 .left, c .before .bits-in .ensures .1, few (c .before .before .before .before)))
     returns-2
     put-digits-requires
-    (λ c. omega (arith, few (c .before .before .before .before .before .before .before .before .before .before), c .before .before .before .before .before .before .if1 .left, c .before .before .before .before .before .before .before .bits-in .ensures .1))
+    (λ c. omega (
+      arith,
+      few (c .before .before .before .before .before .before .before .before .before .before),
+      c .before .before .before .before .before .before .if1 .left,
+      c .before .before .before .before .before .before .before .bits-in .ensures .1,
+    ))
     (λ c κs. search needs)
     (λ c. search needs)
     returns-3)

@@ -25,7 +25,8 @@ size-told c = sym (c .before .size-ok .ensures) ∙ not-false _ (c .if1 .left)
 roots-are : (c : tie.After-root-count) → c .root-count .result ≡ rootCount (c .before .before .before .before .before .args .w) (c .before .before .before .before .before .args .h)
 roots-are c = roots-told _ _ _ (size-told (c .before)) (c .root-count .ensures)
 
-mapped : (c : tie.Else2) → Mapped (c .before .before .before .before .before .before .args .w) (c .before .before .before .before .before .before .args .h) (length (c .before .before .before .before .before .before .args .splits .now))
+mapped : (c : tie.Else2) → Mapped (c .before .before .before .before .before .before .args .w) (c .before .before .before .before .before .before .args .h)
+    (length (c .before .before .before .before .before .before .args .splits .now))
 mapped c = record { size = size-told (c .before .before); bytes = c .if2 .left ∙ ap (λ (n : ℕ). 1024 * n) (roots-are (c .before)) }
 
 returns : tie.Need-returns

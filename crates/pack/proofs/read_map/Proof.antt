@@ -1,4 +1,6 @@
--- `pack::read_map` meets its contract: a walk of its MIR, by hand. The outer borrow is opened; of what the struct owns, which is Copy, the slice's part goes to `get_map` beside the lent room, which isn't needed after the call and goes at its own lifetime; the place that `get_map` returned is stored in the struct's cell; the outer borrow is closed at the new record; and the answer is handed on.
+-- `pack::read_map` meets its contract: a walk of its MIR, by hand. The outer borrow is opened; of what the struct owns, which is Copy, the slice's part goes to `get_map`
+-- beside the lent room, which isn't needed after the call and goes at its own lifetime; the place that `get_map` returned is stored in the struct's cell; the outer
+-- borrow is closed at the new record; and the answer is handed on.
 -- All that the proof knows of `get_map` is that it meets its contract.
 -- Assumes nothing.
 use mathlib.Core.Path.{_≡_, refl, ap}
@@ -18,7 +20,8 @@ use ghost.Atoms.{Atoms, sem}
 use contract.Monad.{Fun, fact}
 use contract.Running.{givenOf, tables, tablesOf}
 use contract.Lifetimes.{AllOutlive}
-use types.Kit.{Given, ‵, raw, given, some, later, _⊛_, ⋆, _$_, _∵_, !, qed, by, move, keep, drop, use1, use2, use3, split, join, pick, learn, rewrite, fsplit, fsplit3, fjoin, fjoin3, feqL, feqI, suffices, frame, await, done}
+use types.Kit.{Given, ‵, raw, given, some, later, _⊛_, ⋆, _$_, _∵_, !, qed, by, move, keep, drop, use1, use2, use3, split, join, pick, learn, rewrite, fsplit, fsplit3}
+use types.Kit.{fjoin, fjoin3, feqL, feqI, suffices, frame, await, done}
 use types.Run.{look, init, forget, stop, hop, fld, from, load, addr, of-opd, and-then, no-more, assigns, land, returns, enter, alloc1, alloc0, params1, pass1, pass0, free1, free0}
 use types.Part.{agg, whole, sub, look-in, store-in}
 use types.SemTy.{Body}
@@ -75,7 +78,9 @@ stayed = (stay-ref (0 ∷ []) tt ReaderS, (stay-none (λ _. usize) yes, (stay-no
 abbrev Get : {M : Type 1} (𝓤 : URA M) (H : Heap 𝓤) (A : Atoms 𝓤) (mem : Memory → SProp 𝓤) (run : Routine → Fun 𝓤) → Contract 𝓤
 Get 𝓤 H A mem run = tripleOf 𝓤 H A get.signature (get.spec 𝓤 H A mem run)
 
-module _ {M : Type 1} (𝓤 : URA M) (H : Heap 𝓤) (A : Atoms 𝓤) (W : Given 𝓤 H A) (at-mem : Memory → SProp 𝓤) (run : Routine → Fun 𝓤) (κ κ′ κ″ : Lft) (bounds : AllOutlive 3 (read.signature .outlives) (κ, (κ′, (κ″, tt)))) (q q′ q″ : Share) (b o : ℕ) (γ : GName) (h : Reader) (wide high : ℕ) (wide-fits : wide < 2 ^ 64) (high-fits : high < 2 ^ 64) (d : RefT (List ℕ)) where
+module _ {M : Type 1} (𝓤 : URA M) (H : Heap 𝓤) (A : Atoms 𝓤) (W : Given 𝓤 H A) (at-mem : Memory → SProp 𝓤) (run : Routine → Fun 𝓤) (κ κ′ κ″ : Lft)
+    (bounds : AllOutlive 3 (read.signature .outlives) (κ, (κ′, (κ″, tt)))) (q q′ q″ : Share) (b o : ℕ) (γ : GName) (h : Reader) (wide high : ℕ)
+    (wide-fits : wide < 2 ^ 64) (high-fits : high < 2 ^ 64) (d : RefT (List ℕ)) where
   abbrev α : NamedLft
   α = record { mir = named 1; lft = κ′ }
 
@@ -123,7 +128,8 @@ module _ {M : Type 1} (𝓤 : URA M) (H : Heap 𝓤) (A : Atoms 𝓤) (W : Given
   abbrev to-get : Get 𝓤 H A at-mem run .Ghost
   to-get = (((κ′, (κ″, tt)), (q′, (q″, tt)), tt, (wide, (high, (h .src, (h .at, (d, tt))))), (vint w64 wide ∷ [], (vint w64 high ∷ [], (sv ∷ [], (vint w64 (h .at) ∷ [], (dv ∷ [], tt)))))), tt)
 
-  goes : h .at < 2 ^ 64 → ent 𝓤 (sep 𝓤 (sep 𝓤 (A .lft κ′ q′) (sep 𝓤 (A .lft κ″ q″) (sem 𝓤 H A ftrue))) (sep 𝓤 (sem 𝓤 H A (ShrSlice (named 1) κ′ u8 .own (h .src) (sv ∷ []))) (sem 𝓤 H A (D .own d (dv ∷ []))))) (Get 𝓤 H A at-mem run .pre to-get)
+  goes : h .at < 2 ^ 64 → ent 𝓤 (sep 𝓤 (sep 𝓤 (A .lft κ′ q′) (sep 𝓤 (A .lft κ″ q″) (sem 𝓤 H A ftrue)))
+      (sep 𝓤 (sem 𝓤 H A (ShrSlice (named 1) κ′ u8 .own (h .src) (sv ∷ []))) (sem 𝓤 H A (D .own d (dv ∷ []))))) (Get 𝓤 H A at-mem run .pre to-get)
   goes n-fits =
       qed W ((‵ (flft κ′ q′) ⊛ ‵ (flft κ″ q″) ⊛ ‵ ftrue) ∷ ‵ (ShrSlice (named 1) κ′ u8 .own (h .src) (sv ∷ [])) ∷ ‵ (D .own d (dv ∷ [])) ∷ []) ∵
       nothing ! $ move ! (3 ∷ 0 ∷ []) $ fjoin ! $ owned ! usize (Is usize) (uint-makes 𝓤 H A W w64) (h .at) _ (refl, n-fits) $ fjoin ! $ move ! (2 ∷ 0 ∷ []) $ fjoin ! $
@@ -133,13 +139,17 @@ module _ {M : Type 1} (𝓤 : URA M) (H : Heap 𝓤) (A : Atoms 𝓤) (W : Given
 
   -- what src owns is kept, and at's facts are made anew
   again : (m : ℕ) → m < 2 ^ 64 → ent 𝓤 (sem 𝓤 H A (R .own h (T′.lowered h ∷ []))) (sem 𝓤 H A (R .own (h′ m) (T′.lowered (h′ m) ∷ [])))
-  again m fits = qed W (‵ (R .own h (T′.lowered h ∷ [])) ∷ []) ∵ owned ! usize (Is usize) (uint-makes 𝓤 H A W w64) m _ (refl, fits) $ move ! (1 ∷ 0 ∷ []) $ by ! (own-put 𝓤 H A W (T.the-type α) (T′.the-laws α) 1 (h .src, (h .at, tt)) m (T′.lowered h))
+  again m fits = qed W (‵ (R .own h (T′.lowered h ∷ [])) ∷ []) ∵ owned ! usize (Is usize) (uint-makes 𝓤 H A W w64) m _ (refl, fits) $ move ! (1 ∷ 0 ∷ []) $ by !
+      (own-put 𝓤 H A W (T.the-type α) (T′.the-laws α) 1 (h .src, (h .at, tt)) m (T′.lowered h))
 
   exits : (r : Placed) (zs : List ℕ) → Came r zs → length zs ≡ length (d .now)
-      → ent 𝓤 (⋆ 𝓤 H A (‵ (fobs γ (R .coded .code (h′ (r .at)))) ∷ ‵ (fbor κ (Body (mem R) b o γ)) ∷ ‵ (flft κ q) ∷ (‵ (flft κ′ q′) ⊛ ‵ (flft κ″ q″) ⊛ ‵ ftrue) ∷ ‵ (finally u8 (d .name) zs) ∷ ‵ (S.the-row .own (r .answer) (ansv (r .answer) ∷ [])) ∷ [])) (Post (ansv (r .answer)))
+      → ent 𝓤 (⋆ 𝓤 H A (‵ (fobs γ (R .coded .code (h′ (r .at)))) ∷ ‵ (fbor κ (Body (mem R) b o γ)) ∷ ‵ (flft κ q) ∷ (‵ (flft κ′ q′) ⊛ ‵ (flft κ″ q″) ⊛ ‵ ftrue)
+      ∷ ‵ (finally u8 (d .name) zs) ∷ ‵ (S.the-row .own (r .answer) (ansv (r .answer) ∷ [])) ∷ [])) (Post (ansv (r .answer)))
   exits r zs e l =
-      qed W (‵ (fobs γ (R .coded .code (h′ (r .at)))) ∷ ‵ (fbor κ (Body (mem R) b o γ)) ∷ ‵ (flft κ q) ∷ (‵ (flft κ′ q′) ⊛ ‵ (flft κ″ q″) ⊛ ‵ ftrue) ∷ ‵ (finally u8 (d .name) zs) ∷ ‵ (S.the-row .own (r .answer) (ansv (r .answer) ∷ [])) ∷ []) ∵
-      suffices ! _ (ends-at 𝓤 H A read.ended stayed (read.clauses 𝓤 H A at-mem run) W (((κ, (κ′, (κ″, tt))), (q, (q′, (q″, tt))), bounds, a, vals), tt) (ansv (r .answer)) (r .answer) (h′ (r .at), (tt, (tt, (zs, tt)))) (tt, (tt, (tt, (l, tt))))) $ says ! (λ i. e i .number, (λ i. h′ (e i .at)), λ i. e i .map) $
+      qed W (‵ (fobs γ (R .coded .code (h′ (r .at)))) ∷ ‵ (fbor κ (Body (mem R) b o γ)) ∷ ‵ (flft κ q) ∷ (‵ (flft κ′ q′) ⊛ ‵ (flft κ″ q″) ⊛ ‵ ftrue)
+      ∷ ‵ (finally u8 (d .name) zs) ∷ ‵ (S.the-row .own (r .answer) (ansv (r .answer) ∷ [])) ∷ []) ∵
+      suffices ! _ (ends-at 𝓤 H A read.ended stayed (read.clauses 𝓤 H A at-mem run) W (((κ, (κ′, (κ″, tt))), (q, (q′, (q″, tt))), bounds, a, vals), tt)
+      (ansv (r .answer)) (r .answer) (h′ (r .at), (tt, (tt, (zs, tt)))) (tt, (tt, (tt, (l, tt))))) $ says ! (λ i. e i .number, (λ i. h′ (e i .at)), λ i. e i .map) $
       move ! (2 ∷ 3 ∷ []) $ join ! $ frame ! $ feqI ! (List Val) (vptr b o ∷ []) (vptr b o ∷ []) refl $ fjoin3 ! $
       nothing ! $ move ! (2 ∷ 0 ∷ []) $ fjoin ! $ owned ! usize (Is usize) (uint-makes 𝓤 H A W w64) high _ (refl, high-fits) $ fjoin ! $
       owned ! usize (Is usize) (uint-makes 𝓤 H A W w64) wide _ (refl, wide-fits) $ fjoin ! $ move ! (1 ∷ 0 ∷ []) $ fjoin ! $ done !
@@ -155,54 +165,91 @@ module _ {M : Type 1} (𝓤 : URA M) (H : Heap 𝓤) (A : Atoms 𝓤) (W : Given
   r-fits r w is = LL.owed Mv.the-type Mv′.the-laws r _ is .1 .0 .1
 
   module _ (C : Calls 𝓤 H) (Λ : Loops 𝓤 H) (fm : FmC 𝓤 H (W .laws) C) (known : Triple 𝓤 (C #pack·get-map) (Get 𝓤 H A at-mem run)) where
-    walk : Room u8 (length (d .now)) → ent 𝓤 (onEntry 𝓤 H A read.signature (κ, (κ′, (κ″, tt))) (q, (q′, (q″, tt))) a vals) (WpFn 𝓤 H C Λ code.function (vptr b o ∷ vint w64 wide ∷ vint w64 high ∷ dv ∷ []) Post)
+    walk : Room u8 (length (d .now)) → ent 𝓤 (onEntry 𝓤 H A read.signature (κ, (κ′, (κ″, tt))) (q, (q′, (q″, tt))) a vals)
+        (WpFn 𝓤 H C Λ code.function (vptr b o ∷ vint w64 wide ∷ vint w64 high ∷ dv ∷ []) Post)
     walk oroom =
-        qed W ((‵ (flft κ q) ⊛ ‵ (flft κ′ q′) ⊛ ‵ (flft κ″ q″) ⊛ ‵ ftrue) ∷ ‵ (owns (MutRef (named 0) κ R ∷ usize ∷ usize ∷ D ∷ []) a vals) ∷ []) ∵ enter ! C Λ code.function (vptr b o ∷ vint w64 wide ∷ vint w64 high ∷ dv ∷ []) _ $
-        alloc1 ! (λ l₀. alloc1 ! (λ l₁. alloc1 ! (λ l₂. alloc1 ! (λ l₃. alloc1 ! (λ l₄. alloc1 ! (λ l₅. alloc1 ! (λ l₆. alloc1 ! (λ l₇. alloc1 ! (λ l₈. alloc1 ! (λ l₉. alloc0 ! $ params1 ! $ pass1 ! (init ! 16 refl (tt, tt)) $ pass1 ! (init ! 14 refl (tt, record { fits = wide-fits })) $ pass1 ! (init ! 12 refl (tt, record { fits = high-fits })) $ pass1 ! (init ! 10 refl (tt, (tt, (record { fits = oroom .0 }, tt)))) $ pass0 ! $
+        qed W ((‵ (flft κ q) ⊛ ‵ (flft κ′ q′) ⊛ ‵ (flft κ″ q″) ⊛ ‵ ftrue) ∷ ‵ (owns (MutRef (named 0) κ R ∷ usize ∷ usize ∷ D ∷ []) a vals) ∷ []) ∵ enter ! C Λ
+        code.function (vptr b o ∷ vint w64 wide ∷ vint w64 high ∷ dv ∷ []) _ $
+        alloc1 ! (λ l₀. alloc1 ! (λ l₁. alloc1 ! (λ l₂. alloc1 ! (λ l₃. alloc1 !
+        (λ l₄. alloc1 ! (λ l₅. alloc1 ! (λ l₆. alloc1 !
+        (λ l₇. alloc1 ! (λ l₈. alloc1 ! (λ l₉. alloc0 ! $ params1 ! $ pass1 ! (init ! 16 refl (tt, tt)) $ pass1 !
+        (init ! 14 refl (tt, record { fits = wide-fits })) $ pass1 ! (init ! 12 refl (tt, record { fits = high-fits })) $ pass1 !
+        (init ! 10 refl (tt, (tt, (record { fits = oroom .0 }, tt)))) $ pass0 ! $
         -- the outer borrow is opened
         move ! (21 ∷ []) $ fsplit ! $ fsplit3 ! $ drop ! $ move ! (23 ∷ []) $ split ! $ move ! (2 ∷ 3 ∷ 0 ∷ []) $
         opens ! tt R {h = h} b o (λ vs. spelt ! R (Is R) (shows 𝓤 H A R) (LL.vals (T.the-type α) (T′.the-laws α)) (LL.tells (T.the-type α) (T′.the-laws α)) fullShare h vs b o $
         use1 W (‵ (fat fullShare (T′.mir erased) b o (T′.lowered h))) (W .laws .raw-at fullShare (T′.mir erased) b o (T′.lowered h)) $
         move ! (1 ∷ []) $ peeks ! R (Is R) (shows 𝓤 H A R) h (T′.lowered h ∷ []) (λ g. move ! (1 ∷ 0 ∷ []) $
         -- [the struct's cell; what a Reader owns; the open borrow; obs; auth; the inner tokens; what w, h and map own; _9; …; _8; …; _7; …; _6; …; _5; …; _4; …; _3; …; _2; …; _1; …; room for _0; …]
-        assigns ! (of-opd ! (load ! (from ! (hop ! (look ! 23 refl) (fld ! refl (stop !)))) (look-in ! 0 (sub ! 0 refl (whole !))))) (from ! (stop !)) (init ! 15 refl (tt, (tt, (record { fits = room g .0 }, tt)))) $
-        assigns ! (of-opd ! (load ! (from ! (hop ! (look ! 23 refl) (fld ! refl (stop !)))) (look-in ! 0 (sub ! 1 refl (whole !))))) (from ! (stop !)) (init ! 13 refl (tt, record { fits = n-fits g })) $
+        assigns ! (of-opd ! (load ! (from ! (hop ! (look ! 23 refl) (fld ! refl (stop !)))) (look-in ! 0 (sub ! 0 refl (whole !))))) (from ! (stop !))
+        (init ! 15 refl (tt, (tt, (record { fits = room g .0 }, tt)))) $
+        assigns ! (of-opd ! (load ! (from ! (hop ! (look ! 23 refl) (fld ! refl (stop !)))) (look-in ! 0 (sub ! 1 refl (whole !)))))
+        (from ! (stop !)) (init ! 13 refl (tt, record { fits = n-fits g })) $
         assigns ! (addr ! (from ! (fld ! refl (hop ! (look-in ! 17 (sub ! 0 refl (whole !))) (stop !))))) (from ! (stop !)) (init ! 9 refl (tt, tt)) $
-        assigns ! (agg ! (and-then ! (load ! (from ! (stop !)) (look ! 9 refl)) (and-then ! (load ! (from ! (fld ! refl (stop !))) (look-in ! 17 (sub ! 1 refl (whole !)))) (no-more !)))) (from ! (stop !)) (init ! 7 refl (tt, (tt, (record { fits = oroom .0 }, tt)))) $
+        assigns ! (agg ! (and-then ! (load ! (from ! (stop !)) (look ! 9 refl))
+        (and-then ! (load ! (from ! (fld ! refl (stop !))) (look-in ! 17 (sub ! 1 refl (whole !)))) (no-more !)))) (from ! (stop !))
+        (init ! 7 refl (tt, (tt, (record { fits = oroom .0 }, tt)))) $
         -- what the Reader owns is had twice; of one copy the slice's part is taken
         move ! (1 ∷ []) $ use1 W (‵ (R .own h (T′.lowered h ∷ [])) ⊛ ‵ (R .own h (T′.lowered h ∷ []))) (LL.copy (T.the-type α) (T′.the-copy α) 𝓤 H A W .twice h (T′.lowered h ∷ [])) $ split ! $
-        use1 W (given (T′.lowered h ∷ [] ≡ T′.lowered h ∷ []) (‵ (all-own (T.the-type α .parts) (T′.the-laws α) (h .src, (h .at, tt))))) (own-open 𝓤 H A W (T.the-type α) (T′.the-laws α) (h .src, (h .at, tt)) (T′.lowered h)) $ learn ! (λ _. fsplit ! $ move ! (1 ∷ []) $ drop ! $
+        use1 W (given (T′.lowered h ∷ [] ≡ T′.lowered h ∷ []) (‵ (all-own (T.the-type α .parts) (T′.the-laws α) (h .src, (h .at, tt)))))
+        (own-open 𝓤 H A W (T.the-type α) (T′.the-laws α) (h .src, (h .at, tt)) (T′.lowered h)) $ learn ! (λ _. fsplit ! $ move ! (1 ∷ []) $ drop ! $
         move ! (7 ∷ []) $ fsplit ! $ drop ! $ fsplit ! $ drop ! $ fsplit ! $ move ! (8 ∷ 2 ∷ 0 ∷ []) $ use3 W (raw (Get 𝓤 H A at-mem run .pre to-get)) (goes (n-fits g)) $
         -- [what get_map asks; true; what a Reader owns; the struct's cell; the open borrow; obs; auth; _7; …]
-        calls-at ! fm (Get 𝓤 H A at-mem run) known to-get (and-then ! (load ! (from ! (stop !)) (look ! 21 refl)) (and-then ! (load ! (from ! (stop !)) (look ! 19 refl)) (and-then ! (load ! (from ! (stop !)) (look ! 15 refl)) (and-then ! (load ! (from ! (stop !)) (look ! 13 refl)) (and-then ! (load ! (from ! (stop !)) (look ! 7 refl)) (no-more !)))))) (λ w.
-        use1 W (later (some (λ (r : Placed). ((‵ (flft κ′ q′) ⊛ ‵ (flft κ″ q″) ⊛ ‵ ftrue) ⊛ ‵ (Mv.the-row .own r (w ∷ []))) ⊛ raw (ensured 𝓤 H A get.ended (get.clauses 𝓤 H A at-mem run) (κ′, (κ″, tt)) (wide, (high, (h .src, (h .at, (d, tt))))) tt r)))) (id⊢ 𝓤 _) $ await ! tt $ pick ! (λ r.
+        calls-at ! fm (Get 𝓤 H A at-mem run) known to-get
+        (and-then ! (load ! (from ! (stop !)) (look ! 21 refl))
+        (and-then ! (load ! (from ! (stop !)) (look ! 19 refl))
+        (and-then ! (load ! (from ! (stop !)) (look ! 15 refl))
+        (and-then ! (load ! (from ! (stop !)) (look ! 13 refl)) (and-then ! (load ! (from ! (stop !)) (look ! 7 refl)) (no-more !)))))) (λ w.
+        use1 W (later (some (λ (r : Placed). ((‵ (flft κ′ q′) ⊛ ‵ (flft κ″ q″) ⊛ ‵ ftrue) ⊛ ‵ (Mv.the-row .own r (w ∷ []))) ⊛ raw
+        (ensured 𝓤 H A get.ended (get.clauses 𝓤 H A at-mem run) (κ′, (κ″, tt)) (wide, (high, (h .src, (h .at, (d, tt))))) tt r)))) (id⊢ 𝓤 _) $ await ! tt $ pick ! (λ r.
         -- what `get_map` ensures, at some last list
-        split ! $ move ! (1 ∷ []) $ use1 W (some (λ (zs : Unit {0} × (Unit {0} × (Unit {0} × (Unit {0} × (List ℕ × Unit {0}))))). ‵ (lasts get.ended (κ′, (κ″, tt)) (wide, (high, (h .src, (h .at, (d, tt))))) zs) ⊛ raw (fact 𝓤 (Came r (zs .1 .1 .1 .1 .0))))) (id⊢ 𝓤 _) $ pick ! (λ zs.
-        split ! $ move ! (1 ∷ []) $ heard ! (Came r (zs .1 .1 .1 .1 .0)) (λ e. fsplit ! $ drop ! $ fsplit ! $ drop ! $ fsplit ! $ drop ! $ fsplit ! $ drop ! $ fsplit ! $ fsplit ! $ move ! (1 ∷ []) $ feqL ! (λ l.
+        split ! $ move ! (1 ∷ []) $ use1 W (some (λ (zs : Unit {0} × (Unit {0} × (Unit {0} × (Unit {0} × (List ℕ × Unit {0}))))). ‵
+        (lasts get.ended (κ′, (κ″, tt)) (wide, (high, (h .src, (h .at, (d, tt))))) zs) ⊛ raw (fact 𝓤 (Came r (zs .1 .1 .1 .1 .0))))) (id⊢ 𝓤 _) $ pick ! (λ zs.
+        split ! $ move ! (1 ∷ []) $ heard ! (Came r (zs .1 .1 .1 .1 .0))
+        (λ e. fsplit ! $ drop ! $ fsplit ! $ drop ! $ fsplit ! $ drop ! $ fsplit ! $ drop ! $ fsplit ! $ fsplit ! $ move ! (1 ∷ []) $ feqL ! (λ l.
         move ! (2 ∷ []) $ split ! $ move ! (1 ∷ []) $ peeks ! Mv.the-row (Is Mv.the-row) (shows 𝓤 H A Mv.the-row) r (w ∷ []) (λ is.
-        land ! (from ! (stop !)) (init ! 14 refl (LL.lawful Mv.the-type Mv′.the-laws 𝓤 H A W .typed r _ is .0)) $ rewrite ! 14 (λ (u : Val). ‵ (fat fullShare Mv′.mir l₇ 0 u)) (ap only (LL.tells Mv.the-type Mv′.the-laws r _ is)) refl $
-        use1 W (given (w ∷ [] ≡ movv r ∷ []) (‵ (all-own (Mv.the-type .parts) Mv′.the-laws (r .answer, (r .at, tt))))) (own-open 𝓤 H A W Mv.the-type Mv′.the-laws (r .answer, (r .at, tt)) w) $ learn ! (λ _. fsplit ! $ move ! (1 ∷ []) $ drop ! $
-        -- [what the answer owns; the inner tokens; out's last list; …; …; what a Reader owns; the struct's cell; the open borrow; obs; auth; _7; …; _6; …; _5; …; _4; …; _3; …; _2; …; _1; …; room for _0; …]
-        assigns ! (of-opd ! (load ! (from ! (fld ! refl (stop !))) (look-in ! 14 (sub ! 1 refl (whole !))))) (from ! (hop ! (look ! 26 refl) (fld ! refl (stop !)))) (store-in ! 6 (sub ! 1 refl (whole !)) (tt, record { fits = r-fits r w is })) $
-        assigns ! (of-opd ! (load ! (from ! (fld ! refl (stop !))) (look-in ! 14 (sub ! 0 refl (whole !))))) (from ! (stop !)) (init ! 28 refl (EL.lawful S.the-type S′.the-laws 𝓤 H A W tt .typed (r .answer) _ (LL.owed Mv.the-type Mv′.the-laws r _ is .0) .0)) $
+        land ! (from ! (stop !)) (init ! 14 refl (LL.lawful Mv.the-type Mv′.the-laws 𝓤 H A W .typed r _ is .0)) $ rewrite ! 14
+        (λ (u : Val). ‵ (fat fullShare Mv′.mir l₇ 0 u)) (ap only (LL.tells Mv.the-type Mv′.the-laws r _ is)) refl $
+        use1 W (given (w ∷ [] ≡ movv r ∷ []) (‵ (all-own (Mv.the-type .parts) Mv′.the-laws (r .answer, (r .at, tt)))))
+        (own-open 𝓤 H A W Mv.the-type Mv′.the-laws (r .answer, (r .at, tt)) w) $ learn ! (λ _. fsplit ! $ move ! (1 ∷ []) $ drop ! $
+        -- [what the answer owns; the inner tokens; out's last list; …; …; what a Reader owns; the struct's cell; the open borrow; obs; auth; _7; …; _6; …; _5; …; _4; …;
+        -- _3; …; _2; …; _1; …; room for _0; …]
+        assigns ! (of-opd ! (load ! (from ! (fld ! refl (stop !))) (look-in ! 14 (sub ! 1 refl (whole !))))) (from ! (hop ! (look ! 26 refl) (fld ! refl (stop !))))
+        (store-in ! 6 (sub ! 1 refl (whole !)) (tt, record { fits = r-fits r w is })) $
+        assigns ! (of-opd ! (load ! (from ! (fld ! refl (stop !))) (look-in ! 14 (sub ! 0 refl (whole !))))) (from ! (stop !))
+        (init ! 28 refl (EL.lawful S.the-type S′.the-laws 𝓤 H A W tt .typed (r .answer) _ (LL.owed Mv.the-type Mv′.the-laws r _ is .0) .0)) $
         -- the number's facts take the place of at's, and the outer borrow is closed
         move ! (5 ∷ []) $ use1 W (‵ (R .own (h′ (r .at)) (T′.lowered (h′ (r .at)) ∷ []))) (again (r .at) (r-fits r w is)) $
         move ! (6 ∷ []) $ use1 W (‵ (cellAt fullShare (R .mir) (T′.lowered (h′ (r .at)) ∷ []) b o)) (W .laws .at-raw fullShare (T′.mir erased) b o (T′.lowered (h′ (r .at)))) $
         move ! (0 ∷ 1 ∷ 7 ∷ 8 ∷ 9 ∷ []) $ closes ! tt R (h′ (r .at)) (T′.lowered (h′ (r .at)) ∷ []) b o $
-        returns ! (look ! 26 refl) $ forget ! 8 refl $ forget ! 10 refl $ forget ! 12 refl $ forget ! 14 refl $ forget ! 16 refl $ forget ! 18 refl $ forget ! 20 refl $ forget ! 22 refl $ forget ! 24 refl $ forget ! 26 refl $
-        move ! (26 ∷ 27 ∷ []) $ free1 ! $ move ! (24 ∷ 25 ∷ []) $ free1 ! $ move ! (22 ∷ 23 ∷ []) $ free1 ! $ move ! (20 ∷ 21 ∷ []) $ free1 ! $ move ! (18 ∷ 19 ∷ []) $ free1 ! $ move ! (16 ∷ 17 ∷ []) $ free1 ! $ move ! (14 ∷ 15 ∷ []) $ free1 ! $ move ! (12 ∷ 13 ∷ []) $ free1 ! $ move ! (10 ∷ 11 ∷ []) $ free1 ! $ move ! (8 ∷ 9 ∷ []) $ free1 ! $ free0 ! $
+        returns ! (look ! 26 refl) $ forget ! 8 refl $ forget ! 10 refl $ forget ! 12 refl $ forget ! 14 refl $ forget ! 16 refl $ forget ! 18 refl $ forget !
+        20 refl $ forget ! 22 refl $ forget ! 24 refl $ forget ! 26 refl $
+        move ! (26 ∷ 27 ∷ []) $ free1 ! $ move ! (24 ∷ 25 ∷ []) $ free1 ! $ move ! (22 ∷ 23 ∷ []) $ free1 ! $ move ! (20 ∷ 21 ∷ []) $ free1 ! $ move !
+        (18 ∷ 19 ∷ []) $ free1 ! $ move ! (16 ∷ 17 ∷ []) $ free1 ! $ move ! (14 ∷ 15 ∷ []) $ free1 ! $ move ! (12 ∷ 13 ∷ []) $ free1 ! $ move !
+        (10 ∷ 11 ∷ []) $ free1 ! $ move ! (8 ∷ 9 ∷ []) $ free1 ! $ free0 ! $
         keep ! (0 ∷ 1 ∷ 2 ∷ 4 ∷ 5 ∷ 3 ∷ []) $ by ! (exits r (zs .1 .1 .1 .1 .0) e l)))))))))))))))))))))
 
 module _ {M : Type 1} (𝓤 : URA M) (H : Heap 𝓤) (A : Atoms 𝓤) (W : Given 𝓤 H A) (mem : Memory → SProp 𝓤) (run : Routine → Fun 𝓤) where
-  read-map-walks : (C : Calls 𝓤 H) (Λ : Loops 𝓤 H) → FmC 𝓤 H (W .laws) C → Triple 𝓤 (C #pack·get-map) (Get 𝓤 H A mem run) → Walks 𝓤 H A read.ended stayed (WpFn 𝓤 H C Λ code.function) (read.clauses 𝓤 H A mem run)
-  read-map-walks C Λ fm known = walked 𝓤 H A read.ended stayed (read.clauses 𝓤 H A mem run) (WpFn 𝓤 H C Λ code.function) (λ κs. (ptr-vals, (uint-vals w64, (uint-vals w64, (slice-vals, tt))))) (λ κs. (mut-tells (named 0) (κs .0) (T.the-row (namedLft 3 1 tt κs)), (uint-tells w64, (uint-tells w64, (mut-slice-tells (named 2) (κs .1 .1 .0) u8, tt)))))
+  read-map-walks : (C : Calls 𝓤 H) (Λ : Loops 𝓤 H) → FmC 𝓤 H (W .laws) C → Triple 𝓤 (C #pack·get-map) (Get 𝓤 H A mem run)
+      → Walks 𝓤 H A read.ended stayed (WpFn 𝓤 H C Λ code.function) (read.clauses 𝓤 H A mem run)
+  read-map-walks C Λ fm known = walked 𝓤 H A read.ended stayed (read.clauses 𝓤 H A mem run) (WpFn 𝓤 H C Λ code.function)
+      (λ κs. (ptr-vals, (uint-vals w64, (uint-vals w64, (slice-vals, tt)))))
+      (λ κs. (mut-tells (named 0) (κs .0) (T.the-row (namedLft 3 1 tt κs)), (uint-tells w64, (uint-tells w64, (mut-slice-tells (named 2) (κs .1 .1 .0) u8, tt)))))
       (λ κs qs bounds a g are. via 𝓤 _ (fst∗ 𝓤 _ (emp 𝓤))
-      (walk 𝓤 H A W mem run (κs .0) (κs .1 .0) (κs .1 .1 .0) bounds (qs .0) (qs .1 .0) (qs .1 .1 .0) (a .0 .ptr .0) (a .0 .ptr .1) (a .0 .name) (a .0 .now) (a .1 .0) (a .1 .1 .0) (are .1 .0 .1) (are .1 .1 .0 .1) (a .1 .1 .1 .0) C Λ fm known (are .1 .1 .1 .0 .0 .1)))
+      (walk 𝓤 H A W mem run (κs .0) (κs .1 .0) (κs .1 .1 .0) bounds (qs .0) (qs .1 .0) (qs .1 .1 .0) (a .0 .ptr .0) (a .0 .ptr .1) (a .0 .name) (a .0 .now) (a .1 .0) (a .1 .1 .0)
+      (are .1 .0 .1) (are .1 .1 .0 .1) (a .1 .1 .1 .0) C Λ fm known (are .1 .1 .1 .0 .0 .1)))
 
-read-map-meets : {M : Type 1} (𝓤 : URA M) (H : Heap 𝓤) (A : Atoms 𝓤) → Given 𝓤 H A → (mem : Memory → SProp 𝓤) (run : Routine → Fun 𝓤) (𝓣 : Tables 𝓤 H) → Triple 𝓤 (𝓣 .C #pack·get-map) (Get 𝓤 H A mem run)
+read-map-meets : {M : Type 1} (𝓤 : URA M) (H : Heap 𝓤) (A : Atoms 𝓤) → Given 𝓤 H A
+    → (mem : Memory → SProp 𝓤) (run : Routine → Fun 𝓤) (𝓣 : Tables 𝓤 H) → Triple 𝓤 (𝓣 .C #pack·get-map) (Get 𝓤 H A mem run)
     → Meets 𝓤 H A read.signature (WpFn 𝓤 H (𝓣 .C) (𝓣 .Λ) code.function) (read.spec 𝓤 H A mem run)
 read-map-meets 𝓤 H A W mem run 𝓣 known =
-    walk-meets 𝓤 H A read.ended stayed W (goes-ref 𝓤 H A W 3 0 tt ReaderS, (goes-none 𝓤 H A W 3 (λ _. usize) yes (λ κs x f. refl), (goes-none 𝓤 H A W 3 (λ _. usize) yes (λ κs x f. refl), (goes-gave-slice 𝓤 H A W 3 2 tt (plain (λ _. u8)), tt)))) (read.clauses 𝓤 H A mem run)
+    walk-meets 𝓤 H A read.ended stayed W (
+      goes-ref 𝓤 H A W 3 0 tt ReaderS,
+      (
+        goes-none 𝓤 H A W 3 (λ _. usize) yes (λ κs x f. refl),
+        (goes-none 𝓤 H A W 3 (λ _. usize) yes (λ κs x f. refl), (goes-gave-slice 𝓤 H A W 3 2 tt (plain (λ _. u8)), tt)),
+      ),
+    ) (read.clauses 𝓤 H A mem run)
     (WpFn 𝓤 H (𝓣 .C) (𝓣 .Λ) code.function) (WpFn-mono 𝓤 H (W .laws) 𝓣 code.function) (read-map-walks 𝓤 H A W mem run (𝓣 .C) (𝓣 .Λ) (fmOf 𝓤 H (W .laws) 𝓣) known)
 
 pub read-map-spec : {M : Type 1} → stated.statement M

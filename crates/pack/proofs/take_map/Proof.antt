@@ -37,7 +37,8 @@ size-told c = sym (c .before .size-ok .ensures) ∙ not-false _ (c .if1 .left)
 roots-are : (c : tie.After-root-count) → c .root-count .result ≡ rootCount (c .before .before .before .before .before .args .w) (c .before .before .before .before .before .args .h)
 roots-are c = roots-told _ _ _ (size-told (c .before)) (c .root-count .ensures)
 
-mapped : (c : tie.Else2) → Mapped (c .before .before .before .before .before .before .args .w) (c .before .before .before .before .before .before .args .h) (length (c .before .before .before .before .before .before .args .map .now))
+mapped : (c : tie.Else2) → Mapped (c .before .before .before .before .before .before .args .w) (c .before .before .before .before .before .before .args .h)
+    (length (c .before .before .before .before .before .before .args .map .now))
 mapped c = record { size = size-told (c .before .before); bytes = c .if2 .left ∙ ap (λ (n : ℕ). 1024 * n) (roots-are (c .before)) }
 
 -- the places passed
@@ -54,8 +55,11 @@ unfolding take-call.placesOk
 near c = leb-true _ _ (both-right (leb (c .before .before .before .before .before .before .before .args .from) (c .before .before .before .before .before .before .before .args .to)) _ (places c))
 
 -- the digits were taken
-taken : (c : tie.After-n) → (take-call.descent (input (c .before .before .before .before .before .before .before .before .before .before)) .walk .answer ≡ Done) × (c .n .given .0 .0 ≡ length (take-call.descent (input (c .before .before .before .before .before .before .before .before .before .before)) .marks))
-taken c = counted-done _ _ (take-call.descent (input (c .before .before .before .before .before .before .before .before .before .before)) .walk .answer) (sym (c .n .given .1) ∙ c .before .before .map-taken .ensures)
+taken : (c : tie.After-n) → (take-call.descent
+    (input (c .before .before .before .before .before .before .before .before .before .before)) .walk .answer ≡ Done)
+    × (c .n .given .0 .0 ≡ length (take-call.descent (input (c .before .before .before .before .before .before .before .before .before .before)) .marks))
+taken c = counted-done _ _ (take-call.descent
+    (input (c .before .before .before .before .before .before .before .before .before .before)) .walk .answer) (sym (c .n .given .1) ∙ c .before .before .map-taken .ensures)
 
 few : (c : tie.After-n) → c .n .given .0 .0 ≤ 348160
 unfolding blocksIn
@@ -65,7 +69,8 @@ few c =
     omega (
       arith,
       taken c .1,
-      few-descents (rootDescent (a .w / 4) (a .h / 4)) 85 (λ j l. few-grown (a .w / 4) (a .h / 4) 4 (rootX (a .w / 4) j) (rootY (a .w / 4) j) l) (roots (a .w / 4) (a .h / 4)) (take-call.digits (input (c .before .before .before .before .before .before .before .before .before .before))),
+      few-descents (rootDescent (a .w / 4) (a .h / 4)) 85 (λ j l. few-grown (a .w / 4) (a .h / 4) 4 (rootX (a .w / 4) j) (rootY (a .w / 4) j) l) (roots (a .w / 4) (a .h / 4))
+          (take-call.digits (input (c .before .before .before .before .before .before .before .before .before .before))),
       roots-units (sized _ _ z),
       few-of _ _ z,
     )
@@ -92,18 +97,34 @@ map-taken-requires : tie.Need-map-taken-requires
 map-taken-requires c κs = (size-told (c .before .before .before), ordered c, near c)
 
 fill-map-requires : tie.Need-fill-map-requires
-fill-map-requires c κs = (mapped (c .before .before .before .before .before .before), ordered (c .before .before .before .before .before), near (c .before .before .before .before .before), taken (c .before .before) .0)
+fill-map-requires c κs = (
+  mapped (c .before .before .before .before .before .before),
+  ordered (c .before .before .before .before .before),
+  near (c .before .before .before .before .before),
+  taken (c .before .before) .0,
+)
 
 add-t29 : tie.Need-add-t29
-add-t29 c = omega (arith, few (c .before .before .before .before .before), ordered (c .before .before .before .before .before .before .before .before), near (c .before .before .before .before .before .before .before .before))
+add-t29 c = omega (
+  arith,
+  few (c .before .before .before .before .before),
+  ordered (c .before .before .before .before .before .before .before .before),
+  near (c .before .before .before .before .before .before .before .before),
+)
 
 returns-4 : tie.Need-returns-4
-returns-4 c = take-stopped (input (c .before .before .before .before .before .before .before .before .before .before .before)) (mapped (c .before .before .before .before .before)) (places (c .before .before .before .before)) _ (counted-refused _ _ _ (sym (c .before .r .given .1) ∙ c .before .before .before .map-taken .ensures))
+returns-4 c = take-stopped (input (c .before .before .before .before .before .before .before .before .before .before .before))
+    (mapped (c .before .before .before .before .before)) (places (c .before .before .before .before)) _
+    (counted-refused _ _ _ (sym (c .before .r .given .1) ∙ c .before .before .before .map-taken .ensures))
 
 returns-5 : tie.Need-returns-5
 returns-5 c =
-    take-done (input (c .before .before .before .before .before .before .before .before .before .before .before .before .before .before .before)) (mapped (c .before .before .before .before .before .before .before .before .before)) (places (c .before .before .before .before .before .before .before .before)) _ (taken (c .before .before .before .before .before) .0)
-    (ap₂ (λ (k : ℕ) (m : List ℕ). record { number = 0; at = c .before .before .before .before .before .before .before .before .before .before .before .before .before .before .before .args .from + k; map = m }) (taken (c .before .before .before .before .before) .1) (c .before .before .fill-map .ensures))
+    take-done (input (c .before .before .before .before .before .before .before .before .before .before .before .before .before .before .before))
+    (mapped (c .before .before .before .before .before .before .before .before .before))
+    (places (c .before .before .before .before .before .before .before .before)) _ (taken (c .before .before .before .before .before) .0)
+    (ap₂ (λ (k : ℕ) (m : List ℕ).
+    record { number = 0; at = c .before .before .before .before .before .before .before .before .before .before .before .before .before .before .before .args .from + k; map = m })
+    (taken (c .before .before .before .before .before) .1) (c .before .before .fill-map .ensures))
 
 pub take-map-spec : {M : Type 1} → statement M
 take-map-spec =

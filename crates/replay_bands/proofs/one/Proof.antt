@@ -5,7 +5,8 @@ use Rattle.replay_bands.proofs.one.Statement.{statement}
 use Rattle.replay_bands.proofs.one.Tie as tie
 
 slice-aggregate-maps : tie.Need-slice-aggregate-maps
-slice-aggregate-maps c = let p = c .before .before .before .before .before .before .before .before .before .before .before in part-long _ _ _ _ (p .slice-u16 .ensures .len) (p .slice-u16 .kept .1 .1 .0)
+slice-aggregate-maps c = let p = c .before .before .before .before .before .before .before .before .before .before .before in
+    part-long _ _ _ _ (p .slice-u16 .ensures .len) (p .slice-u16 .kept .1 .1 .0)
 
 slice-aggregate-maps-2 : tie.Need-slice-aggregate-maps-2
 slice-aggregate-maps-2 c = let p = c .before .before .before .before .before .before .before .before .before in part-long _ _ _ _ (p .slice-u162 .ensures .len) (p .slice-u162 .kept .1 .1 .0)

@@ -5,10 +5,12 @@ use Rattle.replay_chroma_qp.proofs.one.Statement.{statement}
 use Rattle.replay_chroma_qp.proofs.one.Tie as tie
 
 slice-aggregate-tables : tie.Need-slice-aggregate-tables
-slice-aggregate-tables c = let p = c .before .before .before .before .before .before .before .before .before .before .before .before .before .before in part-long _ _ _ _ (p .slice-i8 .ensures .len) (p .slice-i8 .kept .1 .1 .0)
+slice-aggregate-tables c = let p = c .before .before .before .before .before .before .before .before .before .before .before .before .before .before in
+    part-long _ _ _ _ (p .slice-i8 .ensures .len) (p .slice-i8 .kept .1 .1 .0)
 
 slice-aggregate-tables-2 : tie.Need-slice-aggregate-tables-2
-slice-aggregate-tables-2 c = let p = c .before .before .before .before .before .before .before .before .before .before .before .before in part-long _ _ _ _ (p .slice-i82 .ensures .len) (p .slice-i82 .kept .1 .1 .0)
+slice-aggregate-tables-2 c = let p = c .before .before .before .before .before .before .before .before .before .before .before .before in
+    part-long _ _ _ _ (p .slice-i82 .ensures .len) (p .slice-i82 .kept .1 .1 .0)
 
 slice-aggregate-tables-3 : tie.Need-slice-aggregate-tables-3
 slice-aggregate-tables-3 c = let p = c .before .before .before .before .before .before .before .before .before in part-long _ _ _ _ (p .slice-i83 .ensures .len) (p .slice-i83 .kept .1 .1 .0)

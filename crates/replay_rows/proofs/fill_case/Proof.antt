@@ -5,7 +5,8 @@ use Rattle.replay_rows.proofs.fill_case.Statement.{statement}
 use Rattle.replay_rows.proofs.fill_case.Tie as tie
 
 slice-aggregate-filled : tie.Need-slice-aggregate-filled
-slice-aggregate-filled c = let p = c .before .before .before .before .before .before .before .before .before .before .before in part-long _ _ _ _ (p .slice-u32 .ensures .len) (p .slice-u32 .kept .1 .1 .0)
+slice-aggregate-filled c = let p = c .before .before .before .before .before .before .before .before .before .before .before in
+    part-long _ _ _ _ (p .slice-u32 .ensures .len) (p .slice-u32 .kept .1 .1 .0)
 
 slice-aggregate-filled-2 : tie.Need-slice-aggregate-filled-2
 slice-aggregate-filled-2 c = let p = c .before .before .before .before .before .before .before .before .before in part-long _ _ _ _ (p .slice-i16 .ensures .len) (p .slice-i16 .kept .1 .1 .0)

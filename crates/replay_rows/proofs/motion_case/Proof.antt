@@ -5,10 +5,12 @@ use Rattle.replay_rows.proofs.motion_case.Statement.{statement}
 use Rattle.replay_rows.proofs.motion_case.Tie as tie
 
 slice-aggregate-moved : tie.Need-slice-aggregate-moved
-slice-aggregate-moved c = let p = c .before .before .before .before .before .before .before .before .before .before .before .before .before .before in part-long _ _ _ _ (p .slice-u32 .ensures .len) (p .slice-u32 .kept .1 .1 .0)
+slice-aggregate-moved c = let p = c .before .before .before .before .before .before .before .before .before .before .before .before .before .before in
+    part-long _ _ _ _ (p .slice-u32 .ensures .len) (p .slice-u32 .kept .1 .1 .0)
 
 slice-aggregate-moved-2 : tie.Need-slice-aggregate-moved-2
-slice-aggregate-moved-2 c = let p = c .before .before .before .before .before .before .before .before .before .before .before .before in part-long _ _ _ _ (p .slice-i16 .ensures .len) (p .slice-i16 .kept .1 .1 .0)
+slice-aggregate-moved-2 c = let p = c .before .before .before .before .before .before .before .before .before .before .before .before in
+    part-long _ _ _ _ (p .slice-i16 .ensures .len) (p .slice-i16 .kept .1 .1 .0)
 
 slice-aggregate-moved-3 : tie.Need-slice-aggregate-moved-3
 slice-aggregate-moved-3 c = let p = c .before .before .before .before .before .before .before .before .before .before in part-long _ _ _ _ (p .slice-i8 .ensures .len) (p .slice-i8 .kept .1 .1 .0)

@@ -27,14 +27,17 @@ room : (c : tie.After-map-room) → 1024 * c .before .root-count .result ≤ len
 room c = omega (arith, c .before .root-count .ensures .1, c .map-room .ensures)
 
 returns : tie.Need-returns
-returns c = starts-as (size-no _ _ _ _ _ (sym (c .before .before .before .before .before .sides-ok .ensures) ∙ not-true _ (c .before .before .before .before .if1 .taken))) (c .before .before .put-refusal .ensures)
+returns c = starts-as (size-no _ _ _ _ _
+    (sym (c .before .before .before .before .before .sides-ok .ensures) ∙ not-true _ (c .before .before .before .before .if1 .taken))) (c .before .before .put-refusal .ensures)
 
 returns-2 : tie.Need-returns-2
 returns-2 c =
-    starts-as (limit-no _ _ _ _ (sides (c .before .before .before .before .before)) _ (limit-test _ ∙ not-true _ (c .before .before .before .before .if2 .taken))) (c .before .before .put-refusal2 .ensures)
+    starts-as (limit-no _ _ _ _ (sides (c .before .before .before .before .before)) _
+    (limit-test _ ∙ not-true _ (c .before .before .before .before .if2 .taken))) (c .before .before .put-refusal2 .ensures)
 
 returns-3 : tie.Need-returns-3
-returns-3 c = starts-as (old-no _ _ _ _ (sides (c .before .before .before .before .before .before)) (limited (c .before .before .before .before .before)) _ (c .before .before .before .before .if3 .taken)) (c .before .before .put-refusal3 .ensures)
+returns-3 c = starts-as (old-no _ _ _ _ (sides (c .before .before .before .before .before .before)) (limited (c .before .before .before .before .before)) _
+    (c .before .before .before .before .if3 .taken)) (c .before .before .put-refusal3 .ensures)
 
 root-count-requires : tie.Need-root-count-requires
 root-count-requires c κs = sided _ _ (sides (c .before .before))
@@ -51,7 +54,9 @@ print-tree-requires c κs =
     )
 
 returns-4 : tie.Need-returns-4
-returns-4 c = starts-as (not-old _ _ _ _ (sides (c .before .before .before .before .before .before .before .before .before .before)) (limited (c .before .before .before .before .before .before .before .before .before)) _ (c .before .before .before .before .before .before .before .before .if3 .left)) (c .before .before .before .print-tree .ensures)
+returns-4 c = starts-as (not-old _ _ _ _ (sides (c .before .before .before .before .before .before .before .before .before .before))
+    (limited (c .before .before .before .before .before .before .before .before .before)) _
+    (c .before .before .before .before .before .before .before .before .if3 .left)) (c .before .before .before .print-tree .ensures)
 
 pub print-digits-spec : {M : Type 1} → statement M
 print-digits-spec =

@@ -12,7 +12,8 @@ use Rattle.sheet.proofs.print_sheet.Statement.{statement}
 use Rattle.sheet.proofs.print_sheet.Tie as tie
 
 -- what the five lines say
-told : (c : tie.After-known-told2) → let g = c .before .w .given .0 in Whole (c .before .before .before .before .before .before .args .input .now) (g .0) (g .1 .0) (g .1 .1 .0) (g .1 .1 .1 .0) (g .1 .1 .1 .1 .0) (g .1 .1 .1 .1 .1 .0)
+told : (c : tie.After-known-told2) → let g = c .before .w .given .0 in
+    Whole (c .before .before .before .before .before .before .args .input .now) (g .0) (g .1 .0) (g .1 .1 .0) (g .1 .1 .1 .0) (g .1 .1 .1 .1 .0) (g .1 .1 .1 .1 .1 .0)
 told c = whole-sheet _ _ _ _ _ _ _ (sym (answer-is _ _ (c .before .before .before .read .ensures)) ∙ c .before .w .given .1)
 
 -- the digits end among the first 4,096 bytes

@@ -9,10 +9,12 @@ use Rattle.sheet.proofs.print_tree.Statement.{statement}
 use Rattle.sheet.proofs.print_tree.Tie as tie
 
 -- where the digits were taken: the map is walked as they say
-met : (c : tie.After-known-told2) → let a = c .before .before .before .before .before .before .before .before .before .before .args in Met (a .w / 4) (a .h / 4) (a .digits .now) (c .before .before .before .before .before .take-picture .last .1 .1 .1 .0) (c .before .next .given .0 .0)
+met : (c : tie.After-known-told2) → let a = c .before .before .before .before .before .before .before .before .before .before .args in
+    Met (a .w / 4) (a .h / 4) (a .digits .now) (c .before .before .before .before .before .take-picture .last .1 .1 .1 .0) (c .before .next .given .0 .0)
 met c =
     let a = c .before .before .before .before .before .before .before .before .before .before .args in
-    subst (Pictured (a .w / 4) (a .h / 4) (a .digits .now) (c .before .before .before .before .before .take-picture .last .1 .1 .1 .0)) (c .before .next .given .1) (c .before .before .before .before .before .take-picture .ensures)
+    subst (Pictured (a .w / 4) (a .h / 4) (a .digits .now) (c .before .before .before .before .before .take-picture .last .1 .1 .1 .0))
+    (c .before .next .given .1) (c .before .before .before .before .before .take-picture .ensures)
 
 take-picture-requires : tie.Need-take-picture-requires
 take-picture-requires c κs = let p = c .before .before .before .before .pre in (sided _ _ (p .0), p .2, p .3, p .4)
@@ -26,15 +28,23 @@ returns c =
 print-edges-requires : tie.Need-print-edges-requires
 print-edges-requires c κs =
     let k = c .before .before .before in
-    let p = k .before .before .before .before .before .before .before .before .before .before .pre in
-    (record { sides = sided _ _ (p .0); limited = p .1; long = k .before .before .before .before .before .take-picture .kept .1 .1 .1 .0 ∙ p .4; accepted = walked _ _ _ _ (p .0) (p .1) _ _ (met k) }, p .5)
+    let p = k .before .before .before .before .before .before .before .before .before .before .pre in (
+      record {
+        sides = sided _ _ (p .0);
+        limited = p .1;
+        long = k .before .before .before .before .before .take-picture .kept .1 .1 .1 .0 ∙ p .4;
+        accepted = walked _ _ _ _ (p .0) (p .1) _ _ (met k);
+      },
+      p .5,
+    )
 
 returns-2 : tie.Need-returns-2
 returns-2 c =
     let s = c .before .before .before .before .before .before .before .before .before .before .before .before .before .before in
     let t = c .before .before .before .before .before .before .before .before .before .take-picture in
     starts-as
-    (walk-no _ _ _ _ (s .pre .0) (s .pre .1) _ (subst (Pictured (s .args .w / 4) (s .args .h / 4) (s .args .digits .now) (t .last .1 .1 .1 .0)) (c .before .before .before .before .before .r .given .1) (t .ensures)))
+    (walk-no _ _ _ _ (s .pre .0) (s .pre .1) _
+    (subst (Pictured (s .args .w / 4) (s .args .h / 4) (s .args .digits .now) (t .last .1 .1 .1 .0)) (c .before .before .before .before .before .r .given .1) (t .ensures)))
     (c .before .before .put-refusal .ensures)
 
 returns-3 : tie.Need-returns-3

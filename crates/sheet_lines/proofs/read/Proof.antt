@@ -10,16 +10,22 @@ use Rattle.sheet_lines.proofs.read.Tie as tie
 line-0 : (c : tie.After-known-told) → Said Width (c .before .before .before .before .before .args .input .now) 0 (c .before .w .given .0 .0) (c .before .w .given .0 .1 .0)
 line-0 c = said Width _ 0 0 _ (start-zero _) (c .before .before .before .line-at .ensures) _ _ (c .before .w .given .1)
 
-line-1 : (c : tie.After-known-told2) → Said Height (c .before .before .before .before .before .before .before .before .before .args .input .now) 1 (c .before .h .given .0 .0) (c .before .h .given .0 .1 .0)
+line-1 : (c : tie.After-known-told2) → Said Height (c .before .before .before .before .before .before .before .before .before .args .input .now) 1
+    (c .before .h .given .0 .0) (c .before .h .given .0 .1 .0)
 line-1 c = said Height _ 1 _ _ (line-0 (c .before .before .before .before) .next) (c .before .before .before .line-at2 .ensures) _ _ (c .before .h .given .1)
 
-line-2 : (c : tie.After-known-told3) → Said Limit (c .before .before .before .before .before .before .before .before .before .before .before .before .before .args .input .now) 2 (c .before .limit .given .0 .0) (c .before .limit .given .0 .1 .0)
+line-2 : (c : tie.After-known-told3) → Said Limit (c .before .before .before .before .before .before .before .before .before .before .before .before .before .args .input .now) 2
+    (c .before .limit .given .0 .0) (c .before .limit .given .0 .1 .0)
 line-2 c = said Limit _ 2 _ _ (line-1 (c .before .before .before .before) .next) (c .before .before .before .line-at3 .ensures) _ _ (c .before .limit .given .1)
 
-line-3 : (c : tie.After-known-told4) → Said Edge (c .before .before .before .before .before .before .before .before .before .before .before .before .before .before .before .before .before .args .input .now) 3 (c .before .edge .given .0 .0) (c .before .edge .given .0 .1 .0)
+line-3 : (c : tie.After-known-told4)
+    → Said Edge (c .before .before .before .before .before .before .before .before .before .before .before .before .before .before .before .before .before .args .input .now) 3
+    (c .before .edge .given .0 .0) (c .before .edge .given .0 .1 .0)
 line-3 c = said Edge _ 3 _ _ (line-2 (c .before .before .before .before) .next) (c .before .before .before .line-at4 .ensures) _ _ (c .before .edge .given .1)
 
-line-4 : (c : tie.After-known-told5) → Said Splits (c .before .before .before .before .before .before .before .before .before .before .before .before .before .before .before .before .before .before .before .before .before .args .input .now) 4 (c .before .end .given .0 .0) (c .before .end .given .0 .1 .0)
+line-4 : (c : tie.After-known-told5) → Said Splits
+    (c .before .before .before .before .before .before .before .before .before .before .before .before .before .before .before .before .before .before .before .before .before .args .input .now) 4
+    (c .before .end .given .0 .0) (c .before .end .given .0 .1 .0)
 line-4 c = said Splits _ 4 _ _ (line-3 (c .before .before .before .before) .next) (c .before .before .before .line-at5 .ensures) _ _ (c .before .end .given .1)
 
 returns : tie.Need-returns
@@ -61,7 +67,8 @@ returns-5 c =
     let v = u .before .before .before .before in
     let w = v .before .before .before .before in
     let c₃ = line-3 u in
-    gives _ _ (bad-4 _ (line-0 (w .before .before .before .before) .ok) (line-1 w .ok) (line-2 v .ok) (c₃ .ok) (unsaid Splits _ 4 _ _ (c₃ .next) (c .before .before .line-at5 .ensures) (c .enum-told5 .given .1)))
+    gives _ _ (bad-4 _ (line-0 (w .before .before .before .before) .ok) (line-1 w .ok) (line-2 v .ok) (c₃ .ok)
+    (unsaid Splits _ 4 _ _ (c₃ .next) (c .before .before .line-at5 .ensures) (c .enum-told5 .given .1)))
 
 returns-6 : tie.Need-returns-6
 returns-6 c =
@@ -84,7 +91,8 @@ returns-7 c =
     let v = u .before .before .before .before in
     let w = v .before .before .before .before in
     let x = w .before .before .before .before in
-    gives _ _ (whole _ (line-0 x .ok) (line-1 w .ok) (line-2 v .ok) (line-3 u .ok) (line-4 t .ok) _ _ _ _ _ _ (line-0 x .value) (line-1 w .value) (line-2 v .value) (line-3 u .value) (line-3 u .next) (line-4 t .next) (c .if1 .left))
+    gives _ _ (whole _ (line-0 x .ok) (line-1 w .ok) (line-2 v .ok) (line-3 u .ok) (line-4 t .ok) _ _ _ _ _ _ (line-0 x .value) (line-1 w .value)
+    (line-2 v .value) (line-3 u .value) (line-3 u .next) (line-4 t .next) (c .if1 .left))
 
 pub read-spec : {M : Type 1} → statement M
 read-spec =

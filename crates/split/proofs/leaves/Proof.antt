@@ -18,7 +18,8 @@ returns : tie.Need-returns
 returns c = leaves-refused _ _ _ _ (c .before .before .before .before .met-leaves .ensures) (c .before .r .given .1)
 
 returns-2 : tie.Need-returns-2
-returns-2 c = leaves-done _ _ _ _ _ (c .before .before .before .before .before .before .before .before .before .met-leaves .ensures) (c .before .before .before .before .before .before .n .given .1) (c .before .before .copy .ensures)
+returns-2 c = leaves-done _ _ _ _ _ (c .before .before .before .before .before .before .before .before .before .met-leaves .ensures)
+    (c .before .before .before .before .before .before .n .given .1) (c .before .before .copy .ensures)
 
 pub leaves-spec : {M : Type 1} → statement M
 leaves-spec =

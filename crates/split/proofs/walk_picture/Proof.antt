@@ -31,7 +31,12 @@ returns : tie.Need-returns Inv-loop μ-loop
 returns c =
     let a = c .before .before .before .before .before .before .before .before .before .before in
     let i = c .before .before .before .before .before .before .before .loop .i in
-    let l : i < roots (a .args .w / 4) (a .args .h / 4) = omega (arith, c .before .before .before .before .before .before .loop-test .taken, c .before .before .before .before .before .before .before .before .root-count .ensures .0, roots-units (a .pre .0)) in
+    let l : i < roots (a .args .w / 4) (a .args .h / 4) = omega (
+      arith,
+      c .before .before .before .before .before .before .loop-test .taken,
+      c .before .before .before .before .before .before .before .before .root-count .ensures .0,
+      roots-units (a .pre .0),
+    ) in
     sym (turn-refused (rootWalk (a .args .splits .now) (a .args .w / 4) (a .args .h / 4)) i _ _ l (c .before .before .before .before .before .before .before .loop .inv .2)
     (stored-stop (c .before .before .before .before .root-leaves .ensures) _ (c .before .r .given .1)))
 

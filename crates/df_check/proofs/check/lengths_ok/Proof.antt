@@ -34,7 +34,10 @@ mul-result-4 c = omega (arith, few-units (c .before .before .before .before .bef
 
 returns : tie.Need-returns
 unfolding lengthsOk
-returns c = rw (c .before .before .before .before .before .before .before .before .before .before .before .before .in-format .ensures, c .before .before .before .before .before .before .before .before .before .before .before .in-format2 .ensures) refl
+returns c = rw (
+  c .before .before .before .before .before .before .before .before .before .before .before .before .in-format .ensures,
+  c .before .before .before .before .before .before .before .before .before .before .before .in-format2 .ensures,
+) refl
 
 pub lengths-ok-spec : {M : Type 1} → statement M
 lengths-ok-spec =

@@ -32,7 +32,8 @@ in-list c = omega (arith, c .loop-test .taken, c .before .before .before .before
 place-in : (c : tie.After-mark-place Inv-loop μ-loop) → c .mark-place .result < length (c .before .before .before .loop .map)
 place-in c =
     let p = c .before .before .before .before .before .before .before .before .before .before .pre .2 (c .before .before .before .loop .j) (c .before .before .loop-test .taken) in
-    let e : c .mark-place .result ≡ getD (c .before .before .before .before .before .before .before .before .before .before .args .list .now) (c .before .before .before .loop .j) 0 / 2 = c .mark-place .ensures in
+    let e : c .mark-place .result ≡ getD (c .before .before .before .before .before .before .before .before .before .before .args .list .now)
+    (c .before .before .before .loop .j) 0 / 2 = c .mark-place .ensures in
     omega (arith, c .before .before .before .loop .inv .1)
 
 loop-again : tie.Need-loop-again Inv-loop μ-loop
@@ -41,8 +42,12 @@ loop-again c =
       omega (arith, c .before .before .before .before .loop-test .taken),
       simp length-set (v .1),
       ap₂ (set (c .before .before .before .before .before .loop .map)) (c .before .before .mark-place .ensures) (c .mark-byte .ensures)
-          ∙ ap (λ (z : List ℕ). set z (markFrom (getD (c .before .before .before .before .before .before .before .before .before .before .before .before .args .list .now) (c .before .before .before .before .before .loop .j) 0) .place) (markFrom (getD (c .before .before .before .before .before .before .before .before .before .before .before .before .args .list .now) (c .before .before .before .before .before .loop .j) 0) .byte)) (v .2)
-          ∙ fill-more (c .before .before .before .before .before .before .before .before .before .before .before .before .args .list .now) (replicate 1024 0) (c .before .before .before .before .before .loop .j) (in-list (c .before .before .before .before)),
+          ∙ ap (λ (z : List ℕ). set z (markFrom (getD (c .before .before .before .before .before .before .before .before .before .before .before .before .args .list .now)
+          (c .before .before .before .before .before .loop .j) 0) .place)
+          (markFrom (getD (c .before .before .before .before .before .before .before .before .before .before .before .before .args .list .now)
+          (c .before .before .before .before .before .loop .j) 0) .byte)) (v .2)
+          ∙ fill-more (c .before .before .before .before .before .before .before .before .before .before .before .before .args .list .now) (replicate 1024 0)
+          (c .before .before .before .before .before .loop .j) (in-list (c .before .before .before .before)),
     )
 
 returns : tie.Need-returns Inv-loop μ-loop

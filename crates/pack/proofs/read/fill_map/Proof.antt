@@ -68,7 +68,8 @@ fill-root-requires c κs =
     let e : 1024 * i + 1024 - 1024 * i ≡ 1024 = omega arith in
     (c .before .before .before .before .before .before .pre .0 .size, inside (c .before), mid-len (1024 * i) (1024 * i + 1024) (c .before .before .loop .map) (room (c .before)) ∙ e, goes (c .before))
 
-next : (c : tie.After-fill-root Inv-loop μ-loop) → let a = c .before .before .before .before .before .before .before .args in At (a .w / 4) (a .h / 4) (a .src .now) (a .from) (a .to) (c .before .before .before .loop .i + 1) (c .before .before .before .loop .used + c .fill-root .result)
+next : (c : tie.After-fill-root Inv-loop μ-loop) → let a = c .before .before .before .before .before .before .before .args in
+    At (a .w / 4) (a .h / 4) (a .src .now) (a .from) (a .to) (c .before .before .before .loop .i + 1) (c .before .before .before .loop .used + c .fill-root .result)
 next c = at-more _ _ _ _ _ (c .before .before .before .loop .inv .2) (goes (c .before .before)) _ (c .fill-root .ensures .0)
 
 add-used : tie.Need-add-used Inv-loop μ-loop

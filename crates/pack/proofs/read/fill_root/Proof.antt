@@ -45,7 +45,8 @@ returns-2 c =
     let t = told (c .before .before .before .before .before .before .before .before .before) .1 in (
       n,
       c .before .before .fill-list .ensures
-          ∙ ap (λ (z : List Mark). putAll z (replicate 1024 0)) (ap (marksIn (c .before .before .before .before .before .before .before .before .before .take-marks .last .1 .1 .1 .1 .1 .1 .0)) n ∙ t .back),
+          ∙ ap (λ (z : List Mark). putAll z (replicate 1024 0))
+          (ap (marksIn (c .before .before .before .before .before .before .before .before .before .take-marks .last .1 .1 .1 .1 .1 .1 .0)) n ∙ t .back),
     )
 
 pub fill-root-spec : {M : Type 1} → statement M

@@ -42,23 +42,37 @@ abbrev here : tie.At-loop Inv-loop μ-loop → Descent
 here c = let a = c .before .before .before .args in rootFrom (a .w / 4) (a .h / 4) (a .src .now) (a .from) (a .to) (c .loop .i) (c .loop .used)
 
 told : (c : tie.After-take-marks Inv-loop μ-loop) → c .take-marks .result ≡ counted (length (here (c .before .before .before) .marks)) (here (c .before .before .before) .walk .answer)
-told c = take-told _ (c .take-marks .result) _ (c .before .before .before .before .before .before .pre .0) (c .before .before .before .loop .inv .1) (inside (c .before .before)) (c .take-marks .ensures) .0
+told c = take-told _ (c .take-marks .result) _ (c .before .before .before .before .before .before .pre .0)
+    (c .before .before .before .loop .inv .1) (inside (c .before .before)) (c .take-marks .ensures) .0
 
 returns : tie.Need-returns Inv-loop μ-loop
 returns c =
     ap (counted _)
-    (sym (at-stop _ _ _ _ _ (c .before .before .before .before .before .before .before .loop .inv .2) _ _ (inside-units (c .before .before .before .before .before .before)) (counted-refused _ _ _ (sym (c .before .r .given .1) ∙ told (c .before .before .before .before)))))
+    (sym (at-stop _ _ _ _ _ (c .before .before .before .before .before .before .before .loop .inv .2) _ _ (inside-units (c .before .before .before .before .before .before))
+    (counted-refused _ _ _ (sym (c .before .r .given .1) ∙ told (c .before .before .before .before)))))
 
-next : (c : tie.After-n Inv-loop μ-loop) → let a = c .before .before .before .before .before .before .before .before .before .args in At (a .w / 4) (a .h / 4) (a .src .now) (a .from) (a .to) (c .before .before .before .before .before .before .loop .i + 1) (c .before .before .before .before .before .before .loop .used + c .n .given .0 .0)
+next : (c : tie.After-n Inv-loop μ-loop) → let a = c .before .before .before .before .before .before .before .before .before .args in
+    At (a .w / 4) (a .h / 4) (a .src .now) (a .from) (a .to) (c .before .before .before .before .before .before .loop .i + 1)
+    (c .before .before .before .before .before .before .loop .used + c .n .given .0 .0)
 next c =
     let k = counted-done _ _ (here (c .before .before .before .before .before .before) .walk .answer) (sym (c .n .given .1) ∙ told (c .before .before .before)) in
     at-more _ _ _ _ _ (c .before .before .before .before .before .before .loop .inv .2) (k .0) _ (k .1)
 
 add-used : tie.Need-add-used Inv-loop μ-loop
-add-used c = omega (arith, at-few _ _ _ _ _ (next (c .before)), inside (c .before .before .before .before .before .before), few-of _ _ (c .before .before .before .before .before .before .before .before .before .before .pre .0))
+add-used c = omega (
+  arith,
+  at-few _ _ _ _ _ (next (c .before)),
+  inside (c .before .before .before .before .before .before),
+  few-of _ _ (c .before .before .before .before .before .before .before .before .before .before .pre .0),
+)
 
 loop-again : tie.Need-loop-again Inv-loop μ-loop
-loop-again c = (omega (arith, c .before .before .before .before .before .before .loop-test .taken), c .before .before .before .before .take-marks .kept .1 .1 .1 .1 .1 .1 .0 ∙ c .before .before .before .before .before .before .before .loop .inv .1, next (c .before))
+loop-again c = (
+  omega (arith, c .before .before .before .before .before .before .loop-test .taken),
+  c .before .before .before .before .take-marks .kept .1 .1 .1 .1 .1 .1 .0
+      ∙ c .before .before .before .before .before .before .before .loop .inv .1,
+  next (c .before),
+)
 
 returns-2 : tie.Need-returns-2 Inv-loop μ-loop
 returns-2 c =

@@ -37,9 +37,11 @@ stands : (c : tie.After-mark-place Inv-loop μ-loop) → let a = c .before .befo
 stands c = ap (λ (p : ℕ). getD (c .before .before .before .before .before .before .args .bytes .now) p 0) (c .mark-place .ensures)
 
 wrong-there : (c : tie.Then1 Inv-loop μ-loop) → let a = c .before .before .before .before .before .before .before .before .before .before .args in
-    judge (a .bytes .now) (marksIn (a .list .now) (a .n)) ≡ Refused (wrong (getD (a .bytes .now) (markFrom (getD (a .list .now) (c .before .before .before .before .before .before .before .loop .j) 0) .place) 0))
+    judge (a .bytes .now) (marksIn (a .list .now) (a .n)) ≡ Refused
+    (wrong (getD (a .bytes .now) (markFrom (getD (a .list .now) (c .before .before .before .before .before .before .before .loop .j) 0) .place) 0))
 wrong-there c =
-    judge-wrong _ _ _ (c .before .before .before .before .before .before .before .loop .inv .1) _ (c .before .before .before .before .before .before .loop-test .taken) (c .before .before .before .before .before .before .before .before .before .before .pre .1)
+    judge-wrong _ _ _ (c .before .before .before .before .before .before .before .loop .inv .1) _ (c .before .before .before .before .before .before .loop-test .taken)
+    (c .before .before .before .before .before .before .before .before .before .before .pre .1)
     (λ e. c .if1 .taken (stands (c .before .before .before .before) ∙ e ∙ sym (c .before .mark-byte .ensures)))
 
 returns : tie.Need-returns Inv-loop μ-loop
@@ -55,7 +57,8 @@ returns-2 c = sym (wrong-there (c .before) ∙ ap Refused (past _ (subst (λ (b 
 loop-again : tie.Need-loop-again Inv-loop μ-loop
 loop-again c = (
   omega (arith, c .before .before .before .before .before .before .loop-test .taken),
-  judge-more _ _ _ (c .before .before .before .before .before .before .before .loop .inv .1) (in-list (c .before .before .before .before .before .before)) (sym (stands (c .before .before .before .before)) ∙ c .if1 .left ∙ c .before .mark-byte .ensures),
+  judge-more _ _ _ (c .before .before .before .before .before .before .before .loop .inv .1) (in-list (c .before .before .before .before .before .before))
+      (sym (stands (c .before .before .before .before)) ∙ c .if1 .left ∙ c .before .mark-byte .ensures),
 )
 
 returns-3 : tie.Need-returns-3 Inv-loop μ-loop

@@ -54,10 +54,13 @@ returns c =
 
 next : (c : tie.After-n Inv-loop μ-loop) → let a = c .before .before .before .before .before .before .before .args in
     let i = c .before .before .before .before .loop .i in
-    (rootWalk (a .splits .now) (a .w / 4) (a .h / 4) i .answer ≡ Done) × (c .before .before .before .before .loop .digits + c .n .given .0 .0 ≡ length (digitsOf (a .splits .now) (a .w / 4) (a .h / 4) (i + 1)))
+    (rootWalk (a .splits .now) (a .w / 4) (a .h / 4) i .answer ≡ Done)
+    × (c .before .before .before .before .loop .digits + c .n .given .0 .0 ≡ length (digitsOf (a .splits .now) (a .w / 4) (a .h / 4) (i + 1)))
 next c =
     let v = c .before .before .before .before .loop .inv in
-    let k = counted-done _ _ (rootWalk (c .before .before .before .before .before .before .before .args .splits .now) (c .before .before .before .before .before .before .before .args .w / 4) (c .before .before .before .before .before .before .before .args .h / 4) (c .before .before .before .before .loop .i) .answer) (sym (c .n .given .1) ∙ c .before .before .root-digits .ensures) in
+    let k = counted-done _ _ (rootWalk (c .before .before .before .before .before .before .before .args .splits .now)
+    (c .before .before .before .before .before .before .before .args .w / 4) (c .before .before .before .before .before .before .before .args .h / 4)
+    (c .before .before .before .before .loop .i) .answer) (sym (c .n .given .1) ∙ c .before .before .root-digits .ensures) in
     (k .0, ap₂ _+_ (v .1) (k .1) ∙ sym (more-long _ _ _ _ (inside-units (c .before .before .before))))
 
 add-digits : tie.Need-add-digits Inv-loop μ-loop

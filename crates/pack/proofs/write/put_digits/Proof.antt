@@ -53,13 +53,21 @@ unfolding joined
 loop-holds c = (zero-le, refl, refl, sym (with-none _ _ _))
 
 put-root-requires : tie.Need-put-root-requires Inv-loop μ-loop
-put-root-requires c κs = (c .before .before .before .before .before .before .pre .0, inside (c .before), each-done _ _ (c .before .before .before .before .before .before .pre .1) _ (inside-units (c .before)), near (c .before))
+put-root-requires c κs = (
+  c .before .before .before .before .before .before .pre .0,
+  inside (c .before),
+  each-done _ _ (c .before .before .before .before .before .before .pre .1) _ (inside-units (c .before)),
+  near (c .before),
+)
 
 used-next : (c : tie.After-put-root Inv-loop μ-loop) → let a = c .before .before .before .before .before .before .before .args in
     c .before .before .before .loop .used + c .put-root .result ≡ length (digitsOf (a .splits .now) (a .w / 4) (a .h / 4) (c .before .before .before .loop .i + 1))
 used-next c =
     let v = c .before .before .before .loop .inv in
-    ap (λ (n : ℕ). n + c .put-root .result) (v .2) ∙ ap (λ (n : ℕ). length (digitsOf (c .before .before .before .before .before .before .before .args .splits .now) (c .before .before .before .before .before .before .before .args .w / 4) (c .before .before .before .before .before .before .before .args .h / 4) (c .before .before .before .loop .i)) + n) (c .put-root .ensures .0)
+    ap (λ (n : ℕ). n + c .put-root .result) (v .2) ∙ ap (λ (n : ℕ). length
+    (digitsOf (c .before .before .before .before .before .before .before .args .splits .now)
+    (c .before .before .before .before .before .before .before .args .w / 4) (c .before .before .before .before .before .before .before .args .h / 4)
+    (c .before .before .before .loop .i)) + n) (c .put-root .ensures .0)
     ∙ sym (more-long _ _ _ _ (inside-units (c .before .before)))
 
 add-used : tie.Need-add-used Inv-loop μ-loop

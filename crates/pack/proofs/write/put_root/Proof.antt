@@ -20,7 +20,8 @@ use Rattle.pack.proofs.write.put_root.Tie as tie
 told : (c : tie.After-list-marks) → let a = c .before .before .before .before .args in
     let l = own (a .w) (a .h) (a .splits .now) (a .i) in
     (c .list-marks .result ≡ Counted (length l)) × Told l (c .list-marks .last .1 .1 .1 .1 .0)
-told c = list-told _ (c .list-marks .result) _ (c .before .before .before .before .pre .0 .size) (c .before .before .before .before .pre .0 .bytes) refl (c .before .before .before .before .pre .1) (c .list-marks .ensures)
+told c = list-told _ (c .list-marks .result) _ (c .before .before .before .before .pre .0 .size) (c .before .before .before .before .pre .0 .bytes) refl
+    (c .before .before .before .before .pre .1) (c .list-marks .ensures)
 
 count : (c : tie.After-n) → let a = c .before .before .before .before .before .before .before .args in c .n .given .0 .0 ≡ length (own (a .w) (a .h) (a .splits .now) (a .i))
 count c = counted-done _ _ Done (sym (c .n .given .1) ∙ told (c .before .before .before) .0) .1
@@ -41,7 +42,8 @@ returns-2 c =
     let n = count (c .before .before .before .before .before .before) in (
       n ∙ sym (own-long (a .w) (a .h) (a .splits .now) (a .i) d),
       c .before .before .put-list .ensures
-          ∙ with-same _ (a .at) _ _ _ (λ k l. own-bit (a .w) (a .h) (a .splits .now) (a .i) (told (c .before .before .before .before .before .before .before .before .before) .1) d k (subst (λ (m : ℕ). k < m) n l)),
+          ∙ with-same _ (a .at) _ _ _ (λ k l. own-bit (a .w) (a .h) (a .splits .now) (a .i)
+          (told (c .before .before .before .before .before .before .before .before .before) .1) d k (subst (λ (m : ℕ). k < m) n l)),
     )
 
 pub put-root-spec : {M : Type 1} → statement M

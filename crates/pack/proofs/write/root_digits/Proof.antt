@@ -29,8 +29,11 @@ count : (c : tie.After-n) → let a = c .before .before .before .before .before 
 count c = counted-done _ _ Done (sym (c .n .given .1) ∙ told (c .before .before .before) .0) .1
 
 -- the walk's answer, once the marks are judged
-answer : (c : tie.After-judge-root) → let a = c .before .before .before .before .before .before .before .before .before .before .args in c .judge-root .result ≡ rootWalk (a .splits .now) (a .w / 4) (a .h / 4) (a .i) .answer
-answer c = let a = c .before .before .before .before .before .before .before .before .before .before .args in own-answer (a .w) (a .h) (a .splits .now) (a .i) (told (c .before .before .before .before .before .before .before) .1) _ _ (count (c .before .before .before .before)) (c .judge-root .ensures)
+answer : (c : tie.After-judge-root) → let a = c .before .before .before .before .before .before .before .before .before .before .args in
+    c .judge-root .result ≡ rootWalk (a .splits .now) (a .w / 4) (a .h / 4) (a .i) .answer
+answer c = let a = c .before .before .before .before .before .before .before .before .before .before .args in
+    own-answer (a .w) (a .h) (a .splits .now) (a .i) (told (c .before .before .before .before .before .before .before) .1) _ _
+    (count (c .before .before .before .before)) (c .judge-root .ensures)
 
 judge-root-requires : tie.Need-judge-root-requires
 judge-root-requires c κs =

@@ -7,7 +7,8 @@ use Rattle.sheet.proofs.print.put_line.Tie as tie
 returns : tie.Need-returns
 returns c =
     let s = c .before .before .before .before .before .before .before .before .before .before .before in
-    line-put _ (s .args .line) (c .before .before .before .before .before .before .before .before .before .if1 .taken) (c .before .before .before .before .before .before .put-bytes .ensures) (c .before .before .put-decimal .ensures)
+    line-put _ (s .args .line) (c .before .before .before .before .before .before .before .before .before .if1 .taken)
+    (c .before .before .before .before .before .before .put-bytes .ensures) (c .before .before .put-decimal .ensures)
 
 returns-2 : tie.Need-returns-2
 returns-2 c = line-none _ _ _ _ (c .if1 .left)

@@ -12,8 +12,16 @@ returns c =
     let v = h .before .before .before .before in
     let a = v .before .before .before .before .before .args in
     record {
-      put = listing-put (a .vertical .now) (a .m) (a .horizontal .now) (a .n) (v .put-places .ensures .0) (h .put-places2 .ensures .0) (n .put-count .ensures .0) (c .before .before .put-count2 .ensures .0);
-      fits = omega (arith, v .put-places .ensures .1, h .put-places2 .ensures .1, n .put-count .ensures .1, c .before .before .put-count2 .ensures .1, v .before .before .before .before .before .pre .2);
+      put = listing-put (a .vertical .now) (a .m) (a .horizontal .now) (a .n) (v .put-places .ensures .0) (h .put-places2 .ensures .0)
+          (n .put-count .ensures .0) (c .before .before .put-count2 .ensures .0);
+      fits = omega (
+        arith,
+        v .put-places .ensures .1,
+        h .put-places2 .ensures .1,
+        n .put-count .ensures .1,
+        c .before .before .put-count2 .ensures .1,
+        v .before .before .before .before .before .pre .2,
+      );
     }
 
 pub put-listing-spec : {M : Type 1} → statement M

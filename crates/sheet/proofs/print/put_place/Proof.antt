@@ -24,7 +24,15 @@ second c =
     let f = c .before .before .before .before in
     let s = f .before .before .before in
     let e : length (c .put-decimal2 .last .0) ≡ length (s .args .out .now) = c .put-decimal2 .kept .0 ∙ simp length-set (first f .same) in
-    record { same = e; room = omega (arith, place-short (s .args .letter) (s .args .x) (s .args .y) (s .args .out .now) (s .args .at) (f .put-decimal .ensures) (c .put-decimal2 .ensures) (s .pre .0) (s .pre .1), s .pre .2) }
+    record {
+      same = e;
+      room = omega (
+        arith,
+        place-short (s .args .letter) (s .args .x) (s .args .y) (s .args .out .now) (s .args .at)
+            (f .put-decimal .ensures) (c .put-decimal2 .ensures) (s .pre .0) (s .pre .1),
+        s .pre .2,
+      );
+    }
 
 put-decimal-requires : tie.Need-put-decimal-requires
 put-decimal-requires c κs = (omega arith, simp length-set (omega arith))
@@ -37,8 +45,10 @@ returns c =
     let f = c .before .before .before .before .before .before in
     let s = f .before .before .before in
     let p = f .put-decimal .ensures in
-    let q = c .before .before .put-decimal2 .ensures in
-    (place-put (s .args .letter) (s .args .x) (s .args .y) (s .args .out .now) (s .args .at) p q, place-short (s .args .letter) (s .args .x) (s .args .y) (s .args .out .now) (s .args .at) p q (s .pre .0) (s .pre .1))
+    let q = c .before .before .put-decimal2 .ensures in (
+      place-put (s .args .letter) (s .args .x) (s .args .y) (s .args .out .now) (s .args .at) p q,
+      place-short (s .args .letter) (s .args .x) (s .args .y) (s .args .out .now) (s .args .at) p q (s .pre .0) (s .pre .1),
+    )
 
 pub put-place-spec : {M : Type 1} → statement M
 put-place-spec =

@@ -37,7 +37,8 @@ loop-again c =
       omega arith,
       p .kept .0 ∙ l .inv .1,
       omega (arith, p .ensures .1, l .inv .2),
-      places-more (s .args .letter) (s .args .numbers .now) (l .i) _ _ (c .before .before .before .before .before .before .wide .ensures) (c .before .before .before .before .wide2 .ensures) (l .inv .3) (p .ensures .0),
+      places-more (s .args .letter) (s .args .numbers .now) (l .i) _ _ (c .before .before .before .before .before .before .wide .ensures)
+          (c .before .before .before .before .wide2 .ensures) (l .inv .3) (p .ensures .0),
     )
 
 returns : tie.Need-returns Inv-loop μ-loop

@@ -13,7 +13,8 @@ record Room (n k m : ℕ) : Type 0 where
   same : k ≡ m
   room : n ≤ k
 
-first : (c : tie.After-put-decimal) → Room (c .put-decimal .result + 20) (length (c .put-decimal .last .0)) (length (c .before .before .before .before .before .before .before .before .before .args .out .now))
+first : (c : tie.After-put-decimal) → Room (c .put-decimal .result + 20) (length (c .put-decimal .last .0))
+    (length (c .before .before .before .before .before .before .before .before .before .args .out .now))
 first c =
     let d = c .put-decimal in
     let b = c .before .before .before .before .put-bytes in
@@ -22,7 +23,8 @@ first c =
     let e : length (d .last .0) ≡ length (s .args .out .now) = d .kept .0 ∙ b .kept .0 in
     record { same = e; room = omega (arith, d .ensures .count, b .ensures .count, decimal-four n (omega arith), s .pre .1) }
 
-second : (c : tie.After-put-line) → Room (c .put-line .result + 1) (length (c .put-line .last .0)) (length (c .before .before .before .before .before .before .before .before .before .before .before .before .before .args .out .now))
+second : (c : tie.After-put-line) → Room (c .put-line .result + 1) (length (c .put-line .last .0))
+    (length (c .before .before .before .before .before .before .before .before .before .before .before .before .before .args .out .now))
 second c =
     let f = c .before .before .before .before in
     let s = f .before .before .before .before .before .before .before .before .before in
@@ -36,7 +38,8 @@ returns c =
     let s = b .before .before .before .before .before in
     let f = second (c .before .before) in
     record {
-      put = refused-put (s .args .r) (s .args .line) (b .before .before .before .refusal-number .ensures) (b .put-bytes .ensures) (c .before .before .before .before .before .before .put-decimal .ensures) (c .before .before .put-line .ensures);
+      put = refused-put (s .args .r) (s .args .line) (b .before .before .before .refusal-number .ensures) (b .put-bytes .ensures)
+          (c .before .before .before .before .before .before .put-decimal .ensures) (c .before .before .put-line .ensures);
       fits = omega (arith, f .room, f .same);
     }
 

@@ -20,12 +20,15 @@ values c =
 returns : tie.Need-returns
 returns c =
     let s = c .before .before .before .before .before .before .before .before .before .before .before .before .before .before in
-    picture-stopped (s .args .w) (s .args .h) (s .args .digits .now) _ (s .args .map .now) (s .pre .0) (s .pre .2) (s .pre .3) _ _ _ (c .before .before .before .before .before .before .take-map .ensures) (values (c .before .before .before .before .before .before .before .before .before .before)) _ _ (c .before .before .answer .given .1) (c .as-sheet .ensures)
+    picture-stopped (s .args .w) (s .args .h) (s .args .digits .now) _ (s .args .map .now) (s .pre .0) (s .pre .2) (s .pre .3) _ _ _
+    (c .before .before .before .before .before .before .take-map .ensures)
+    (values (c .before .before .before .before .before .before .before .before .before .before)) _ _ (c .before .before .answer .given .1) (c .as-sheet .ensures)
 
 returns-2 : tie.Need-returns-2
 returns-2 c =
     let s = c .before .before .before .before .before .before .before .before .before .before .before .before in
-    picture-met (s .args .w) (s .args .h) (s .args .digits .now) _ (s .args .map .now) (s .pre .0) (s .pre .2) (s .pre .3) _ _ _ (c .before .before .before .before .take-map .ensures) (values (c .before .before .before .before .before .before .before .before)) (c .enum-told .given .1)
+    picture-met (s .args .w) (s .args .h) (s .args .digits .now) _ (s .args .map .now) (s .pre .0) (s .pre .2) (s .pre .3) _ _ _
+    (c .before .before .before .before .take-map .ensures) (values (c .before .before .before .before .before .before .before .before)) (c .enum-told .given .1)
 
 pub take-picture-spec : {M : Type 1} → statement M
 take-picture-spec =
