@@ -1,60 +1,57 @@
-// What the programs over split maps in files share: a word and a side of the picture from an argument, a file that is read, and one that is written.
+// What the programs over split maps in files share: where a block of a map lies, and a file that is written.
 // No contract can say what is read or written: what stands here is proved safe.
 
-fn wide(b: u8) -> usize {
-    b as usize
+// ---- a block of a map
+
+// Where a block lies, in luma samples.
+pub struct Block {
+    pub x: usize,
+    pub y: usize,
+    pub side: usize,
 }
 
-// A side of the picture, by one to four digits; 0, which no picture has, for anything else.
-fn side(text: &[u8]) -> usize {
-    if 4 < text.len() {
+// The side of a block, by its level.
+fn side_of(level: usize) -> usize {
+    match level {
+        0 => 64,
+        1 => 32,
+        2 => 16,
+        _ => 8,
+    }
+}
+
+// Where a block starts, across or down: its centre is a unit of the root that starts at a place.
+fn start(root: usize, unit: usize, side: usize) -> usize {
+    let centre = std::num::wrapping_add_usize(root, 4 * (unit % 16));
+    std::num::wrapping_sub_usize(centre, side / 2)
+}
+
+// The block of the root at (x, y) that has a level and a place there, as the list of changes names it.
+pub fn block_at(x: usize, y: usize, level: usize, place: usize) -> Block {
+    let side = side_of(level);
+    Block {
+        x: start(x, place, side),
+        y: start(y, place / 16, side),
+        side,
+    }
+}
+
+// Where root n starts, in a picture that has so many roots across: it has at most 64 of them, and as many down.
+pub fn root_x(across: usize, n: usize) -> usize {
+    if across == 0 {
         return 0;
     }
-    let mut n: usize = 0;
-    let mut i = 0;
-    while i < text.len() {
-        let b = text[i];
-        if (b < b'0') | (b'9' < b) {
-            return 0;
-        }
-        n = 10 * (n % 1000) + wide(b) % 48;
-        i += 1;
-    }
-    n
+    64 * (n % across % 64)
 }
 
-// Whether two texts are the same.
-pub fn same(a: &[u8], b: &[u8]) -> bool {
-    if a.len() != b.len() {
-        return false;
+pub fn root_y(across: usize, n: usize) -> usize {
+    if across == 0 {
+        return 0;
     }
-    let mut i = 0;
-    while i < a.len() {
-        if a[i] != b[i] {
-            return false;
-        }
-        i += 1;
-    }
-    true
+    64 * (n / across % 64)
 }
 
-// Argument i as a side.
-pub fn side_arg(i: usize) -> usize {
-    let mut text = io::buffer();
-    let n = os::arg(i, &mut text);
-    side(&text[..n])
-}
-
-// Opens the file that argument i names, to be read; below 0 where that fails, which is told.
-pub fn open(i: usize) -> i32 {
-    let mut path = io::buffer();
-    let n = os::arg(i, &mut path);
-    let file = os::open_read(&path[..n]);
-    if file < 0 {
-        os::fail(&path[..n]);
-    }
-    file
-}
+// ---- a file
 
 // Writes the file that argument i names, made or emptied before; false where that fails, which is told.
 pub fn save(i: usize, bytes: &[u8]) -> bool {

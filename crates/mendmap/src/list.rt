@@ -2,31 +2,10 @@
 use say::end_line;
 use say::field;
 
-// The side of a block, by its level.
-fn side_of(level: u16) -> usize {
-    match level {
-        0 => 64,
-        1 => 32,
-        2 => 16,
-        _ => 8,
-    }
-}
-
-// Where the n-th root across or down starts: a picture has at most 64.
-fn corner(n: usize) -> usize {
-    64 * (n % 64)
-}
-
 // A place in luma samples.
 fn at(words: &[u8], x: usize, y: usize) {
     field(words, x);
     field(b" ", y);
-}
-
-// Where a block starts, across or down: its centre is a unit of its root.
-fn start(root: usize, unit: usize, side: usize) -> usize {
-    let centre = std::num::wrapping_add_usize(root, 4 * (unit % 16));
-    std::num::wrapping_sub_usize(centre, side / 2)
 }
 
 // One change; the picture has so many roots across.
@@ -36,28 +15,22 @@ fn change(across: usize, root: u16, level: u16, place: u16, old: u16, new: u16) 
     field(b" place=", place as usize);
     field(b" old=", old as usize);
     field(b" new=", new as usize);
-    if 0 < across {
-        let x = corner(root as usize % across);
-        let y = corner(root as usize / across);
-        let side = side_of(level);
-        at(b": root at ", x, y);
-        field(b", block of ", side);
-        at(
-            b" at ",
-            start(x, place as usize, side),
-            start(y, place as usize / 16, side),
-        );
-    }
+    let x = map_file::root_x(across, root as usize);
+    let y = map_file::root_y(across, root as usize);
+    at(b": root at ", x, y);
+    let b = map_file::block_at(x, y, level as usize, place as usize);
+    field(b", block of ", b.side);
+    at(b" at ", b.x, b.y);
     end_line();
 }
 
-// So many changes of a list, and how many there are.
-pub fn print(across: usize, list: &[u16], count: usize) {
+// So many changes of a list, and how many there are; false where they cannot be written.
+pub fn print(across: usize, list: &[u16], count: usize) -> bool {
     let mut from = 0;
     let mut i = 0;
     while i < count {
         if list.len() - from < 5 {
-            return;
+            return false;
         }
         change(
             across,
@@ -71,5 +44,5 @@ pub fn print(across: usize, list: &[u16], count: usize) {
         i += 1;
     }
     field(b"changes=", count);
-    end_line();
+    end_line()
 }

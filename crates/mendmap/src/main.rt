@@ -3,18 +3,34 @@
 mod list; // list.rt: the list as text
 mod rooms; // rooms.rt: room for a map, small and large
 
-fn main() {
-    if os::arg_count() != 5 {
-        say::line(b"usage: mendmap W H MAP MENDED");
-        say::status(2);
-        return;
-    }
-    let file = map_file::open(3);
+fn help() {
+    say::line(b"usage: mendmap W H MAP MENDED");
+    say::line(
+        b"Mends the split map of a picture of W by H, 1,024 bytes a root, into the file MENDED, and lists each change.",
+    );
+    say::line(
+        b"status: 0 nothing changed, 3 something changed, 1 refused, 2 bad usage or a failure of input or output",
+    );
+}
+
+// The map of the file that argument 3 names. Answers the exit status.
+fn run() -> u8 {
+    let file = words::open(3);
     if file < 0 {
-        say::status(2);
+        return 2;
+    }
+    let w = words::number_arg(1);
+    let h = words::number_arg(2);
+    let status = rooms::mended(file, w.value, h.value, false);
+    libc::close(file);
+    status
+}
+
+fn main() {
+    if os::arg_count() == 5 {
+        say::status(run());
         return;
     }
-    let status = rooms::mended(file, map_file::side_arg(1), map_file::side_arg(2), false);
-    libc::close(file);
-    say::status(status);
+    help();
+    say::status(if words::asked(1, b"--help") { 0 } else { 2 });
 }

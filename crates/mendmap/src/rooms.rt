@@ -28,6 +28,9 @@ fn large_list() -> [u16; 1740800] {
 // Reads the map, mends it, writes it and lists the changes. Answers the exit status.
 fn one_map(file: i32, w: usize, h: usize, map: &mut [u8], out: &mut [u8], list: &mut [u16]) -> u8 {
     let n = io::read_full(file, map);
+    if words::unreadable(3, file) {
+        return 2;
+    }
     match mend::mend(w, h, &map[..n], &mut *out, &mut *list) {
         Mended::Refused(r) => {
             say::refused(def::refusal_number(r));
@@ -37,8 +40,8 @@ fn one_map(file: i32, w: usize, h: usize, map: &mut [u8], out: &mut [u8], list: 
             if !map_file::save(4, out) {
                 return 2;
             }
-            list::print(w / 64 + (w % 64 + 63) / 64, list, count);
-            if count == 0 { 0 } else { 3 }
+            let printed = list::print(w / 64 + (w % 64 + 63) / 64, list, count);
+            say::shown(printed, if count == 0 { 0 } else { 3 })
         }
     }
 }

@@ -21,6 +21,12 @@ pub fn number(n: usize) {
     io::print_decimal(STDERR_FILENO, n as u64);
 }
 
+// Words, and a number after them.
+pub fn counted(text: &[u8], n: usize) {
+    words(text);
+    number(n);
+}
+
 // ---- on standard output
 
 // A number after its name.
@@ -29,8 +35,18 @@ pub fn field(name: &[u8], n: usize) {
     io::print_decimal(STDOUT_FILENO, n as u64);
 }
 
-pub fn end_line() {
-    io::write_all(STDOUT_FILENO, b"\n");
+// The end of a line; false where it cannot be written. What is full or closed stays so: then the line before it was not written whole, either.
+pub fn end_line() -> bool {
+    io::write_all(STDOUT_FILENO, b"\n")
+}
+
+// The exit status of something told on standard output: 2 where it could not be written, which is told.
+pub fn shown(written: bool, n: u8) -> u8 {
+    if written {
+        return n;
+    }
+    line(b"standard output cannot be written");
+    2
 }
 
 // ---- the exit status
@@ -50,7 +66,7 @@ pub fn status(n: u8) {
 // ---- refusals
 
 // What a number means.
-fn meaning(number: u8) {
+pub fn meaning(number: u8) {
     match number {
         1 => words(b"a side of the picture that is not a multiple of 4 from 4 to 4096"),
         2 => words(b"something of the wrong length"),

@@ -22,10 +22,10 @@ fn refused(r: def::Refusal) -> u8 {
     1
 }
 
-// How many bytes the digits take, at position `at` behind them, in bits.
-fn tell(at: usize) {
+// How many bytes the digits take, at position `at` behind them, in bits. Answers the exit status, 2 where that cannot be written.
+fn tell(at: usize, status: u8) -> u8 {
     field(b"bytes=", at / 8);
-    end_line();
+    say::shown(end_line(), status)
 }
 
 // The map is packed, and its digits are saved.
@@ -42,8 +42,7 @@ fn packed(w: usize, h: usize, map: &[u8], digits: &mut [u8]) -> u8 {
             if !map_file::save(5, &digits[..n]) {
                 return 2;
             }
-            tell(placed.at);
-            0
+            tell(placed.at, 0)
         }
     }
 }
@@ -58,12 +57,11 @@ fn unpacked(w: usize, h: usize, digits: &[u8], map: &mut [u8]) -> u8 {
             if !map_file::save(5, map) {
                 return 2;
             }
-            tell(placed.at);
             if placed.at / 8 < digits.len() {
                 say::line(b"the file goes on behind the map");
-                return 3;
+                return tell(placed.at, 3);
             }
-            0
+            tell(placed.at, 0)
         }
     }
 }
@@ -74,6 +72,9 @@ fn one_map(file: i32, w: usize, h: usize, unpack: bool) -> u8 {
     let mut digits = digits_room();
     if unpack {
         let n = io::read_full(file, &mut digits);
+        if words::unreadable(4, file) {
+            return 2;
+        }
         let roots = marks::root_count(w, h);
         if 4096 < roots {
             return 2;
@@ -82,32 +83,44 @@ fn one_map(file: i32, w: usize, h: usize, unpack: bool) -> u8 {
         return unpacked(w, h, &digits[..n], &mut map[..bytes]);
     }
     let n = io::read_full(file, &mut map);
+    if words::unreadable(4, file) {
+        return 2;
+    }
     packed(w, h, &map[..n], &mut digits)
 }
 
 // ---- the arguments
 
-// Whether argument 1 is this word.
-fn asked(word: &[u8]) -> bool {
-    let mut text = io::buffer();
-    let n = os::arg(1, &mut text);
-    map_file::same(&text[..n], word)
+fn help() {
+    say::line(b"usage: splitpack pack W H MAP DIGITS");
+    say::line(b"       splitpack unpack W H DIGITS MAP");
+    say::line(
+        b"Writes the split map of a picture of W by H, 1,024 bytes a root, as its digits, a bit each; or back.",
+    );
+    say::line(
+        b"status: 0 done, 3 done, and the digits' file goes on, 1 refused, 2 bad usage or a failure of input or output",
+    );
+}
+
+// The way that was asked for, of the file that argument 4 names. Answers the exit status.
+fn run(unpack: bool) -> u8 {
+    let file = words::open(4);
+    if file < 0 {
+        return 2;
+    }
+    let w = words::number_arg(2);
+    let h = words::number_arg(3);
+    let status = one_map(file, w.value, h.value, unpack);
+    libc::close(file);
+    status
 }
 
 fn main() {
-    let unpack = asked(b"unpack");
-    if (os::arg_count() != 6) | !(unpack | asked(b"pack")) {
-        say::line(b"usage: splitpack pack W H MAP DIGITS");
-        say::line(b"       splitpack unpack W H DIGITS MAP");
-        say::status(2);
+    let unpack = words::asked(1, b"unpack");
+    if (os::arg_count() == 6) & (unpack | words::asked(1, b"pack")) {
+        say::status(run(unpack));
         return;
     }
-    let file = map_file::open(4);
-    if file < 0 {
-        say::status(2);
-        return;
-    }
-    let status = one_map(file, map_file::side_arg(2), map_file::side_arg(3), unpack);
-    libc::close(file);
-    say::status(status);
+    help();
+    say::status(if words::asked(1, b"--help") { 0 } else { 2 });
 }

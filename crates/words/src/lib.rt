@@ -1,4 +1,5 @@
-// What a program is asked by: its arguments' words and numbers. It is for the programs alone.
+// What a program is asked by: its arguments' words and numbers, and the files that they name. It is for the programs alone.
+// No contract can say what is read: what stands here is proved safe.
 ghost use Prim.Native.Nat.{_≤_};
 
 // Whether a word is this one.
@@ -53,4 +54,54 @@ pub fn number(word: &[u8]) -> Counted {
         i += 1;
     }
     Counted { good: true, value }
+}
+
+// ---- arguments
+
+// Whether an argument is this word.
+pub fn asked(at: usize, name: &[u8]) -> bool {
+    let mut word = io::buffer();
+    let n = os::arg(at, &mut word);
+    is(&word[..n], name)
+}
+
+// An argument as a number.
+pub fn number_arg(at: usize) -> Counted {
+    let mut word = io::buffer();
+    let n = os::arg(at, &mut word);
+    number(&word[..n])
+}
+
+// ---- files
+
+// Opens the file that an argument names, to be read; below 0 where that fails, which is told.
+pub fn open(at: usize) -> i32 {
+    let mut path = io::buffer();
+    let n = os::arg(at, &mut path);
+    let file = os::open_read(&path[..n]);
+    if file < 0 {
+        os::fail(&path[..n]);
+    }
+    file
+}
+
+// Whether a read fails where a file seems to end, as it does where the file is a directory.
+pub fn read_fails(file: i32) -> bool {
+    let mut byte = [0u8; 1];
+    libc::read(file, &mut byte) < 0
+}
+
+// The same of the file that an argument names, or of standard input for argument 0; it is told.
+pub fn unreadable(at: usize, file: i32) -> bool {
+    let mut path = io::buffer();
+    let n = os::arg(at, &mut path);
+    if !read_fails(file) {
+        return false;
+    }
+    if at == 0 {
+        os::fail(b"standard input");
+    } else {
+        os::fail(&path[..n]);
+    }
+    true
 }

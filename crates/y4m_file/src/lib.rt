@@ -39,16 +39,9 @@ pub struct Turn {
 
 // ---- reading
 
-// One byte more: 1, or 0 at the end, or 2 where the read failed.
-fn one_more(file: i32, byte: &mut [u8; 1]) -> u8 {
-    let got = libc::read(file, byte);
-    if got < 0 {
-        return 2;
-    }
-    if got == 0 {
-        return 0;
-    }
-    1
+// Whether there is one byte more: not at the end, and not where the read failed.
+fn one_more(file: i32, byte: &mut [u8; 1]) -> bool {
+    libc::read(file, byte) > 0
 }
 
 // The first line of a file, up to its newline or to as many bytes as there is room for: how many there are. Byte by byte, so that what stands after
@@ -59,7 +52,7 @@ pub fn first_line(file: i32, room: &mut [u8]) -> usize
     let mut byte = [0u8; 1];
     let mut i = 0;
     while i < room.len() {
-        if one_more(file, &mut byte) != 1 {
+        if !one_more(file, &mut byte) {
             return i;
         }
         let b = byte[0];
@@ -72,18 +65,12 @@ pub fn first_line(file: i32, room: &mut [u8]) -> usize
     i
 }
 
-// Whether a read fails where a file seems to end.
-fn read_fails(file: i32) -> bool {
-    let mut byte = [0u8; 1];
-    one_more(file, &mut byte) == 2
-}
-
 // Whether a file's first line has no bytes because the file cannot be read, as a directory cannot. That is told.
 pub fn unreadable(file: i32, n: usize) -> bool {
     if n != 0 {
         return false;
     }
-    if !read_fails(file) {
+    if !words::read_fails(file) {
         return false;
     }
     say::line(b"the file cannot be read");
@@ -135,7 +122,7 @@ pub fn next_frame(
 ) -> Turn {
     let n = io::read_full(file, bytes);
     if n < bytes.len() {
-        if read_fails(file) {
+        if words::read_fails(file) {
             return after(false, 0, 0, true);
         }
         if n == 0 {
@@ -227,18 +214,19 @@ fn told(e: Ended, copy: bool) -> u8 {
         say::line(b"the file cannot be read, or the copy not written");
         return 2;
     }
+    let mut written = true;
     if !copy {
         field(b"frames=", e.frames);
-        end_line();
+        written = end_line();
     }
     if e.number == 0 {
-        return 0;
+        return say::shown(written, 0);
     }
     if !copy {
         field(b"refused=", e.number as usize);
         field(b" place=", e.place);
-        end_line();
+        written = end_line();
     }
     refused(e.number, e.place);
-    1
+    say::shown(written, 1)
 }
