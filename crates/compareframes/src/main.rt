@@ -44,8 +44,8 @@ fn wide(v: u16) -> usize {
     v as usize
 }
 
-// A sample of both streams, in a plane of rows of w: `plane=Y x=12 y=7 a=512 b=514`.
-fn tell(frame: usize, name: &[u8], w: usize, at: usize, a: &[u16], b: &[u16]) {
+// A sample of both streams, in a plane of rows of w: `plane=Y x=12 y=7 a=512 b=514`. Answers the exit status.
+fn tell(frame: usize, name: &[u8], w: usize, at: usize, a: &[u16], b: &[u16]) -> u8 {
     say::field(b"frame=", frame);
     io::write_all(STDOUT_FILENO, b" plane=");
     io::write_all(STDOUT_FILENO, name);
@@ -55,17 +55,16 @@ fn tell(frame: usize, name: &[u8], w: usize, at: usize, a: &[u16], b: &[u16]) {
     }
     say::field(b" a=", sample(a, at));
     say::field(b" b=", sample(b, at));
-    say::end_line();
+    say::shown(say::end_line(), 1)
 }
 
-// Whether a plane differs; it is told.
-fn plane_differs(frame: usize, name: &[u8], w: usize, a: &[u16], b: &[u16]) -> bool {
+// A plane: 255 where it is the same, else the exit status of what was told.
+fn plane(frame: usize, name: &[u8], w: usize, a: &[u16], b: &[u16]) -> u8 {
     let at = differs(a, b);
     if at < a.len() {
-        tell(frame, name, w, at, a, b);
-        return true;
+        return tell(frame, name, w, at, a, b);
     }
-    false
+    255
 }
 
 // ---- the streams
@@ -86,14 +85,12 @@ fn refused(name: &[u8], number: u8, place: usize) -> u8 {
 fn ended(name: &[u8], frames: usize) -> u8 {
     io::write_all(STDOUT_FILENO, name);
     say::field(b" ends after frame ", frames);
-    say::end_line();
-    1
+    say::shown(say::end_line(), 1)
 }
 
 fn equal(frames: usize) -> u8 {
     say::field(b"equal frames=", frames);
-    say::end_line();
-    0
+    say::shown(say::end_line(), 0)
 }
 
 // What is told where not both streams have a frame more, and the exit status; 255 where both have. `before`: the bytes of the frames before this one.
@@ -140,8 +137,8 @@ fn progress(frames: usize) {
     }
 }
 
-// The planes of a frame: 255 where they are the same, else the exit status.
-fn planes(
+// The first plane of a frame that differs is told: 255 where none does, else the exit status.
+fn told(
     job: Job,
     frame: usize,
     ya: &[u16],
@@ -152,16 +149,36 @@ fn planes(
     vb: &[u16],
 ) -> u8 {
     let half = job.w / 2;
-    if plane_differs(frame, b"Y", job.w, ya, yb) {
-        return picture::drawn(job, ya, yb);
+    let y = plane(frame, b"Y", job.w, ya, yb);
+    if y != 255 {
+        return y;
     }
-    if plane_differs(frame, b"U", half, ua, ub) {
-        return picture::drawn(job, ya, yb);
+    let u = plane(frame, b"U", half, ua, ub);
+    if u != 255 {
+        return u;
     }
-    if plane_differs(frame, b"V", half, va, vb) {
-        return picture::drawn(job, ya, yb);
+    plane(frame, b"V", half, va, vb)
+}
+
+// The planes of a frame: 255 where they are the same, else the exit status. Where they differ the picture is drawn, if one is asked for.
+fn planes(
+    job: Job,
+    frame: usize,
+    ya: &[u16],
+    ua: &[u16],
+    va: &[u16],
+    yb: &[u16],
+    ub: &[u16],
+    vb: &[u16],
+) -> u8 {
+    let status = told(job, frame, ya, ua, va, yb, ub, vb);
+    if (status == 255) | (job.picture == 0) {
+        return status;
     }
-    255
+    if picture::drawn(job, ya, ua, va, yb, ub, vb) {
+        return status;
+    }
+    2
 }
 
 // What reading the next frame of each came to.
@@ -235,15 +252,17 @@ fn every(
 
 // ---- the call
 
-// A header's size and the place after it; w is 0 where it is refused or cannot be read, and that is told.
+// A header's size and the place after it. The status is 0, or the exit status of what was told: 1 where it is refused, 2 where it cannot be read.
 struct Headed {
+    status: u8,
     w: usize,
     h: usize,
     next: usize,
 }
 
-fn no_head() -> Headed {
+fn no_head(status: u8) -> Headed {
     Headed {
+        status,
         w: 0,
         h: 0,
         next: 0,
@@ -253,14 +272,13 @@ fn no_head() -> Headed {
 fn head(name: &[u8], file: i32) -> Headed {
     let mut line = [0u8; 256];
     let n = y4m_file::first_line(file, &mut line);
-    if y4m_file::unreadable(file, n) {
-        return no_head();
+    if n == 0 {
+        if words::read_fails(file) {
+            return no_head(failed(name));
+        }
     }
     match decoder::read_header(&line[..n]) {
-        HeaderRead::Refused(r, at) => {
-            refused(name, decoder::refusal_number(r), at);
-            no_head()
-        }
+        HeaderRead::Refused(r, at) => { no_head(refused(name, decoder::refusal_number(r), at)) }
         HeaderRead::Read {
             w,
             h,
@@ -269,7 +287,12 @@ fn head(name: &[u8], file: i32) -> Headed {
             a: _,
             b: _,
             next,
-        } => Headed { w, h, next },
+        } => Headed {
+            status: 0,
+            w,
+            h,
+            next,
+        },
     }
 }
 
@@ -278,18 +301,17 @@ fn sizes_differ(a: Headed, b: Headed) -> u8 {
     say::field(b"x", a.h);
     say::field(b", b ", b.w);
     say::field(b"x", b.h);
-    say::end_line();
-    1
+    say::shown(say::end_line(), 1)
 }
 
 fn compared(a: i32, b: i32, picture: usize) -> u8 {
     let first = head(b"the first stream", a);
-    if first.w == 0 {
-        return 1;
+    if first.status != 0 {
+        return first.status;
     }
     let second = head(b"the second stream", b);
-    if second.w == 0 {
-        return 1;
+    if second.status != 0 {
+        return second.status;
     }
     if (first.w != second.w) | (first.h != second.h) {
         return sizes_differ(first, second);
@@ -314,39 +336,19 @@ fn help() {
         b"Compares two YUV4MPEG2 streams of 10 bits: equal, or the first sample that differs.",
     );
     say::line(
-        b"--picture FILE  writes that frame's luma differences as a PGM picture over the grid of units",
+        b"--picture FILE  writes that frame's differences as a PGM picture over the grid of units",
     );
     say::line(
         b"status: 0 equal, 1 different or refused, 2 bad usage or a failure of input or output",
     );
 }
 
-fn open_arg(at: usize) -> i32 {
-    let mut path = io::buffer();
-    let n = os::arg(at, &mut path);
-    let file = os::open_read(&path[..n]);
-    if file < 0 {
-        os::fail(&path[..n]);
-    }
-    file
-}
-
-// Whether the arguments name a picture.
-fn picture_asked(count: usize) -> bool {
-    if count != 5 {
-        return false;
-    }
-    let mut word = io::buffer();
-    let n = os::arg(3, &mut word);
-    words::is(&word[..n], b"--picture")
-}
-
 fn run(picture: usize) -> u8 {
-    let a = open_arg(1);
+    let a = words::open(1);
     if a < 0 {
         return 2;
     }
-    let b = open_arg(2);
+    let b = words::open(2);
     if b < 0 {
         libc::close(a);
         return 2;
@@ -359,14 +361,14 @@ fn run(picture: usize) -> u8 {
 
 fn main() {
     let count = os::arg_count();
-    if picture_asked(count) {
+    if (count == 5) & words::asked(3, b"--picture") {
         say::status(run(4));
         return;
     }
-    if count != 3 {
-        help();
-        say::status(2);
+    if count == 3 {
+        say::status(run(0));
         return;
     }
-    say::status(run(0));
+    help();
+    say::status(if words::asked(1, b"--help") { 0 } else { 2 });
 }
