@@ -301,12 +301,6 @@ struct Asked {
     file: usize,
 }
 
-fn edge(at: usize) -> words::Counted {
-    let mut word = io::buffer();
-    let n = os::arg(at, &mut word);
-    words::number(&word[..n])
-}
-
 // 1 for a word that is known, 2 for the other one, 0 for any other.
 fn flag(at: usize) -> u8 {
     let mut word = io::buffer();
@@ -321,10 +315,10 @@ fn flag(at: usize) -> u8 {
 }
 
 fn arguments() -> Asked {
-    let left = edge(1);
-    let top = edge(2);
-    let right = edge(3);
-    let bottom = edge(4);
+    let left = words::number_arg(1);
+    let top = words::number_arg(2);
+    let right = words::number_arg(3);
+    let bottom = words::number_arg(4);
     let count = os::arg_count();
     let mut preview = false;
     let mut pgm = false;
@@ -363,11 +357,8 @@ fn run_of(preview: bool) -> Run {
 
 fn by_name(a: Asked) -> u8 {
     let window = a.window;
-    let mut path = io::buffer();
-    let n = os::arg(a.file, &mut path);
-    let file = os::open_read(&path[..n]);
+    let file = words::open(a.file);
     if file < 0 {
-        os::fail(&path[..n]);
         return 2;
     }
     let status = opened(file, run_of(a.preview), window, a.pgm);
@@ -379,7 +370,7 @@ fn main() {
     let a = arguments();
     if !a.good {
         help();
-        say::status(2);
+        say::status(if words::asked(1, b"--help") { 0 } else { 2 });
         return;
     }
     if a.file == 0 {
