@@ -69,7 +69,8 @@ module _ (m : Maps) (t : List ℕ) (at : ℕ → ℕ) (c : Component) (short : B
       omega (arith, add-mul (n * a) (n * b) (n * w), ap (λ (z : ℕ). z * (n * w)) (mul-add n a b), mul-le-mul-right {m = n * (a + b)} {n = n * h} (n * w) (mul-le-mul-left {m = a + b} {n = h} n g))
 
   -- one call
-  called-some : (k : ℕ) → k < across h → (p : List ℕ) → length p ≡ placesOf c w h → called m t at c short s w h k p ≡ finished m t at c w (bandList vertical short s w h k) (bandList horizontal short s w h k) p
+  called-some : (k : ℕ) → k < across h → (p : List ℕ) → length p ≡ placesOf c w h
+      → called m t at c short s w h k p ≡ finished m t at c w (bandList vertical short s w h k) (bandList horizontal short s w h k) p
   unfolding called
   called-some k l p long =
       sym (finished-part m t at c w (rowsBefore k) (rowsAbove k + bandRows h k) _ _ (lent-in vertical k l) (lent-in horizontal k l) p (omega (arith, room k l)))
@@ -89,7 +90,8 @@ module _ (m : Maps) (t : List ℕ) (at : ℕ → ℕ) (c : Component) (short : B
             (listFrom vertical short (rowsAbove k) (bandBytes s w k) w (bandRows h k)) (listFrom horizontal short (rowsAbove k) (bandBytes s w k) w (bandRows h k)),
       ) refl
 
-  pub called-finished : (k : ℕ) → k < across h → (p : List ℕ) → Held (placesOf c w h) p → called m t at c short s w h k p ≡ finished m t at c w (bandList vertical short s w h k) (bandList horizontal short s w h k) p
+  pub called-finished : (k : ℕ) → k < across h → (p : List ℕ) → Held (placesOf c w h) p
+      → called m t at c short s w h k p ≡ finished m t at c w (bandList vertical short s w h k) (bandList horizontal short s w h k) p
   called-finished k l [] g = called-none k ∙ sym (finished-none m t at c w (bandList vertical short s w h k) (bandList horizontal short s w h k))
   called-finished k l (x ∷ p) g = called-some k l (x ∷ p) (g (omega arith))
 

@@ -62,7 +62,8 @@ module _ (c : Component) (w : ℕ) where
       let p = mul-le-mul-right {m = k} {n = m - 1} (stepAlong d (m * w)) (omega arith) in
       let q = mul-le-mul-right {m = j} {n = 3} (stepAcross d (m * w)) (omega arith) in
       go d o p q where
-        go : (d : Pass) → 0 < crossOf d e → k * stepAlong d (unitSide c * w) ≤ (unitSide c - 1) * stepAlong d (unitSide c * w) → j * stepAcross d (unitSide c * w) ≤ 3 * stepAcross d (unitSide c * w) → placeOf d e k j < placesOf c w r
+        go : (d : Pass) → 0 < crossOf d e → k * stepAlong d (unitSide c * w) ≤ (unitSide c - 1) * stepAlong d (unitSide c * w)
+            → j * stepAcross d (unitSide c * w) ≤ 3 * stepAcross d (unitSide c * w) → placeOf d e k j < placesOf c w r
         go vertical o p q = omega (arith, inside (unitSide c) w r (two-samples c) vertical (e .x) (e .y) o x y)
         go horizontal o p q = omega (arith, inside (unitSide c) w r (two-samples c) horizontal (e .y) (e .x) o y x)
 
@@ -146,7 +147,8 @@ module _ (m : Maps) (t : List ℕ) (at : ℕ → ℕ) (c : Component) (short : B
       ∙ ap (levels (joined hor n ++ hor n)) (sym (run-append (filtered m t at vertical c w) (joined ver n) (ver n) p))
 
   pub bands-finished : (p : List ℕ) → banded (across h) p ≡ finished m t at c w (edgeList vertical short s w h) (edgeList horizontal short s w h) p
-  bands-finished p = bands-joined (across h) (omega arith) p ∙ ap₂ (λ (u l : List Edge). finished m t at c w u l p) (sym (lists-joined vertical short s w h pos)) (sym (lists-joined horizontal short s w h pos))
+  bands-finished p = bands-joined (across h) (omega arith) p
+      ∙ ap₂ (λ (u l : List Edge). finished m t at c w u l p) (sym (lists-joined vertical short s w h pos)) (sym (lists-joined horizontal short s w h pos))
 
   -- ---- what is final
 
@@ -157,7 +159,8 @@ module _ (m : Maps) (t : List ℕ) (at : ℕ → ℕ) (c : Component) (short : B
       run-leaves b (filtered m t at horizontal c w) (hor k)
       (λ e n. let q = band-in short s w h pos walked horizontal k l e n .above in window-local b _ _ _ _ _ _ (λ a j ha hj. near c w r e (omega arith) a j)) (ups (ver k) p) .at i (λ n. omega arith)
       ∙ run-leaves b (filtered m t at vertical c w) (ver k)
-      (λ e n. let q = band-in short s w h pos walked vertical k l e n .above in window-local b _ _ _ _ _ _ (λ a j ha hj. omega (arith, low c w r e (omega arith) a j, less c w r))) p .at i (λ n. omega arith)
+      (λ e n. let q = band-in short s w h pos walked vertical k l e n .above in
+      window-local b _ _ _ _ _ _ (λ a j ha hj. omega (arith, low c w r e (omega arith) a j, less c w r))) p .at i (λ n. omega arith)
 
   more-final : (k n : ℕ) → k + n ≤ across h → (p : List ℕ) (i : ℕ) → i < lastTwo c w (16 * k) → getD (banded (k + n) p) i 0 ≡ getD (banded k p) i 0
   unfolding banded

@@ -6,7 +6,8 @@
 use mathlib.Core.Bool.{Bool, true, false, _&&_}
 use mathlib.Core.Logic.{_⊎_, inl, inr, ⊎-elim}
 use mathlib.Core.Path.{_≡_, refl, sym, ap, ap₂, _∙_, subst}
-use mathlib.Core.List.{List, [], _∷_, _++_, map, append-nil, List·Memᴰ, List·Memᴰ·head, List·Memᴰ·tail, List·Memᴰ·not-nil, List·Memᴰ·cases-cons, List·Memᴰ·append-cases, List·Memᴰ·eq-of-singleton, Memᴰ·append-left}
+use mathlib.Core.List.{List, [], _∷_, _++_, map, append-nil, List·Memᴰ, List·Memᴰ·head, List·Memᴰ·tail, List·Memᴰ·not-nil, List·Memᴰ·cases-cons, List·Memᴰ·append-cases}
+use mathlib.Core.List.{List·Memᴰ·eq-of-singleton, Memᴰ·append-left}
 use Prim.Native.Nat.{ℕ, zero, suc, _+_, _-_, _*_, _/_, _%_, _^_, _≤_, _<_}
 use native.Mathlib.Nat.{mul-comm, zero-mul, mod-lt, div-lt-iff-lt-mul, div-add-mod'}
 use native.Mathlib.Omega.{arith}
@@ -163,14 +164,26 @@ near-in vertical p q e k m = go (ltb 0 (q .x)) refl m where
   go true t i =
       let r = stretched vertical (q .x) (q .y) (q .tall) e i in
       let z = ltb-true 0 (q .x) t in
-      record { inner = omega (arith, r .across); left = omega (arith, r .across, k .left); right = omega (arith, r .across, k .right, k .broad); top = omega (arith, r .from, k .top); bottom = omega (arith, r .to, k .bottom) }
+      record {
+        inner = omega (arith, r .across);
+        left = omega (arith, r .across, k .left);
+        right = omega (arith, r .across, k .right, k .broad);
+        top = omega (arith, r .from, k .top);
+        bottom = omega (arith, r .to, k .bottom);
+      }
   go false t i = absurd (List·Memᴰ·not-nil i)
 near-in horizontal p q e k m = go (ltb 0 (q .y)) refl m where
   go : (b : Bool) → ltb 0 (q .y) ≡ b → List·Memᴰ e (pick b (stretch horizontal (q .y) (q .x) (q .wide)) []) → In horizontal p e
   go true t i =
       let r = stretched horizontal (q .y) (q .x) (q .wide) e i in
       let z = ltb-true 0 (q .y) t in
-      record { inner = omega (arith, r .across); left = omega (arith, r .from, k .left); right = omega (arith, r .to, k .right); top = omega (arith, r .across, k .top); bottom = omega (arith, r .across, k .bottom, k .high) }
+      record {
+        inner = omega (arith, r .across);
+        left = omega (arith, r .from, k .left);
+        right = omega (arith, r .to, k .right);
+        top = omega (arith, r .across, k .top);
+        bottom = omega (arith, r .across, k .bottom, k .high);
+      }
   go false t i = absurd (List·Memᴰ·not-nil i)
 
 pub record InSome (d : Pass) (l : List Leaf) (e : Edge) : Type 0 where
@@ -194,7 +207,8 @@ pub record Mapped {A B : Type 0} (f : A → B) (l : List A) (b : B) : Type 0 whe
 pub map-mem : {A B : Type 0} (f : A → B) (l : List A) (b : B) → List·Memᴰ b (map f l) → Mapped f l b
 map-mem f [] b m = absurd (List·Memᴰ·not-nil m)
 map-mem f (a ∷ l) b m =
-    ⊎-elim (λ z. record { of = a; listed = List·Memᴰ·head refl; is = z }) (λ i. let r = map-mem f l b i in record { of = r .of; listed = List·Memᴰ·tail (r .listed); is = r .is }) (List·Memᴰ·cases-cons m)
+    ⊎-elim (λ z. record { of = a; listed = List·Memᴰ·head refl; is = z }) (λ i.
+    let r = map-mem f l b i in record { of = r .of; listed = List·Memᴰ·tail (r .listed); is = r .is }) (List·Memᴰ·cases-cons m)
 
 -- an edge with a unit before it, in rows top to end of w units
 pub record Lies (d : Pass) (w top end : ℕ) (e : Edge) : Type 0 where

@@ -88,7 +88,8 @@ module _ (before after : List ℕ) where
         let l₂ : length x₂ ≡ length xs = put-long (m .b) _ _ x₁ ∙ l₁ in
         let l₃ : length x₃ ≡ length xs = put-long (m .c) _ _ x₂ ∙ l₂ in
         (λ i. putIf (m .d) (e₃ i) (q i .d) (putIf (m .c) (e₂ i) (q i .c) (putIf (m .b) (e₁ i) (q i .b) (putIf (m .a) (n + at) (q i .a) z))))
-        ∙ ap (λ (r : List ℕ). putIf (m .d) (n + (at + 3 * step)) (g .d) (putIf (m .c) (n + (at + 2 * step)) (g .c) (putIf (m .b) (n + (at + step)) (g .b) r))) (put-part (m .a) xs at (g .a) (omega arith))
+        ∙ ap (λ (r : List ℕ). putIf (m .d) (n + (at + 3 * step)) (g .d)
+        (putIf (m .c) (n + (at + 2 * step)) (g .c) (putIf (m .b) (n + (at + step)) (g .b) r))) (put-part (m .a) xs at (g .a) (omega arith))
         ∙ ap (λ (r : List ℕ). putIf (m .d) (n + (at + 3 * step)) (g .d) (putIf (m .c) (n + (at + 2 * step)) (g .c) r)) (put-part (m .b) x₁ (at + step) (g .b) (omega arith))
         ∙ ap (λ (r : List ℕ). putIf (m .d) (n + (at + 3 * step)) (g .d) r) (put-part (m .c) x₂ (at + 2 * step) (g .c) (omega arith))
         ∙ put-part (m .d) x₃ (at + 3 * step) (g .d) (omega arith)
@@ -98,7 +99,8 @@ module _ (before after : List ℕ) where
     lines-long next at zero xs = refl
     lines-long next at (suc n) xs = line-long (at + n * next) _ ∙ lines-long next at n xs
 
-    lines-part : (next at n : ℕ) (xs : List ℕ) → ((k : ℕ) → k < n → at + k * next + 3 * step < length xs) → linesAt m st step next (length before + at) n (amid xs) ≡ amid (linesAt m st step next at n xs)
+    lines-part : (next at n : ℕ) (xs : List ℕ) → ((k : ℕ) → k < n → at + k * next + 3 * step < length xs)
+        → linesAt m st step next (length before + at) n (amid xs) ≡ amid (linesAt m st step next at n xs)
     unfolding linesAt
     lines-part next at zero xs h = refl
     lines-part next at (suc n) xs h =
@@ -107,7 +109,8 @@ module _ (before after : List ℕ) where
         ap₂ (λ (i : ℕ) (r : List ℕ). lineAt m st step i r) e (lines-part next at n xs (λ k l. h k (omega arith)))
         ∙ line-part (at + n * next) (linesAt m st step next at n xs) (omega (arith, lines-long next at n xs))
 
-    window-part : (next at n : ℕ) (xs : List ℕ) → ((k : ℕ) → k < n → at + k * next + 3 * step < length xs) → windowAt m st step next (length before + at) n (amid xs) ≡ amid (windowAt m st step next at n xs)
+    window-part : (next at n : ℕ) (xs : List ℕ) → ((k : ℕ) → k < n → at + k * next + 3 * step < length xs)
+        → windowAt m st step next (length before + at) n (amid xs) ≡ amid (windowAt m st step next at n xs)
     unfolding windowAt
     window-part next at n xs h = go (eqb st 0) where
       go : (b : Bool) → pick b (amid xs) (linesAt m st step next (length before + at) n (amid xs)) ≡ amid (pick b xs (linesAt m st step next at n xs))
@@ -188,13 +191,19 @@ module _ (m : Maps) (t : List ℕ) (at : ℕ → ℕ) (d : Pass) (c : Component)
       let n = unitSide c in
       let first : lineStart d (n * w) (n * crossOf d (edgeDown a e)) (n * alongOf d (edgeDown a e)) ≡ length before + lineStart d (n * w) (n * crossOf d e) (n * alongOf d e) =
       start-down d n w a e (two-samples c) (k .inner) ∙ ap (λ (i : ℕ). i + lineStart d (n * w) (n * crossOf d e) (n * alongOf d e)) (sym start) in
-      (λ i. windowAt (mask-part m w a b d c e (k .inner) (k .column) (k .below) i) (strength-part m w a b t at d e (k .inner) (k .column) (k .below) i) (stepAcross d (n * w)) (stepAlong d (n * w)) (first i) n (before ++ (xs ++ after)))
-      ∙ window-part before after (maskAt (mapsPart w a b m) d c w e) (strength (mapsPart w a b m) t at d w e) (stepAcross d (n * w)) (stepAlong d (n * w)) (lineStart d (n * w) (n * crossOf d e) (n * alongOf d e)) n xs
+      (λ i. windowAt (mask-part m w a b d c e (k .inner) (k .column) (k .below) i) (strength-part m w a b t at d e (k .inner) (k .column) (k .below) i)
+      (stepAcross d (n * w)) (stepAlong d (n * w)) (first i) n (before ++ (xs ++ after)))
+      ∙ window-part before after (maskAt (mapsPart w a b m) d c w e) (strength (mapsPart w a b m) t at d w e) (stepAcross d (n * w)) (stepAlong d (n * w))
+      (lineStart d (n * w) (n * crossOf d e) (n * alongOf d e)) n xs
       (λ j l. subst (λ (z : ℕ). lineStart d (n * w) (n * crossOf d e) (n * alongOf d e) + j * stepAlong d (n * w) + 3 * stepAcross d (n * w) < z) (sym long) (room d k j l)) where
         room : (d : Pass) → Lies d w 0 b e → (j : ℕ) → j < unitSide c
             → lineStart d (unitSide c * w) (unitSide c * crossOf d e) (unitSide c * alongOf d e) + j * stepAlong d (unitSide c * w) + 3 * stepAcross d (unitSide c * w) < placesOf c w b
         room vertical k j l =
-            omega (arith, inside (unitSide c) w b (two-samples c) vertical (e .x) (e .y) (k .inner) (k .column) (k .below), mul-le-mul-right {m = j} {n = unitSide c - 1} (unitSide c * w) (omega arith))
+            omega (
+              arith,
+              inside (unitSide c) w b (two-samples c) vertical (e .x) (e .y) (k .inner) (k .column) (k .below),
+              mul-le-mul-right {m = j} {n = unitSide c - 1} (unitSide c * w) (omega arith),
+            )
         room horizontal k j l =
             omega (arith, inside (unitSide c) w b (two-samples c) horizontal (e .y) (e .x) (k .inner) (k .below) (k .column), mul-le-mul-right {m = j} {n = unitSide c - 1} 1 (omega arith))
 
@@ -276,7 +285,8 @@ visits-down d short a p = go (short && eqb (p .side) 16) where
   two vertical = refl
   two horizontal = let f : p .y + a + 8 ≡ p .y + 8 + a = omega arith in λ i. visit (p .x) (p .y + a) 16 8 ∷ visit (p .x) (f i) 16 8 ∷ []
 
-  go : (b : Bool) → pick b (halves d (p .x) (p .y + a)) (visit (p .x) (p .y + a) (p .side) (p .side) ∷ []) ≡ map (visitDown a) (pick b (halves d (p .x) (p .y)) (visit (p .x) (p .y) (p .side) (p .side) ∷ []))
+  go : (b : Bool) → pick b (halves d (p .x) (p .y + a)) (visit (p .x) (p .y + a) (p .side) (p .side) ∷ []) ≡ map (visitDown a)
+      (pick b (halves d (p .x) (p .y)) (visit (p .x) (p .y) (p .side) (p .side) ∷ []))
   go true = two d
   go false = refl
 

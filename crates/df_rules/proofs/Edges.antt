@@ -62,7 +62,8 @@ module _ (m w h : ℕ) (two : 2 ≤ m) where
   pub starts : (c : ℕ) → 1 ≤ c → 2 ≤ m * c
   starts c p = omega (arith, mul-le-mul-left {m = 1} {n = c} m p, mul-one m)
 
-  pub inside : (d : Pass) (c a : ℕ) → 1 ≤ c → c < unitsAcross d w h → a < unitsAlong d w h → lineStart d (m * w) (m * c) (m * a) + (m - 1) * stepAlong d (m * w) + 3 * stepAcross d (m * w) < m * h * (m * w)
+  pub inside : (d : Pass) (c a : ℕ) → 1 ≤ c → c < unitsAcross d w h → a < unitsAlong d w h
+      → lineStart d (m * w) (m * c) (m * a) + (m - 1) * stepAlong d (m * w) + 3 * stepAcross d (m * w) < m * h * (m * w)
   inside vertical c a i p q =
       let s = starts c i in
       let t = mul-one (m * c - 2) in

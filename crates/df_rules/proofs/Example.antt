@@ -79,7 +79,8 @@ in-one-row : (run (filtered maps strengths plain vertical Chroma 4) (edge 1 0 �
     ≡ 100 ∷ 107 ∷ 113 ∷ 126 ∷ 134 ∷ 140 ∷ 160 ∷ 160 ∷ 100 ∷ 107 ∷ 113 ∷ 126 ∷ 134 ∷ 140 ∷ 160 ∷ 160 ∷ [])
     × (run (filtered maps strengths plain vertical Chroma 4) (edge 2 0 ∷ edge 1 0 ∷ []) (upper ++ upper)
     ≡ 100 ∷ 106 ∷ 114 ∷ 127 ∷ 133 ∷ 140 ∷ 160 ∷ 160 ∷ 100 ∷ 106 ∷ 114 ∷ 127 ∷ 133 ∷ 140 ∷ 160 ∷ 160 ∷ [])
-unfolding maps strengths plain upper run windowAt linesAt lineAt strengthOf rowBy strengthRow motionRow sameRefs anyFar far countedAs eqZ flagAt fieldOf lineOf lineZ movedBy sampleZ heldTo farOf limitOf stepOf withSign absZ clipZ minZ maxZ
+unfolding maps strengths plain upper run windowAt linesAt lineAt strengthOf rowBy strengthRow motionRow sameRefs anyFar far countedAs eqZ flagAt fieldOf lineOf
+    lineZ movedBy sampleZ heldTo farOf limitOf stepOf withSign absZ clipZ minZ maxZ
 in-one-row = (refl, refl)
 
 -- the finished plane, by the lists as the passes visit them and row by row
@@ -92,5 +93,7 @@ ended =
 
 planes-agree : (finished maps strengths plain Chroma 4 (edgeList vertical false bytes 4 2) (edgeList horizontal false bytes 4 2) plane ≡ ended)
     × (finished maps strengths plain Chroma 4 (rowList vertical false bytes 4 2) (rowList horizontal false bytes 4 2) plane ≡ ended)
-unfolding bytes walk leafWalk byByte onward inTurn leavesOf each visitOf stretch leafAt leafOf isEdge rowOf rowsOf maps strengths plain upper lower plane ended run windowAt linesAt lineAt strengthOf rowBy strengthRow motionRow sameRefs anyFar far countedAs eqZ flagAt fieldOf lineOf lineZ movedBy sampleZ heldTo farOf limitOf stepOf withSign absZ clipZ minZ maxZ
+unfolding bytes walk leafWalk byByte onward inTurn leavesOf each visitOf stretch leafAt leafOf isEdge rowOf rowsOf maps strengths plain upper lower plane ended run
+    windowAt linesAt lineAt strengthOf rowBy strengthRow motionRow sameRefs anyFar far countedAs eqZ flagAt fieldOf lineOf lineZ movedBy sampleZ
+    heldTo farOf limitOf stepOf withSign absZ clipZ minZ maxZ
 planes-agree = (refl, refl)

@@ -98,7 +98,8 @@ put-own false p xs = refl
 
 still : (m : Mask) (step at : ℕ) (xs : List ℕ) → putLine m step at (samplesAt step at xs) xs ≡ xs
 still m step at xs =
-    ap (λ (ys : List ℕ). putIf (m .d) (at + 3 * step) (getD xs (at + 3 * step) 0) (putIf (m .c) (at + 2 * step) (getD xs (at + 2 * step) 0) (putIf (m .b) (at + step) (getD xs (at + step) 0) ys))) (put-own (m .a) at xs)
+    ap (λ (ys : List ℕ). putIf (m .d) (at + 3 * step) (getD xs (at + 3 * step) 0)
+    (putIf (m .c) (at + 2 * step) (getD xs (at + 2 * step) 0) (putIf (m .b) (at + step) (getD xs (at + step) 0) ys))) (put-own (m .a) at xs)
     ∙ ap (λ (ys : List ℕ). putIf (m .d) (at + 3 * step) (getD xs (at + 3 * step) 0) (putIf (m .c) (at + 2 * step) (getD xs (at + 2 * step) 0) ys)) (put-own (m .b) (at + step) xs)
     ∙ ap (putIf (m .d) (at + 3 * step) (getD xs (at + 3 * step) 0)) (put-own (m .c) (at + 2 * step) xs)
     ∙ put-own (m .d) (at + 3 * step) xs

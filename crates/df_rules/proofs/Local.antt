@@ -91,7 +91,8 @@ module _ (P : ℕ → Type 0) (m : Mask) (st step : ℕ) where
   line-local at a b c d = record {
     leaves = λ xs. put-leaves P (m .d) _ _ d (put-leaves P (m .c) _ _ c (put-leaves P (m .b) _ _ b (put-leaves P (m .a) _ _ a (self _ xs))));
     reads = λ xs ys s. let q = quad-same at a b c d xs ys s in
-        put-same P (m .d) _ (ap (λ (z : Quad). z .d) q) (put-same P (m .c) _ (ap (λ (z : Quad). z .c) q) (put-same P (m .b) _ (ap (λ (z : Quad). z .b) q) (put-same P (m .a) _ (ap (λ (z : Quad). z .a) q) s)));
+        put-same P (m .d) _ (ap (λ (z : Quad). z .d) q)
+        (put-same P (m .c) _ (ap (λ (z : Quad). z .c) q) (put-same P (m .b) _ (ap (λ (z : Quad). z .b) q) (put-same P (m .a) _ (ap (λ (z : Quad). z .a) q) s)));
   }
 
   lines-local : (next at n : ℕ) → ((k j : ℕ) → k < n → j < 4 → P (at + k * next + j * step)) → Local P (linesAt m st step next at n)

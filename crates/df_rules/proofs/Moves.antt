@@ -101,7 +101,8 @@ module _ (B : ℕ → ℕ) (xs : List ℕ) where
   module _ (m : Mask) (st step : ℕ) (small : Samples xs) where
     put-line-near : (at : ℕ) (ys : List ℕ) → Allows B m st step at → Near B xs ys → Near B xs (putLine m step at (quadAt st step at xs) ys)
     put-line-near at ys l n =
-        let q = line-near (getD xs at 0) (getD xs (at + step) 0) (getD xs (at + 2 * step) 0) (getD xs (at + 3 * step) 0) st (small at) (small (at + step)) (small (at + 2 * step)) (small (at + 3 * step)) in
+        let q = line-near (getD xs at 0) (getD xs (at + step) 0) (getD xs (at + 2 * step) 0) (getD xs (at + 3 * step) 0) st (small at)
+        (small (at + step)) (small (at + 2 * step)) (small (at + 3 * step)) in
         put-near (m .d) _ _ _ (λ e. via (q .d-near) (l .d e)) (put-near (m .c) _ _ _ (λ e. via (q .c-near) (l .c e))
         (put-near (m .b) _ _ _ (λ e. via (q .b-near) (l .b e)) (put-near (m .a) _ _ _ (λ e. via (q .a-near) (l .a e)) n)))
 
@@ -268,7 +269,8 @@ module _ (mp : Maps) (d : Pass) (c : Component) (w : ℕ) where
   nearest-is e n i p =
       let l = lies e n i (p .spot) in
       (λ t. edgeAt d (nearCross c (l .across t)) (l .along t / m))
-      ∙ (λ t. edgeAt d (near-cross c (crossOf d e) (p .spot .sample) (n .before) (may-write c _ _ (p .spot .sample) (p .written)) t) ((ap (λ (k : ℕ). (k + p .spot .line) / m) (mul-comm m (alongOf d e)) ∙ digits-div (alongOf d e) (p .spot .lines)) t))
+      ∙ (λ t. edgeAt d (near-cross c (crossOf d e) (p .spot .sample) (n .before) (may-write c _ _ (p .spot .sample) (p .written)) t)
+      ((ap (λ (k : ℕ). (k + p .spot .line) / m) (mul-comm m (alongOf d e)) ∙ digits-div (alongOf d e) (p .spot .lines)) t))
       ∙ at-own d e
 
   -- two writes of one place in a window are the same line and sample
@@ -347,7 +349,8 @@ module _ (mp : Maps) (d : Pass) (c : Component) (w : ℕ) where
     own i p = ap (λ (b : Bool). pick b (reach st i) 0) (same-true _ _ (nearest-is e n i p))
 
     inner-reach : (i : ℕ) (p : Writes mp d c w e i) → outerOf (p .spot .sample) ≡ false → reach st i ≡ st
-    inner-reach i p g = ap (λ (b : Bool). pick b (st / 2) st) (ap (outerIn c) (lies e n i (p .spot) .across) ∙ inner-in c (crossOf d e) (p .spot .sample) (n .before) (may-write c _ _ (p .spot .sample) (p .written)) g)
+    inner-reach i p g = ap (λ (b : Bool). pick b (st / 2) st)
+        (ap (outerIn c) (lies e n i (p .spot) .across) ∙ inner-in c (crossOf d e) (p .spot .sample) (n .before) (may-write c _ _ (p .spot .sample) (p .written)) g)
 
     allows : (k : ℕ) → k < m → Allows (most e st) (maskAt mp d c w e) st (stepAcross d (m * w)) (start + k * stepAlong d (m * w))
     unfolding spot
@@ -383,7 +386,8 @@ module _ (mp : Maps) (d : Pass) (c : Component) (w : ℕ) where
           c = λ t. free′ (at + 2 * step) (λ z. g (spot k 2 i h (omega arith) t (omega arith)));
           d = λ t. free (at + 3 * step) (λ z. g (spot k 3 i h (omega arith) t (omega arith)));
         }) i in
-        let z : gapN (getD (window (maskAt mp d c w e) d c w st e xs) i 0) (getD xs i 0) ≤ 0 = subst (λ (b : Bool). gapN (getD (window (maskAt mp d c w e) d c w st e xs) i 0) (getD xs i 0) ≤ pick b 0 st) (eq-eqb i i refl) b in
+        let z : gapN (getD (window (maskAt mp d c w e) d c w st e xs) i 0) (getD xs i 0) ≤ 0 = subst
+        (λ (b : Bool). gapN (getD (window (maskAt mp d c w e) d c w st e xs) i 0) (getD xs i 0) ≤ pick b 0 st) (eq-eqb i i refl) b in
         omega arith
       where
         free′ : (k : ℕ) → (k ≡ i → ⊥) → st ≤ pick (eqb k i) 0 st
@@ -428,7 +432,8 @@ module _ (mp : Maps) (d : Pass) (c : Component) (w : ℕ) where
     here e n xs small i g =
         via (subst (λ (b : Bool). gapN (getD (step e xs) i 0) (getD xs i 0) ≤ pick b (reach (st e) i) 0) g (edge-near e n (st e) xs small i)) (more-reach (outerAt i) (st e) (4 * largest t) (strong e))
 
-    quiet : (l : List Edge) → ((e : Edge) → List·Memᴰ e l → Inner d w e) → (xs : List ℕ) → Samples xs → (i : ℕ) → ((e : Edge) → List·Memᴰ e l → sameEdge (nearest d c w i) e ≡ false) → getD (run step l xs) i 0 ≡ getD xs i 0
+    quiet : (l : List Edge) → ((e : Edge) → List·Memᴰ e l → Inner d w e) → (xs : List ℕ) → Samples xs → (i : ℕ)
+        → ((e : Edge) → List·Memᴰ e l → sameEdge (nearest d c w i) e ≡ false) → getD (run step l xs) i 0 ≡ getD xs i 0
     unfolding run
     quiet [] n xs small i g = refl
     quiet (e ∷ l) n xs small i g =
@@ -447,10 +452,12 @@ module _ (mp : Maps) (d : Pass) (c : Component) (w : ℕ) where
         let s = filtered-small mp t at d c w e xs small in
         test (sameEdge (nearest d c w i) e)
         (λ u. rw (quiet l k (step e xs) s i (λ f j. not-same e f i (o .apart .0 f j) u)) (here e n xs small i u))
-        (λ u. subst (λ (z : ℕ). gapN (getD (run step l (step e xs)) i 0) z ≤ reach (4 * largest t) i) (elsewhere e n xs small i u) (moves l (record { inner = k; apart = o .apart .1 }) (step e xs) s i))
+        (λ u. subst (λ (z : ℕ). gapN (getD (run step l (step e xs)) i 0) z ≤ reach (4 * largest t) i) (elsewhere e n xs small i u)
+        (moves l (record { inner = k; apart = o .apart .1 }) (step e xs) s i))
 
     -- a sample that no edge of the list writes: its nearest edge is none of them, or does not write it
-    unwritten : (l : List Edge) → ((e : Edge) → List·Memᴰ e l → Inner d w e) → (xs : List ℕ) → Samples xs → (i : ℕ) → ((e : Edge) → List·Memᴰ e l → Writes mp d c w e i → ⊥) → getD (run step l xs) i 0 ≡ getD xs i 0
+    unwritten : (l : List Edge) → ((e : Edge) → List·Memᴰ e l → Inner d w e) → (xs : List ℕ) → Samples xs → (i : ℕ)
+        → ((e : Edge) → List·Memᴰ e l → Writes mp d c w e i → ⊥) → getD (run step l xs) i 0 ≡ getD xs i 0
     unfolding run
     unwritten [] n xs small i g = refl
     unwritten (e ∷ l) n xs small i g =
@@ -472,7 +479,8 @@ pass-moves mp t at d c w l o xs small = least mp d c w t at l o xs small
 apart-more : (x y z a b : ℕ) → gapN y x ≤ a → gapN z y ≤ b → gapN z x ≤ a + b
 apart-more x y z a b p q = omega arith
 
-pub both-move : (mp : Maps) (t : List ℕ) (at : ℕ → ℕ) (c : Component) (w : ℕ) (ups levels : List Edge) → Once vertical w ups → Once horizontal w levels → (xs : List ℕ) → Samples xs → Moves mp t at c w ups levels xs
+pub both-move : (mp : Maps) (t : List ℕ) (at : ℕ → ℕ) (c : Component) (w : ℕ) (ups levels : List Edge) → Once vertical w ups → Once horizontal w levels
+    → (xs : List ℕ) → Samples xs → Moves mp t at c w ups levels xs
 both-move mp t at c w ups levels o p xs small =
     let ys = passed mp t at vertical c w ups xs in
     let v = pass-moves mp t at vertical c w ups o xs small in

@@ -52,7 +52,8 @@ plane = upper ++ (upper ++ (upper ++ (upper ++ lower)))
 
 -- the sample at (3, 3), place 27, goes from 100 to 124
 both-reached : getD (finished maps strengths plain Luma 2 (edge 1 0 ∷ edge 1 1 ∷ []) (edge 0 1 ∷ edge 1 1 ∷ []) plane) 27 0 ≡ 100 + 8 * 3
-unfolding maps strengths plain upper lower plane run windowAt linesAt lineAt strengthOf rowBy rowOf motionRow sameRefs anyFar far countedAs eqZ flagAt fieldOf lineOf lineZ movedBy sampleZ heldTo farOf limitOf stepOf withSign absZ clipZ minZ maxZ
+unfolding maps strengths plain upper lower plane run windowAt linesAt lineAt strengthOf rowBy rowOf motionRow sameRefs anyFar far countedAs eqZ flagAt fieldOf lineOf
+    lineZ movedBy sampleZ heldTo farOf limitOf stepOf withSign absZ clipZ minZ maxZ
 both-reached = refl
 
 -- ---- in chroma an outer sample of one edge may be an inner one of the next: the D of the first moves by 9, as the B of the second
@@ -64,12 +65,14 @@ inRow : (keep : List ℕ) → Maps
 inRow keep = record { words = replicate 3 0; over = record { motion = replicate 12 (pos 0); refs = replicate 6 (pos 0); keep = keep } }
 
 chroma-outer : getD (passed (inRow (replicate 3 0)) strengths plain vertical Chroma 3 (edge 1 0 ∷ edge 2 0 ∷ []) (row ++ row)) 3 0 ≡ 109
-unfolding strengths plain row inRow run windowAt linesAt lineAt strengthOf rowBy rowOf motionRow sameRefs anyFar far countedAs eqZ flagAt fieldOf lineOf lineZ movedBy sampleZ heldTo farOf limitOf stepOf withSign absZ clipZ minZ maxZ
+unfolding strengths plain row inRow run windowAt linesAt lineAt strengthOf rowBy rowOf motionRow sameRefs anyFar far countedAs eqZ flagAt fieldOf lineOf lineZ
+    movedBy sampleZ heldTo farOf limitOf stepOf withSign absZ clipZ minZ maxZ
 chroma-outer = refl
 
 -- ---- the same rows with the middle unit kept: what lies in it stays, and the unit to its right moves as it did
 
 kept-side : (passed (inRow (0 ∷ 1 ∷ 0 ∷ [])) strengths plain vertical Chroma 3 (edge 1 0 ∷ edge 2 0 ∷ []) row ≡ 100 ∷ 100 ∷ 100 ∷ 100 ∷ 115 ∷ 124 ∷ [])
     × (passed (inRow (replicate 3 0)) strengths plain vertical Chroma 3 (edge 1 0 ∷ edge 2 0 ∷ []) row ≡ 100 ∷ 100 ∷ 100 ∷ 109 ∷ 115 ∷ 124 ∷ [])
-unfolding strengths plain row inRow run windowAt linesAt lineAt strengthOf rowBy rowOf motionRow sameRefs anyFar far countedAs eqZ flagAt fieldOf lineOf lineZ movedBy sampleZ heldTo farOf limitOf stepOf withSign absZ clipZ minZ maxZ
+unfolding strengths plain row inRow run windowAt linesAt lineAt strengthOf rowBy rowOf motionRow sameRefs anyFar far countedAs eqZ flagAt fieldOf lineOf lineZ
+    movedBy sampleZ heldTo farOf limitOf stepOf withSign absZ clipZ minZ maxZ
 kept-side = (refl, refl)
