@@ -15,9 +15,26 @@ Numbers a n v h = (n ≡ deblocking.readingOf a .number) × (v ≡ deblocking.re
 
 -- the input with other settings
 abbrev with : deblocking.Input → Settings → deblocking.Input
-with i s = record { w = i .w; h = i .h; y = i .y; u = i .u; v = i .v; words = i .words; splits = i .splits; motion = i .motion; refs = i .refs; keep = i .keep; table0 = i .table0; table1 = i .table1; strengths = i .strengths; settings = s }
+with i s = record {
+  w = i .w;
+  h = i .h;
+  y = i .y;
+  u = i .u;
+  v = i .v;
+  words = i .words;
+  splits = i .splits;
+  motion = i .motion;
+  refs = i .refs;
+  keep = i .keep;
+  table0 = i .table0;
+  table1 = i .table1;
+  strengths = i .strengths;
+  settings = s;
+}
 
-pub deblocked-gives : (i : deblocking.Input) (s : Settings) (a : Deblocked) (n vertical horizontal : ℕ) (y u v words : List ℕ) → s ≡ i .settings → record { reading = deblocking.readingOf a; y = y; u = u; v = v; words = words } ≡ deblocking.outcome (with i s) → Numbers a n vertical horizontal → record { reading = record { number = n; vertical = vertical; horizontal = horizontal }; y = y; u = u; v = v; words = words } ≡ deblocking.outcome i
+pub deblocked-gives : (i : deblocking.Input) (s : Settings) (a : Deblocked) (n vertical horizontal : ℕ) (y u v words : List ℕ) → s ≡ i .settings
+    → record { reading = deblocking.readingOf a; y = y; u = u; v = v; words = words } ≡ deblocking.outcome (with i s) → Numbers a n vertical horizontal
+    → record { reading = record { number = n; vertical = vertical; horizontal = horizontal }; y = y; u = u; v = v; words = words } ≡ deblocking.outcome i
 deblocked-gives i s a n vertical horizontal y u v words q p e = rw (e .0, e .1, e .2) (p ∙ ap (λ (t : Settings). deblocking.outcome (with i t)) q)
 
 -- ---- by a map of edge rows

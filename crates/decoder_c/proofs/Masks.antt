@@ -14,12 +14,12 @@ use Rattle.avail.specs.Calls as calls
 use Rattle.avail.specs.declared.Avail.{Avail}
 use Rattle.avail.specs.declared.Avail.the-variants.{Done, Refused}
 use Rattle.avail.specs.declared.Neighbours.{Neighbours}
-use Rattle.decoder_c.specs.Masks.{maskOf, maskedOf}
+use Rattle.decoder_c.specs.Masks.{byteOf, maskedOf}
 
 abbrev Numbers : Avail → ℕ → ℕ → Type 0
-Numbers a n m = (n ≡ calls.readingOf a .number) × (m ≡ maskOf (calls.readingOf a .neighbours))
+Numbers a n m = (n ≡ calls.readingOf a .number) × (m ≡ byteOf (calls.readingOf a .neighbours))
 
-pub masked-done : (a : Avail) (found : Neighbours) (m : ℕ) → a ≡ Done found → m ≡ maskOf found → Numbers a 0 m
+pub masked-done : (a : Avail) (found : Neighbours) (m : ℕ) → a ≡ Done found → m ≡ byteOf found → Numbers a 0 m
 masked-done a found m q e = rw q (refl, e)
 
 pub masked-refused : (a : Avail) (r : Refusal) (n : ℕ) → a ≡ Refused r → n ≡ numberOf r → Numbers a n 0
@@ -46,7 +46,7 @@ first a b m n e = (bit-back a b (omega (arith, bit-small a, bit-small b)), omega
 abbrev eight : (up left right up-left up-right low-left low-right right-up : Bool) → Neighbours
 eight a b c d e f g h = record { up = a; left = b; right = c; «up_left» = d; «up_right» = e; «low_left» = f; «low_right» = g; «right_up» = h }
 
-pub mask-apart : (m n : Neighbours) → maskOf m ≡ maskOf n → m ≡ n
+pub mask-apart : (m n : Neighbours) → byteOf m ≡ byteOf n → m ≡ n
 mask-apart m n e =
     let p = first (m .up) (n .up) _ _ e in
     let q = first (m .left) (n .left) _ _ (p .1) in
@@ -56,5 +56,6 @@ mask-apart m n e =
     let u = first (m .«low_left») (n .«low_left») _ _ (t .1) in
     let v = first (m .«low_right») (n .«low_right») _ _ (u .1) in
     let last = bit-back (m .«right_up») (n .«right_up») (v .1) in
-    let same : eight (m .up) (m .left) (m .right) (m .«up_left») (m .«up_right») (m .«low_left») (m .«low_right») (m .«right_up») ≡ eight (n .up) (n .left) (n .right) (n .«up_left») (n .«up_right») (n .«low_left») (n .«low_right») (n .«right_up») = rw (p .0, q .0, r .0, s .0, t .0, u .0, v .0, last) refl in
+    let same : eight (m .up) (m .left) (m .right) (m .«up_left») (m .«up_right») (m .«low_left») (m .«low_right») (m .«right_up») ≡ eight (n .up)
+    (n .left) (n .right) (n .«up_left») (n .«up_right») (n .«low_left») (n .«low_right») (n .«right_up») = rw (p .0, q .0, r .0, s .0, t .0, u .0, v .0, last) refl in
     same

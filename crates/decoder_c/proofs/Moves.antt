@@ -14,5 +14,6 @@ with i m = record { w = i .w; h = i .h; x = i .x; y = i .y; moved = m; words = i
 abbrev numbered : ℕ → (motion refs : List ℤ) → List ℕ → Outcome
 numbered n motion refs rows = record { number = n; motion = motion; refs = refs; rows = rows }
 
-pub moved-gives : (i : Input) (m : Motion) (n k : ℕ) (motion refs : List ℤ) (rows : List ℕ) → m ≡ i .moved → n ≡ k → numbered k motion refs rows ≡ outcome (with i m) → numbered n motion refs rows ≡ outcome i
+pub moved-gives : (i : Input) (m : Motion) (n k : ℕ) (motion refs : List ℤ) (rows : List ℕ) → m ≡ i .moved → n ≡ k
+    → numbered k motion refs rows ≡ outcome (with i m) → numbered n motion refs rows ≡ outcome i
 moved-gives i m n k motion refs rows q e p = ap (λ (j : ℕ). numbered j motion refs rows) e ∙ p ∙ ap (λ (t : Motion). outcome (with i t)) q

@@ -7,8 +7,8 @@ use Rattle.avail.specs.Around.{Input}
 use Rattle.avail.specs.Calls as calls
 
 -- a bit a neighbour, `up` the lowest: 1 up, 2 left, 4 right, 8 up-left, 16 up-right, 32 low-left, 64 low-right, 128 right-up
-abbrev pub maskOf : Neighbours → ℕ
-maskOf n =
+abbrev pub byteOf : Neighbours → ℕ
+byteOf n =
     bit (n .up)
     + 2 * (bit (n .left)
     + 2 * (bit (n .right)
@@ -22,9 +22,9 @@ pub record Outcome : Type 0 where
   pub number : ℕ
   pub neighbours : ℕ
 
--- the reading of an answer, its neighbours by their mask
+-- the reading of an answer, its neighbours in one byte
 abbrev pub maskedOf : calls.Reading → Outcome
-maskedOf r = record { number = r .number; neighbours = maskOf (r .neighbours) }
+maskedOf r = record { number = r .number; neighbours = byteOf (r .neighbours) }
 
 abbrev pub intraOutcome : Input → Outcome
 intraOutcome i = maskedOf (calls.intraOutcome i .reading)

@@ -5,7 +5,7 @@ ghost use lib.ListN.{length};
 ghost use Rattle.laws.specs.Call.{Gives};
 ghost use Rattle.def.specs.Word.{bit};
 ghost use Rattle.avail.specs.Calls.{readingOf};
-ghost use Rattle.decoder_c.specs.Masks.{maskOf, intraOutcome, interOutcome};
+ghost use Rattle.decoder_c.specs.Masks.{byteOf, intraOutcome, interOutcome};
 ghost use Rattle.decoder_c.specs.Ranks as ranked;
 use avail::Avail;
 use avail::Neighbours;
@@ -24,8 +24,8 @@ fn bit_of(b: bool) -> u8
 }
 
 // The eight answers in one byte, `up` the lowest bit.
-fn mask_of(n: Neighbours) -> u8
-    ensures { λ r. ⌜ r ≡ maskOf n ⌝ }
+fn byte_of(n: Neighbours) -> u8
+    ensures { λ r. ⌜ r ≡ byteOf n ⌝ }
 {
     let low = bit_of(n.low_left) + 2 * (bit_of(n.low_right) + 2 * bit_of(n.right_up));
     let upper = bit_of(n.up_left) + 2 * (bit_of(n.up_right) + 2 * low);
@@ -39,12 +39,12 @@ struct Masked {
 }
 
 fn in_numbers(a: Avail) -> Masked
-    ensures { λ r. ⌜ (r .number ≡ readingOf a .number) × (r .mask ≡ maskOf (readingOf a .neighbours)) ⌝ }
+    ensures { λ r. ⌜ (r .number ≡ readingOf a .number) × (r .mask ≡ byteOf (readingOf a .neighbours)) ⌝ }
 {
     match a {
         Avail::Done(n) => Masked {
             number: 0,
-            mask: mask_of(n),
+            mask: byte_of(n),
         },
         Avail::Refused(r) => Masked {
             number: def::refusal_number(r),

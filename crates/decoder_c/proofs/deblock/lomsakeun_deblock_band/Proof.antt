@@ -10,7 +10,8 @@ use Rattle.decoder_c.proofs.deblock.lomsakeun_deblock_band.Statement.{s
 use Rattle.decoder_c.proofs.deblock.lomsakeun_deblock_band.Tie as tie
 
 -- the settings that are handed on are those of the numbers
-settings : (c : tie.After-settings-of) → let a = c .before .before .before .before .before .before .before .before .args in c .settings-of .result ≡ settingsOf (a .limit) (a .u-offset) (a .v-offset) (a .colour)
+settings : (c : tie.After-settings-of) → let a = c .before .before .before .before .before .before .before .before .args in
+    c .settings-of .result ≡ settingsOf (a .limit) (a .u-offset) (a .v-offset) (a .colour)
 settings c =
     let start = c .before .before .before .before .before .before .before .before in
     c .settings-of .ensures ∙ ap₂ (λ (u v : ℤ). settingsOf (start .args .limit) u v (start .args .colour)) (back w8 _ (start .fits .u-offset)) (back w8 _ (start .fits .v-offset))
@@ -18,7 +19,9 @@ settings c =
 returns : tie.Need-returns
 returns c =
     let called = c .before .before .before .before .before .before .before .before .before in
-    banded-gives _ _ (called .deblock-band .result) _ _ _ _ _ _ _ _ (settings (c .before .before .before .before .before .before .before .before .before .before .before .before .before .before .before)) (called .deblock-band .ensures) (c .band-counts-of .ensures)
+    banded-gives _ _ (called .deblock-band .result) _ _ _ _ _ _ _ _
+    (settings (c .before .before .before .before .before .before .before .before .before .before .before .before .before .before .before))
+    (called .deblock-band .ensures) (c .band-counts-of .ensures)
 
 pub lomsakeun-deblock-band-spec : {M : Type 1} → statement M
 lomsakeun-deblock-band-spec =

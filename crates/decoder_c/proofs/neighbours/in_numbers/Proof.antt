@@ -5,7 +5,7 @@ use Rattle.decoder_c.proofs.neighbours.in_numbers.Statement.{statement}
 use Rattle.decoder_c.proofs.neighbours.in_numbers.Tie as tie
 
 returns : tie.Need-returns
-returns c = masked-done _ _ _ (c .before .before .a .given .1) (c .mask-of .ensures)
+returns c = masked-done _ _ _ (c .before .before .a .given .1) (c .byte-of .ensures)
 
 returns-2 : tie.Need-returns-2
 returns-2 c = masked-refused _ _ _ (c .before .before .a2 .given .1) (c .refusal-number .ensures)

@@ -5,7 +5,8 @@ use Rattle.decoder_c.proofs.screen.lomsakeun_ward_row.Statement.{statem
 use Rattle.decoder_c.proofs.screen.lomsakeun_ward_row.Tie as tie
 
 returns : tie.Need-returns
-returns c = rw (c .before .before .before .before .before .before .before .before .run-of .ensures, c .before .before .before .before .before .chroma-format .ensures) at (in-numbers _ _ _ (c .row-numbers .ensures) (c .before .before .before .row .ensures))
+returns c = rw (c .before .before .before .before .before .before .before .before .run-of .ensures, c .before .before .before .before .before .chroma-format .ensures) at
+    (in-numbers _ _ _ (c .row-numbers .ensures) (c .before .before .before .row .ensures))
 
 pub lomsakeun-ward-row-spec : {M : Type 1} → statement M
 lomsakeun-ward-row-spec =
