@@ -47,16 +47,16 @@ Held n p = 1 ≤ length p → length p ≡ n
 held-by : {n : ℕ} (p q : List ℕ) → length q ≡ length p → Held n p → Held n q
 held-by p q e g l = e ∙ g (omega arith)
 
-module _ (m : Maps) (t : List ℕ) (at : ℕ → ℕ) (c : Component) (short : Bool) (s : List ℕ) (w h : ℕ) (pos : 1 ≤ w) (walked : (k : ℕ) → k < across h → BandDone s w h pos k) where
+module _ (m : Maps) (t : List ℕ) (at : ℕ → ℕ) (c : Component) (halved : Bool) (s : List ℕ) (w h : ℕ) (pos : 1 ≤ w) (walked : (k : ℕ) → k < across h → BandDone s w h pos k) where
   -- a band's list by its place in what is lent, and by its place in the picture
-  pub list-at : (d : Pass) (k : ℕ) → map (edgeDown (rowsBefore k)) (listFrom d short (rowsAbove k) (bandBytes s w k) w (bandRows h k)) ≡ bandList d short s w h k
+  pub list-at : (d : Pass) (k : ℕ) → map (edgeDown (rowsBefore k)) (listFrom d halved (rowsAbove k) (bandBytes s w k) w (bandRows h k)) ≡ bandList d halved s w h k
   list-at d k =
-      sym (list-down d short (rowsAbove k) (rowsBefore k) (some-above d k) (bandBytes s w k) w (bandRows h k))
-      ∙ ap (λ (r : ℕ). listFrom d short r (bandBytes s w k) w (bandRows h k)) (above-before k)
+      sym (list-down d halved (rowsAbove k) (rowsBefore k) (some-above d k) (bandBytes s w k) w (bandRows h k))
+      ∙ ap (λ (r : ℕ). listFrom d halved r (bandBytes s w k) w (bandRows h k)) (above-before k)
 
-  lent-in : (d : Pass) (k : ℕ) → k < across h → (e : Edge) → List·Memᴰ e (listFrom d short (rowsAbove k) (bandBytes s w k) w (bandRows h k)) → Lies d w 0 (rowsAbove k + bandRows h k) e
+  lent-in : (d : Pass) (k : ℕ) → k < across h → (e : Edge) → List·Memᴰ e (listFrom d halved (rowsAbove k) (bandBytes s w k) w (bandRows h k)) → Lies d w 0 (rowsAbove k + bandRows h k) e
   lent-in d k l e i =
-      let r = list-in d short (rowsAbove k) (bandBytes s w k) w (bandRows h k) pos (walked k l) e i in
+      let r = list-in d halved (rowsAbove k) (bandBytes s w k) w (bandRows h k) pos (walked k l) e i in
       record { inner = r .inner; column = r .column; above = omega arith; below = omega (arith, r .below) }
 
   room : (k : ℕ) → k < across h → placesOf c w (rowsBefore k) + placesOf c w (rowsAbove k + bandRows h k) ≤ placesOf c w h
@@ -70,13 +70,13 @@ module _ (m : Maps) (t : List ℕ) (at : ℕ → ℕ) (c : Component) (short : B
 
   -- one call
   called-some : (k : ℕ) → k < across h → (p : List ℕ) → length p ≡ placesOf c w h
-      → called m t at c short s w h k p ≡ finished m t at c w (bandList vertical short s w h k) (bandList horizontal short s w h k) p
+      → called m t at c halved s w h k p ≡ finished m t at c w (bandList vertical halved s w h k) (bandList horizontal halved s w h k) p
   unfolding called
   called-some k l p long =
       sym (finished-part m t at c w (rowsBefore k) (rowsAbove k + bandRows h k) _ _ (lent-in vertical k l) (lent-in horizontal k l) p (omega (arith, room k l)))
       ∙ ap₂ (λ (u v : List Edge). finished m t at c w u v p) (list-at vertical k) (list-at horizontal k)
 
-  called-none : (k : ℕ) → called m t at c short s w h k [] ≡ []
+  called-none : (k : ℕ) → called m t at c halved s w h k [] ≡ []
   unfolding called
   called-none k =
       let a = placesOf c w (rowsBefore k) in
@@ -87,54 +87,54 @@ module _ (m : Maps) (t : List ℕ) (at : ℕ → ℕ) (c : Component) (short : B
         take-nil {A = ℕ} b,
         drop-nil {A = ℕ} b,
         finished-none (mapsPart w (rowsBefore k) (rowsAbove k + bandRows h k) m) t at c w
-            (listFrom vertical short (rowsAbove k) (bandBytes s w k) w (bandRows h k)) (listFrom horizontal short (rowsAbove k) (bandBytes s w k) w (bandRows h k)),
+            (listFrom vertical halved (rowsAbove k) (bandBytes s w k) w (bandRows h k)) (listFrom horizontal halved (rowsAbove k) (bandBytes s w k) w (bandRows h k)),
       ) refl
 
   pub called-finished : (k : ℕ) → k < across h → (p : List ℕ) → Held (placesOf c w h) p
-      → called m t at c short s w h k p ≡ finished m t at c w (bandList vertical short s w h k) (bandList horizontal short s w h k) p
-  called-finished k l [] g = called-none k ∙ sym (finished-none m t at c w (bandList vertical short s w h k) (bandList horizontal short s w h k))
+      → called m t at c halved s w h k p ≡ finished m t at c w (bandList vertical halved s w h k) (bandList horizontal halved s w h k) p
+  called-finished k l [] g = called-none k ∙ sym (finished-none m t at c w (bandList vertical halved s w h k) (bandList horizontal halved s w h k))
   called-finished k l (x ∷ p) g = called-some k l (x ∷ p) (g (omega arith))
 
-  pub calls-long : (n : ℕ) → n ≤ across h → (p : List ℕ) → Held (placesOf c w h) p → length (calledAll m t at c short s w h n p) ≡ length p
+  pub calls-long : (n : ℕ) → n ≤ across h → (p : List ℕ) → Held (placesOf c w h) p → length (calledAll m t at c halved s w h n p) ≡ length p
   unfolding calledAll
   calls-long zero l p g = refl
   calls-long (suc n) l p g =
-      let q = calledAll m t at c short s w h n p in
+      let q = calledAll m t at c halved s w h n p in
       let i = calls-long n (omega arith) p g in
       ap length (called-finished n l q (held-by p q i g)) ∙ finished-long m t at c w _ _ q ∙ i
 
-  calls-held : (n : ℕ) → n ≤ across h → (p : List ℕ) → Held (placesOf c w h) p → Held (placesOf c w h) (calledAll m t at c short s w h n p)
-  calls-held n l p g = held-by p (calledAll m t at c short s w h n p) (calls-long n l p g) g
+  calls-held : (n : ℕ) → n ≤ across h → (p : List ℕ) → Held (placesOf c w h) p → Held (placesOf c w h) (calledAll m t at c halved s w h n p)
+  calls-held n l p g = held-by p (calledAll m t at c halved s w h n p) (calls-long n l p g) g
 
-  pub calls-small : (n : ℕ) → n ≤ across h → (p : List ℕ) → Held (placesOf c w h) p → Samples p → Samples (calledAll m t at c short s w h n p)
+  pub calls-small : (n : ℕ) → n ≤ across h → (p : List ℕ) → Held (placesOf c w h) p → Samples p → Samples (calledAll m t at c halved s w h n p)
   unfolding calledAll
   calls-small zero l p long g = g
   calls-small (suc n) l p long g =
-      subst Samples (sym (called-finished n l (calledAll m t at c short s w h n p) (calls-held n (omega arith) p long))) (finished-small m t at c w _ _ _ (calls-small n (omega arith) p long g))
+      subst Samples (sym (called-finished n l (calledAll m t at c halved s w h n p) (calls-held n (omega arith) p long))) (finished-small m t at c w _ _ _ (calls-small n (omega arith) p long g))
 
-  calls-banded : (n : ℕ) → n ≤ across h → (p : List ℕ) → Held (placesOf c w h) p → calledAll m t at c short s w h n p ≡ banded m t at c short s w h pos walked n p
+  calls-banded : (n : ℕ) → n ≤ across h → (p : List ℕ) → Held (placesOf c w h) p → calledAll m t at c halved s w h n p ≡ banded m t at c halved s w h pos walked n p
   unfolding calledAll banded
   calls-banded zero l p long = refl
   calls-banded (suc n) l p long =
-      called-finished n l (calledAll m t at c short s w h n p) (calls-held n (omega arith) p long)
-      ∙ ap (finished m t at c w (bandList vertical short s w h n) (bandList horizontal short s w h n)) (calls-banded n (omega arith) p long)
+      called-finished n l (calledAll m t at c halved s w h n p) (calls-held n (omega arith) p long)
+      ∙ ap (finished m t at c w (bandList vertical halved s w h n) (bandList horizontal halved s w h n)) (calls-banded n (omega arith) p long)
 
   pub calls-joined : (n : ℕ) → n ≤ across h → (p : List ℕ) → Held (placesOf c w h) p
-      → calledAll m t at c short s w h n p ≡ finished m t at c w (joined (bandList vertical short s w h) n) (joined (bandList horizontal short s w h) n) p
-  calls-joined n l p long = calls-banded n l p long ∙ bands-joined m t at c short s w h pos walked n l p
+      → calledAll m t at c halved s w h n p ≡ finished m t at c w (joined (bandList vertical halved s w h) n) (joined (bandList horizontal halved s w h) n) p
+  calls-joined n l p long = calls-banded n l p long ∙ bands-joined m t at c halved s w h pos walked n l p
 
   pub calls-finished : (p : List ℕ) → Held (placesOf c w h) p
-      → calledAll m t at c short s w h (across h) p ≡ finished m t at c w (edgeList vertical short s w h) (edgeList horizontal short s w h) p
-  calls-finished p long = calls-banded (across h) (omega arith) p long ∙ bands-finished m t at c short s w h pos walked p
+      → calledAll m t at c halved s w h (across h) p ≡ finished m t at c w (edgeList vertical halved s w h) (edgeList horizontal halved s w h) p
+  calls-finished p long = calls-banded (across h) (omega arith) p long ∙ bands-finished m t at c halved s w h pos walked p
 
   pub calls-final : (k : ℕ) → k ≤ across h → (p : List ℕ) → Held (placesOf c w h) p → (i : ℕ) → i < lastTwo c w (16 * k)
-      → getD (calledAll m t at c short s w h k p) i 0 ≡ getD (calledAll m t at c short s w h (across h) p) i 0
+      → getD (calledAll m t at c halved s w h k p) i 0 ≡ getD (calledAll m t at c halved s w h (across h) p) i 0
   calls-final k l p long i z =
-      ap (λ (q : List ℕ). getD q i 0) (calls-banded k l p long) ∙ bands-final m t at c short s w h pos walked k l p i z ∙ ap (λ (q : List ℕ). getD q i 0) (sym (calls-finished p long))
+      ap (λ (q : List ℕ). getD q i 0) (calls-banded k l p long) ∙ bands-final m t at c halved s w h pos walked k l p i z ∙ ap (λ (q : List ℕ). getD q i 0) (sym (calls-finished p long))
 
   -- what the bands above leave
-  pub calls-below : (k : ℕ) → k ≤ across h → (p : List ℕ) → Held (placesOf c w h) p → (i : ℕ) → placesOf c w (16 * k) ≤ i → getD (calledAll m t at c short s w h k p) i 0 ≡ getD p i 0
-  calls-below k l p long i z = ap (λ (q : List ℕ). getD q i 0) (calls-banded k l p long) ∙ bands-below m t at c short s w h pos walked k l p i z
+  pub calls-below : (k : ℕ) → k ≤ across h → (p : List ℕ) → Held (placesOf c w h) p → (i : ℕ) → placesOf c w (16 * k) ≤ i → getD (calledAll m t at c halved s w h k p) i 0 ≡ getD p i 0
+  calls-below k l p long i z = ap (λ (q : List ℕ). getD q i 0) (calls-banded k l p long) ∙ bands-below m t at c halved s w h pos walked k l p i z
 
 -- ---- by words that differ in done alone
 

@@ -117,7 +117,7 @@ run-leaves P f (e ∷ l) h xs =
 
 -- ---- the bands of a picture, one after the other
 
-module _ (m : Maps) (t : List ℕ) (at : ℕ → ℕ) (c : Component) (short : Bool) (s : List ℕ) (w h : ℕ) (pos : 1 ≤ w) (walked : (k : ℕ) → k < across h → BandDone s w h pos k) where
+module _ (m : Maps) (t : List ℕ) (at : ℕ → ℕ) (c : Component) (halved : Bool) (s : List ℕ) (w h : ℕ) (pos : 1 ≤ w) (walked : (k : ℕ) → k < across h → BandDone s w h pos k) where
   abbrev ups : List Edge → List ℕ → List ℕ
   ups l p = run (filtered m t at vertical c w) l p
 
@@ -125,10 +125,10 @@ module _ (m : Maps) (t : List ℕ) (at : ℕ → ℕ) (c : Component) (short : B
   levels l p = run (filtered m t at horizontal c w) l p
 
   abbrev ver : ℕ → List Edge
-  ver k = bandList vertical short s w h k
+  ver k = bandList vertical halved s w h k
 
   abbrev hor : ℕ → List Edge
-  hor k = bandList horizontal short s w h k
+  hor k = bandList horizontal halved s w h k
 
   -- the plane after the first n bands, each filtered in the whole plane
   unfoldable pub banded : ℕ → List ℕ → List ℕ
@@ -141,14 +141,14 @@ module _ (m : Maps) (t : List ℕ) (at : ℕ → ℕ) (c : Component) (short : B
   bands-joined (suc n) l p =
       ap (λ (q : List ℕ). levels (hor n) (ups (ver n) q)) (bands-joined n (omega arith) p)
       ∙ ap (levels (hor n)) (runs-commute (filtered m t at vertical c w) (filtered m t at horizontal c w) (ver n) (joined hor n)
-      (λ f e i j. swap c w (16 * n) _ _ _ _ _ e f (joined-in short s w h pos walked horizontal n (omega arith) e j) (band-in short s w h pos walked vertical n l f i))
+      (λ f e i j. swap c w (16 * n) _ _ _ _ _ e f (joined-in halved s w h pos walked horizontal n (omega arith) e j) (band-in halved s w h pos walked vertical n l f i))
       (ups (joined ver n) p))
       ∙ sym (run-append (filtered m t at horizontal c w) (joined hor n) (hor n) (ups (ver n) (ups (joined ver n) p)))
       ∙ ap (levels (joined hor n ++ hor n)) (sym (run-append (filtered m t at vertical c w) (joined ver n) (ver n) p))
 
-  pub bands-finished : (p : List ℕ) → banded (across h) p ≡ finished m t at c w (edgeList vertical short s w h) (edgeList horizontal short s w h) p
+  pub bands-finished : (p : List ℕ) → banded (across h) p ≡ finished m t at c w (edgeList vertical halved s w h) (edgeList horizontal halved s w h) p
   bands-finished p = bands-joined (across h) (omega arith) p
-      ∙ ap₂ (λ (u l : List Edge). finished m t at c w u l p) (sym (lists-joined vertical short s w h pos)) (sym (lists-joined horizontal short s w h pos))
+      ∙ ap₂ (λ (u l : List Edge). finished m t at c w u l p) (sym (lists-joined vertical halved s w h pos)) (sym (lists-joined horizontal halved s w h pos))
 
   -- ---- what is final
 
@@ -157,9 +157,9 @@ module _ (m : Maps) (t : List ℕ) (at : ℕ → ℕ) (c : Component) (short : B
   one-final k r l g p i z =
       let b : (j : ℕ) → Type 0 = λ j. lastTwo c w r ≤ j in
       run-leaves b (filtered m t at horizontal c w) (hor k)
-      (λ e n. let q = band-in short s w h pos walked horizontal k l e n .above in window-local b _ _ _ _ _ _ (λ a j ha hj. near c w r e (omega arith) a j)) (ups (ver k) p) .at i (λ n. omega arith)
+      (λ e n. let q = band-in halved s w h pos walked horizontal k l e n .above in window-local b _ _ _ _ _ _ (λ a j ha hj. near c w r e (omega arith) a j)) (ups (ver k) p) .at i (λ n. omega arith)
       ∙ run-leaves b (filtered m t at vertical c w) (ver k)
-      (λ e n. let q = band-in short s w h pos walked vertical k l e n .above in
+      (λ e n. let q = band-in halved s w h pos walked vertical k l e n .above in
       window-local b _ _ _ _ _ _ (λ a j ha hj. omega (arith, low c w r e (omega arith) a j, less c w r))) p .at i (λ n. omega arith)
 
   more-final : (k n : ℕ) → k + n ≤ across h → (p : List ℕ) (i : ℕ) → i < lastTwo c w (16 * k) → getD (banded (k + n) p) i 0 ≡ getD (banded k p) i 0
@@ -171,7 +171,7 @@ module _ (m : Maps) (t : List ℕ) (at : ℕ → ℕ) (c : Component) (short : B
 
   -- after the first k bands, what lies above the last two rows of samples
   pub bands-final : (k : ℕ) → k ≤ across h → (p : List ℕ) (i : ℕ) → i < lastTwo c w (16 * k)
-      → getD (banded k p) i 0 ≡ getD (finished m t at c w (edgeList vertical short s w h) (edgeList horizontal short s w h) p) i 0
+      → getD (banded k p) i 0 ≡ getD (finished m t at c w (edgeList vertical halved s w h) (edgeList horizontal halved s w h) p) i 0
   bands-final k l p i z =
       let e : k + (across h - k) ≡ across h = omega arith in
       sym (more-final k (across h - k) (omega arith) p i z) ∙ ap (λ (j : ℕ). getD (banded j p) i 0) e ∙ ap (λ (q : List ℕ). getD q i 0) (bands-finished p)
@@ -186,9 +186,9 @@ module _ (m : Maps) (t : List ℕ) (at : ℕ → ℕ) (c : Component) (short : B
       let few = band h k l .few in
       let less-rows = mul-le-mul-right {m = unitSide c * (16 * k)} {n = unitSide c * (16 * suc k)} (unitSide c * w) (mul-le-mul-left {m = 16 * k} {n = 16 * suc k} (unitSide c) (omega arith)) in
       run-leaves b (filtered m t at horizontal c w) (hor k)
-      (λ e n. let q = band-in short s w h pos walked horizontal k l e n in let y = q .below in
+      (λ e n. let q = band-in halved s w h pos walked horizontal k l e n in let y = q .below in
       window-local b _ _ _ _ _ _ (λ a j ha hj. high c w horizontal (16 * suc k) e (q .inner) (q .column) (omega arith) a j ha hj)) (ups (ver k) (banded k p)) .at i (λ n. omega arith)
       ∙ run-leaves b (filtered m t at vertical c w) (ver k)
-      (λ e n. let q = band-in short s w h pos walked vertical k l e n in let y = q .below in
+      (λ e n. let q = band-in halved s w h pos walked vertical k l e n in let y = q .below in
       window-local b _ _ _ _ _ _ (λ a j ha hj. high c w vertical (16 * suc k) e (q .inner) (q .column) (omega arith) a j ha hj)) (banded k p) .at i (λ n. omega arith)
       ∙ bands-below k (omega arith) p i (omega arith)

@@ -36,39 +36,39 @@ use Rattle.bands_rules.proofs.Down.{Band, band, root-down, band-leaves}
 
 -- ---- the lists
 
-edges-append : (d : Pass) (short : Bool) (l m : List Leaf) → edgesOf d short (l ++ m) ≡ edgesOf d short l ++ edgesOf d short m
-edges-append d short l m = ap (each (nearEdge d)) (each-append (visitOf d short) l m) ∙ each-append (nearEdge d) (each (visitOf d short) l) (each (visitOf d short) m)
+edges-append : (d : Pass) (halved : Bool) (l m : List Leaf) → edgesOf d halved (l ++ m) ≡ edgesOf d halved l ++ edgesOf d halved m
+edges-append d halved l m = ap (each (nearEdge d)) (each-append (visitOf d halved) l m) ∙ each-append (nearEdge d) (each (visitOf d halved) l) (each (visitOf d halved) m)
 
-first-lists : (d : Pass) (short : Bool) (s : List ℕ) (w h : ℕ) → 1 ≤ w → (n : ℕ) → n ≤ across h → edgesOf d short (leavesOf s w h (n * across w)) ≡ joined (bandList d short s w h) n
+first-lists : (d : Pass) (halved : Bool) (s : List ℕ) (w h : ℕ) → 1 ≤ w → (n : ℕ) → n ≤ across h → edgesOf d halved (leavesOf s w h (n * across w)) ≡ joined (bandList d halved s w h) n
 unfolding joined leavesOf each
-first-lists d short s w h pos zero l = ap (λ (i : ℕ). edgesOf d short (leavesOf s w h i)) (zero-mul (across w))
-first-lists d short s w h pos (suc n) l =
-    ap (edgesOf d short) (band-leaves s w h n (bandRows h n) pos (band h n l))
-    ∙ edges-append d short (leavesOf s w h (n * across w)) _
-    ∙ ap (λ (r : List Edge). r ++ bandList d short s w h n) (first-lists d short s w h pos n (omega arith))
+first-lists d halved s w h pos zero l = ap (λ (i : ℕ). edgesOf d halved (leavesOf s w h i)) (zero-mul (across w))
+first-lists d halved s w h pos (suc n) l =
+    ap (edgesOf d halved) (band-leaves s w h n (bandRows h n) pos (band h n l))
+    ∙ edges-append d halved (leavesOf s w h (n * across w)) _
+    ∙ ap (λ (r : List Edge). r ++ bandList d halved s w h n) (first-lists d halved s w h pos n (omega arith))
 
-pub lists-joined : (d : Pass) (short : Bool) (s : List ℕ) (w h : ℕ) → 1 ≤ w → edgeList d short s w h ≡ joined (bandList d short s w h) (across h)
-lists-joined d short s w h pos =
-    ap (λ (i : ℕ). edgesOf d short (leavesOf s w h i)) (mul-comm (across w) (across h)) ∙ first-lists d short s w h pos (across h) (omega arith)
+pub lists-joined : (d : Pass) (halved : Bool) (s : List ℕ) (w h : ℕ) → 1 ≤ w → edgeList d halved s w h ≡ joined (bandList d halved s w h) (across h)
+lists-joined d halved s w h pos =
+    ap (λ (i : ℕ). edgesOf d halved (leavesOf s w h i)) (mul-comm (across w) (across h)) ∙ first-lists d halved s w h pos (across h) (omega arith)
 
 -- the lists of the first n bands are the front of the picture's
 front-pair : {E : Type 0} (R : E → E → Type 0) (l m : List E) → Pairwise R (l ++ m) → Pairwise R l
 front-pair R [] m p = tt
 front-pair R (a ∷ l) m p = (λ f i. p .0 f (Memᴰ·append-left m i), front-pair R l m (p .1))
 
-fronts : (d : Pass) (short : Bool) (s : List ℕ) (w h n r : ℕ) → Once d w (joined (bandList d short s w h) (n + r)) → Once d w (joined (bandList d short s w h) n)
+fronts : (d : Pass) (halved : Bool) (s : List ℕ) (w h n r : ℕ) → Once d w (joined (bandList d halved s w h) (n + r)) → Once d w (joined (bandList d halved s w h) n)
 unfolding joined
-fronts d short s w h n zero o = let e : n + 0 ≡ n = omega arith in subst (λ (k : ℕ). Once d w (joined (bandList d short s w h) k)) e o
-fronts d short s w h n (suc r) o =
+fronts d halved s w h n zero o = let e : n + 0 ≡ n = omega arith in subst (λ (k : ℕ). Once d w (joined (bandList d halved s w h) k)) e o
+fronts d halved s w h n (suc r) o =
     let e : n + suc r ≡ suc (n + r) = omega arith in
-    let q : Once d w (joined (bandList d short s w h) (suc (n + r))) = subst (λ (k : ℕ). Once d w (joined (bandList d short s w h) k)) e o in
-    let f = bandList d short s w h in
-    fronts d short s w h n r (record { inner = λ x i. q .inner x (Memᴰ·append-left (f (n + r)) i); apart = front-pair _ (joined f (n + r)) (f (n + r)) (q .apart) })
+    let q : Once d w (joined (bandList d halved s w h) (suc (n + r))) = subst (λ (k : ℕ). Once d w (joined (bandList d halved s w h) k)) e o in
+    let f = bandList d halved s w h in
+    fronts d halved s w h n r (record { inner = λ x i. q .inner x (Memᴰ·append-left (f (n + r)) i); apart = front-pair _ (joined f (n + r)) (f (n + r)) (q .apart) })
 
-pub first-once : (d : Pass) (short : Bool) (s : List ℕ) (w h : ℕ) → 1 ≤ w → (n : ℕ) → n ≤ across h → Once d w (edgeList d short s w h) → Once d w (joined (bandList d short s w h) n)
-first-once d short s w h pos n l o =
+pub first-once : (d : Pass) (halved : Bool) (s : List ℕ) (w h : ℕ) → 1 ≤ w → (n : ℕ) → n ≤ across h → Once d w (edgeList d halved s w h) → Once d w (joined (bandList d halved s w h) n)
+first-once d halved s w h pos n l o =
     let e : n + (across h - n) ≡ across h = omega arith in
-    fronts d short s w h n (across h - n) (subst (λ (k : ℕ). Once d w (joined (bandList d short s w h) k)) (sym e) (subst (Once d w) (lists-joined d short s w h pos) o))
+    fronts d halved s w h n (across h - n) (subst (λ (k : ℕ). Once d w (joined (bandList d halved s w h) k)) (sym e) (subst (Once d w) (lists-joined d halved s w h pos) o))
 
 -- ---- the walks
 
@@ -142,9 +142,9 @@ record Part (p : Leaf) (q : Visit) : Type 0 where
   broad : 1 ≤ q .wide
   high : 1 ≤ q .tall
 
-part-of : (d : Pass) (short : Bool) (p : Leaf) → 1 ≤ p .side → (q : Visit) → List·Memᴰ q (visitOf d short p) → Part p q
+part-of : (d : Pass) (halved : Bool) (p : Leaf) → 1 ≤ p .side → (q : Visit) → List·Memᴰ q (visitOf d halved p) → Part p q
 unfolding visitOf
-part-of d short p some q m = go (short && eqb (p .side) 16) refl m where
+part-of d halved p some q m = go (halved && eqb (p .side) 16) refl m where
   is : (x y wide tall : ℕ) → p .x ≤ x → x + wide ≤ p .x + p .side → p .y ≤ y → y + tall ≤ p .y + p .side → 1 ≤ wide → 1 ≤ tall → q ≡ visit x y wide tall → Part p q
   is x y wide tall a b c e f g z = subst (Part p) (sym z) (record { left = a; right = b; top = c; bottom = e; broad = f; high = g })
 
@@ -154,8 +154,8 @@ part-of d short p some q m = go (short && eqb (p .side) 16) refl m where
   two horizontal n i = ⊎-elim (is _ _ _ _ (omega arith) (omega arith) (omega arith) (omega arith) (omega arith) (omega arith))
       (λ j. is _ _ _ _ (omega arith) (omega arith) (omega arith) (omega arith) (omega arith) (omega arith) (List·Memᴰ·eq-of-singleton j)) (List·Memᴰ·cases-cons i)
 
-  go : (b : Bool) → (short && eqb (p .side) 16) ≡ b → List·Memᴰ q (pick b (halves d (p .x) (p .y)) (visit (p .x) (p .y) (p .side) (p .side) ∷ [])) → Part p q
-  go true t i = two d (eqb-true (p .side) 16 (and-true short _ t .1)) i
+  go : (b : Bool) → (halved && eqb (p .side) 16) ≡ b → List·Memᴰ q (pick b (halves d (p .x) (p .y)) (visit (p .x) (p .y) (p .side) (p .side) ∷ [])) → Part p q
+  go true t i = two d (eqb-true (p .side) 16 (and-true halved _ t .1)) i
   go false t i = is _ _ _ _ (omega arith) (omega arith) (omega arith) (omega arith) some some (List·Memᴰ·eq-of-singleton i)
 
 near-in : (d : Pass) (p : Leaf) (q : Visit) (e : Edge) → Part p q → List·Memᴰ e (nearEdge d q) → In d p e
@@ -191,11 +191,11 @@ pub record InSome (d : Pass) (l : List Leaf) (e : Edge) : Type 0 where
   pub listed : List·Memᴰ one l
   pub lies : In d one e
 
-pub edges-in : (d : Pass) (short : Bool) (l : List Leaf) → ((p : Leaf) → List·Memᴰ p l → 1 ≤ p .side) → (e : Edge) → List·Memᴰ e (edgesOf d short l) → InSome d l e
-edges-in d short l some e m =
-    let f = each-mem (nearEdge d) (each (visitOf d short) l) e m in
-    let g = each-mem (visitOf d short) l (f .one) (f .listed) in
-    record { one = g .one; listed = g .listed; lies = near-in d (g .one) (f .one) e (part-of d short (g .one) (some (g .one) (g .listed)) (f .one) (g .mine)) (f .mine) }
+pub edges-in : (d : Pass) (halved : Bool) (l : List Leaf) → ((p : Leaf) → List·Memᴰ p l → 1 ≤ p .side) → (e : Edge) → List·Memᴰ e (edgesOf d halved l) → InSome d l e
+edges-in d halved l some e m =
+    let f = each-mem (nearEdge d) (each (visitOf d halved) l) e m in
+    let g = each-mem (visitOf d halved) l (f .one) (f .listed) in
+    record { one = g .one; listed = g .listed; lies = near-in d (g .one) (f .one) e (part-of d halved (g .one) (some (g .one) (g .listed)) (f .one) (g .mine)) (f .mine) }
 
 -- ---- a band's edges
 
@@ -218,15 +218,15 @@ pub record Lies (d : Pass) (w top end : ℕ) (e : Edge) : Type 0 where
   pub below : e .y < end
 
 -- s: the band's own bytes, n: its rows of units
-pub list-in : (d : Pass) (short : Bool) (top : ℕ) (s : List ℕ) (w n : ℕ) → 1 ≤ w → pictureWalk s w n .answer ≡ Done → (e : Edge) → List·Memᴰ e (listFrom d short top s w n) → Lies d w top (n + top) e
-list-in d short top s w n pos accepted e m =
-    let d3 = demand-3 short s w n pos accepted in
+pub list-in : (d : Pass) (halved : Bool) (top : ℕ) (s : List ℕ) (w n : ℕ) → 1 ≤ w → pictureWalk s w n .answer ≡ Done → (e : Edge) → List·Memᴰ e (listFrom d halved top s w n) → Lies d w top (n + top) e
+list-in d halved top s w n pos accepted e m =
+    let d3 = demand-3 halved s w n pos accepted in
     let leaves = map (leafDown top) (allLeaves s w n) in
     let size : (p : Leaf) → List·Memᴰ p leaves → 1 ≤ p .side =
     λ p i. let r = map-mem (leafDown top) (allLeaves s w n) p i in
     let a = d3 .aligned (r .of) (r .listed) in
     subst (λ (q : Leaf). 1 ≤ q .side) (sym (r .is)) (rw (a .power) (pow-pos (a .log))) in
-    let f = edges-in d short leaves size e m in
+    let f = edges-in d halved leaves size e m in
     let r = map-mem (leafDown top) (allLeaves s w n) (f .one) (f .listed) in
     let a = d3 .aligned (r .of) (r .listed) in
     let x = ap (λ (q : Leaf). q .x) (r .is) in
@@ -240,14 +240,14 @@ list-in d short top s w n pos accepted e m =
       below = omega (arith, i .bottom, a .bottom, y, z);
     }
 
-module _ (short : Bool) (s : List ℕ) (w h : ℕ) (pos : 1 ≤ w) (walked : (k : ℕ) → k < across h → BandDone s w h pos k) (d : Pass) where
-  pub band-in : (k : ℕ) → k < across h → (e : Edge) → List·Memᴰ e (bandList d short s w h k) → Lies d w (16 * k) (bandRows h k + 16 * k) e
-  band-in k l e m = list-in d short (16 * k) (bandBytes s w k) w (bandRows h k) pos (walked k l) e m
+module _ (halved : Bool) (s : List ℕ) (w h : ℕ) (pos : 1 ≤ w) (walked : (k : ℕ) → k < across h → BandDone s w h pos k) (d : Pass) where
+  pub band-in : (k : ℕ) → k < across h → (e : Edge) → List·Memᴰ e (bandList d halved s w h k) → Lies d w (16 * k) (bandRows h k + 16 * k) e
+  band-in k l e m = list-in d halved (16 * k) (bandBytes s w k) w (bandRows h k) pos (walked k l) e m
 
-  pub joined-in : (n : ℕ) → n ≤ across h → (e : Edge) → List·Memᴰ e (joined (bandList d short s w h) n) → Lies d w 0 (16 * n) e
+  pub joined-in : (n : ℕ) → n ≤ across h → (e : Edge) → List·Memᴰ e (joined (bandList d halved s w h) n) → Lies d w 0 (16 * n) e
   unfolding joined
   joined-in zero l e m = absurd (List·Memᴰ·not-nil m)
   joined-in (suc n) l e m =
       ⊎-elim (λ i. let r = joined-in n (omega arith) e i in let c = r .below in record { inner = r .inner; column = r .column; above = omega arith; below = omega arith })
       (λ i. let r = band-in n l e i in let c = r .below in let f = band h n l .few in record { inner = r .inner; column = r .column; above = omega arith; below = omega arith })
-      (List·Memᴰ·append-cases (joined (bandList d short s w h) n) m)
+      (List·Memᴰ·append-cases (joined (bandList d halved s w h) n) m)

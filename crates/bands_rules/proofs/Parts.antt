@@ -278,9 +278,9 @@ each-down d a [] h = refl
 each-down d a (q ∷ l) h = ap₂ _++_ (near-down d a q (h q (List·Memᴰ·head refl))) (each-down d a l (λ r i. h r (List·Memᴰ·tail i))) ∙ sym (map-append (edgeDown a) (nearEdge d q) (each (nearEdge d) l))
 
 -- a leaf's visits
-pub visits-down : (d : Pass) (short : Bool) (a : ℕ) (p : Leaf) → visitOf d short (leafDown a p) ≡ map (visitDown a) (visitOf d short p)
+pub visits-down : (d : Pass) (halved : Bool) (a : ℕ) (p : Leaf) → visitOf d halved (leafDown a p) ≡ map (visitDown a) (visitOf d halved p)
 unfolding visitOf
-visits-down d short a p = go (short && eqb (p .side) 16) where
+visits-down d halved a p = go (halved && eqb (p .side) 16) where
   two : (d : Pass) → halves d (p .x) (p .y + a) ≡ map (visitDown a) (halves d (p .x) (p .y))
   two vertical = refl
   two horizontal = let f : p .y + a + 8 ≡ p .y + 8 + a = omega arith in λ i. visit (p .x) (p .y + a) 16 8 ∷ visit (p .x) (f i) 16 8 ∷ []
@@ -290,15 +290,15 @@ visits-down d short a p = go (short && eqb (p .side) 16) where
   go true = two d
   go false = refl
 
-pub all-visits-down : (d : Pass) (short : Bool) (a : ℕ) (l : List Leaf) → each (visitOf d short) (map (leafDown a) l) ≡ map (visitDown a) (each (visitOf d short) l)
+pub all-visits-down : (d : Pass) (halved : Bool) (a : ℕ) (l : List Leaf) → each (visitOf d halved) (map (leafDown a) l) ≡ map (visitDown a) (each (visitOf d halved) l)
 unfolding each
-all-visits-down d short a [] = refl
-all-visits-down d short a (p ∷ l) = ap₂ _++_ (visits-down d short a p) (all-visits-down d short a l) ∙ sym (map-append (visitDown a) (visitOf d short p) (each (visitOf d short) l))
+all-visits-down d halved a [] = refl
+all-visits-down d halved a (p ∷ l) = ap₂ _++_ (visits-down d halved a p) (all-visits-down d halved a l) ∙ sym (map-append (visitDown a) (visitOf d halved p) (each (visitOf d halved) l))
 
 -- a visit starts at its leaf's first row or below it
-visits-top : (d : Pass) (short : Bool) (p : Leaf) (q : Visit) → List·Memᴰ q (visitOf d short p) → p .y ≤ q .y
+visits-top : (d : Pass) (halved : Bool) (p : Leaf) (q : Visit) → List·Memᴰ q (visitOf d halved p) → p .y ≤ q .y
 unfolding visitOf
-visits-top d short p q m = go (short && eqb (p .side) 16) m where
+visits-top d halved p q m = go (halved && eqb (p .side) 16) m where
   at : (x y wide tall : ℕ) → p .y ≤ y → q ≡ visit x y wide tall → p .y ≤ q .y
   at x y wide tall l z = subst (λ (r : Visit). p .y ≤ r .y) (sym z) l
 
@@ -311,9 +311,9 @@ visits-top d short p q m = go (short && eqb (p .side) 16) m where
   go false i = at _ _ _ _ (omega arith) (List·Memᴰ·eq-of-singleton i)
 
 -- the edges of leaves that have a unit above them in both places, or in neither
-pub edges-down : (d : Pass) (short : Bool) (a : ℕ) (l : List Leaf) → ((p : Leaf) → List·Memᴰ p l → Keeps d (p .y) a) → edgesOf d short (map (leafDown a) l) ≡ map (edgeDown a) (edgesOf d short l)
-edges-down d short a l h = ap (each (nearEdge d)) (all-visits-down d short a l) ∙ each-down d a (each (visitOf d short) l)
-    (λ q i. let f = each-mem (visitOf d short) l q i in keeps-below d (f .one .y) (q .y) a (visits-top d short (f .one) q (f .mine)) (h (f .one) (f .listed)))
+pub edges-down : (d : Pass) (halved : Bool) (a : ℕ) (l : List Leaf) → ((p : Leaf) → List·Memᴰ p l → Keeps d (p .y) a) → edgesOf d halved (map (leafDown a) l) ≡ map (edgeDown a) (edgesOf d halved l)
+edges-down d halved a l h = ap (each (nearEdge d)) (all-visits-down d halved a l) ∙ each-down d a (each (visitOf d halved) l)
+    (λ q i. let f = each-mem (visitOf d halved) l q i in keeps-below d (f .one .y) (q .y) a (visits-top d halved (f .one) q (f .mine)) (h (f .one) (f .listed)))
 
 down-twice : (top a : ℕ) (l : List Leaf) → map (leafDown (top + a)) l ≡ map (leafDown a) (map (leafDown top) l)
 down-twice top a [] = refl
@@ -323,7 +323,7 @@ down-low : (top : ℕ) (l : List Leaf) (p : Leaf) → List·Memᴰ p (map (leafD
 down-low top [] p m = absurd (List·Memᴰ·not-nil m)
 down-low top (q ∷ l) p m = ⊎-elim (λ (z : p ≡ leafDown top q). subst (λ (r : Leaf). top ≤ r .y) (sym z) (omega arith)) (down-low top l p) (List·Memᴰ·cases-cons m)
 
-pub list-down : (d : Pass) (short : Bool) (top a : ℕ) → Keeps d top a → (s : List ℕ) (w n : ℕ) → listFrom d short (top + a) s w n ≡ map (edgeDown a) (listFrom d short top s w n)
-list-down d short top a o s w n =
-    ap (edgesOf d short) (down-twice top a (allLeaves s w n))
-    ∙ edges-down d short a (map (leafDown top) (allLeaves s w n)) (λ p i. keeps-below d top (p .y) a (down-low top (allLeaves s w n) p i) o)
+pub list-down : (d : Pass) (halved : Bool) (top a : ℕ) → Keeps d top a → (s : List ℕ) (w n : ℕ) → listFrom d halved (top + a) s w n ≡ map (edgeDown a) (listFrom d halved top s w n)
+list-down d halved top a o s w n =
+    ap (edgesOf d halved) (down-twice top a (allLeaves s w n))
+    ∙ edges-down d halved a (map (leafDown top) (allLeaves s w n)) (λ p i. keeps-below d top (p .y) a (down-low top (allLeaves s w n) p i) o)

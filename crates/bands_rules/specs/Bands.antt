@@ -1,5 +1,5 @@
 -- Deblocking by bands. A band is a row of roots: 16 rows of units, the last one maybe fewer. w and h are a picture's sides in units, s the split bytes of all
--- its roots, k a band's number, n how many rows of units the band has. short: the transform limit is 5.
+-- its roots, k a band's number, n how many rows of units the band has. halved: the transform limit is 5.
 -- Assumes nothing: these are definitions.
 use mathlib.Core.Bool.{Bool}
 use mathlib.Core.List.{List, [], _++_, map}
@@ -37,14 +37,14 @@ bandBytes s w k = take (1024 * across w) (drop (1024 * (k * across w)) s)
 -- a pass's list for a band by itself: s its own bytes, n its rows of units, top the row of units that it starts at in what is lent. The band is walked as a
 -- picture of w by n; what lies above it, if anything does, makes its top edge an edge. With top 0 and n the picture's rows it is `edgeList`
 abbrev pub listFrom : Pass → Bool → (top : ℕ) → List ℕ → (w n : ℕ) → List Edge
-listFrom d short top s w n = edgesOf d short (map (leafDown top) (allLeaves s w n))
+listFrom d halved top s w n = edgesOf d halved (map (leafDown top) (allLeaves s w n))
 
 -- done set, from word k on
 abbrev pub doneFrom : ℕ → List ℕ → List ℕ
 doneFrom k l = take k l ++ allDone (drop k l)
 
 -- both passes' lists were filtered, one after the other, and counted, and every unit from row `top` on is done
-pub record Both (m : Maps) (t : List ℕ) (w top : ℕ) (ups levels : List Edge) (p q : Planes) (words : List ℕ) (ver hor : ℕ) : Type 0 where
+pub record BothPassesFrom (m : Maps) (t : List ℕ) (w top : ℕ) (ups levels : List Edge) (p q : Planes) (words : List ℕ) (ver hor : ℕ) : Type 0 where
   pub planes : q ≡ filterAll m t horizontal w levels (filterAll m t vertical w ups p)
   pub ups-counted : ver ≡ length ups
   pub levels-counted : hor ≡ length levels
@@ -52,7 +52,7 @@ pub record Both (m : Maps) (t : List ℕ) (w top : ℕ) (ups levels : List Edge)
 
 -- band k's, by its place in the picture
 abbrev pub bandList : Pass → Bool → List ℕ → (w h k : ℕ) → List Edge
-bandList d short s w h k = listFrom d short (16 * k) (bandBytes s w k) w (bandRows h k)
+bandList d halved s w h k = listFrom d halved (16 * k) (bandBytes s w k) w (bandRows h k)
 
 -- the lists of the first n bands, one after the other
 unfoldable pub joined : (ℕ → List Edge) → ℕ → List Edge
@@ -81,13 +81,13 @@ inPart c w a b f p = take (placesOf c w a) p ++ (f (take (placesOf c w b) (drop 
 
 -- the plane after band k's call
 unfoldable pub called : Maps → (strengths : List ℕ) → (at : ℕ → ℕ) → Component → Bool → List ℕ → (w h k : ℕ) → List ℕ → List ℕ
-called m t at c short s w h k p =
+called m t at c halved s w h k p =
     let n = bandRows h k in
     let a = rowsBefore k in
     let b = rowsAbove k + n in
-    inPart c w a b (finished (mapsPart w a b m) t at c w (listFrom vertical short (rowsAbove k) (bandBytes s w k) w n) (listFrom horizontal short (rowsAbove k) (bandBytes s w k) w n)) p
+    inPart c w a b (finished (mapsPart w a b m) t at c w (listFrom vertical halved (rowsAbove k) (bandBytes s w k) w n) (listFrom horizontal halved (rowsAbove k) (bandBytes s w k) w n)) p
 
 -- the plane after the calls of the first n bands
 unfoldable pub calledAll : Maps → (strengths : List ℕ) → (at : ℕ → ℕ) → Component → Bool → List ℕ → (w h n : ℕ) → List ℕ → List ℕ
-calledAll m t at c short s w h zero p = p
-calledAll m t at c short s w h (suc n) p = called m t at c short s w h n (calledAll m t at c short s w h n p)
+calledAll m t at c halved s w h zero p = p
+calledAll m t at c halved s w h (suc n) p = called m t at c halved s w h n (calledAll m t at c halved s w h n p)

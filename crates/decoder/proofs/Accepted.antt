@@ -128,7 +128,7 @@ given =
     ∷ check.outcome (record { w = 4; h = 4; splits = cut }) .number
     ∷ rank.outcome (record { x = 15; y = 15 }) .reading .number
     ∷ list.outcome (record { w = 4; h = 4; splits = cut; limit = 5; vertical = 0 ∷ 0 ∷ []; horizontal = 0 ∷ 0 ∷ [] }) .reading .number
-    ∷ root-list.outcome (record { w = 4; h = 4; splits = cut; x = 0; y = 0; horizontal = false; short = false; top = 0; out = replicate 512 0 }) .reading .number
+    ∷ root-list.outcome (record { w = 4; h = 4; splits = cut; x = 0; y = 0; horizontal = false; halved = false; top = 0; out = replicate 512 0 }) .reading .number
     ∷ mend.outcome (record { w = 4; h = 4; splits = cut; out = cut; list = replicate 425 0 }) .reading .number
     ∷ answerNumber (deblock.check picture)
     ∷ deblock.outcome picture .reading .number

@@ -477,7 +477,7 @@ list-edges-refusals =
 
 -- n: how long the list is
 abbrev rooted : ℕ → ℕ → List ℕ → ℕ → ℕ → root-list.Input
-rooted h top splits x n = record { w = 4; h = h; splits = splits; x = x; y = 0; horizontal = false; short = false; top = top; out = replicate n 0 }
+rooted h top splits x n = record { w = 4; h = h; splits = splits; x = x; y = 0; horizontal = false; halved = false; top = top; out = replicate n 0 }
 
 pub root-list-refusals : Refuses root-list.outcome (λ o. o .reading .number) (Size ∷ Length ∷ Block ∷ Split ∷ Leaf ∷ [])
 unfolding root-list.outcome root-list.checkOf leaves.checkOf leaves.lengthsOk leaves.rootOk sizeOk walk byByte inTurn onward leafWalk

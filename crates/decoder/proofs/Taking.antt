@@ -104,9 +104,9 @@ said r (inl e) = inl (ap (λ (b : Bool). numberOf (pick b Sheet r)) (eq-eqb (num
 said r (inr (inl e)) = inr (inl (ap (λ (n : ℕ). numberOf (pick (eqb n 16) Sheet r)) e ∙ e))
 said r (inr (inr e)) = absurd (omega (arith, number-some r))
 
-pub digits-said : (short : Bool) (w h : ℕ) (ds : List ℕ) → Says bySheet (foundBy short (pictureDescent w h ds))
+pub digits-said : (halved : Bool) (w h : ℕ) (ds : List ℕ) → Says bySheet (foundBy halved (pictureDescent w h ds))
 unfolding foundBy
-digits-said short w h ds = go (d .walk .answer) (picture-takes w h _) (sheet-rung (eqb (length (d .left)) 0) Sheet 5 (listed _ _) (record { by = zeroth (PastPicture ∷ Sheet ∷ []) })) where
+digits-said halved w h ds = go (d .walk .answer) (picture-takes w h _) (sheet-rung (eqb (length (d .left)) 0) Sheet 5 (listed _ _) (record { by = zeroth (PastPicture ∷ Sheet ∷ []) })) where
   d : Descent
   d = pictureDescent w h ds
 

@@ -29,7 +29,7 @@ use Rattle.strength.proofs.Strengths.{luma-entry, u-entry, v-entry}
 use Rattle.df_check.proofs.Bands.{band-size, few-above, few-rows}
 use Rattle.df_check.proofs.Passed.{word-any, mark-any}
 use Rattle.df_rules.specs.Filter.{Planes, inY, inU, inV, finished}
-use Rattle.df_rules.specs.Frame.{Frame}
+use Rattle.df_rules.specs.Lent.{LentPicture}
 use Rattle.split.specs.Accepted.{Accepted}
 use Rattle.df_rules.specs.Places.{unitQ, unitP}
 use Rattle.df_rules.specs.Window.{Samples}
@@ -37,7 +37,7 @@ use Rattle.df_rules.specs.Visit.{allDone}
 use Rattle.df_rules.specs.Strength.{Maps, rowAt, qpAt, strengthOf, strength}
 use Rattle.df_rules.proofs.Planes.{planes-finished, no-samples, finished-none}
 use Rattle.df_rules.proofs.Strengths.{row-few}
-use Rattle.bands_rules.specs.Bands.{edgeDown, listFrom, mapPart, mapsPart, placesOf, doneFrom, Both}
+use Rattle.bands_rules.specs.Bands.{edgeDown, listFrom, mapPart, mapsPart, placesOf, doneFrom, BothPassesFrom}
 use Rattle.df_check.specs.Rows.{rowsAbove}
 use Rattle.bands_rules.proofs.Lists.{Lies, list-in}
 use Rattle.bands_rules.proofs.Parts.{Keeps, finished-part, list-down}
@@ -110,11 +110,11 @@ module _ (j : band.Input) (fine : band.check j ≡ Done) (pos : 1 ≤ band.wide 
   abbrev top : ℕ
   top = near (j .band)
 
-  abbrev short : Bool
-  short = eqb (j .settings .limit) 5
+  abbrev halved : Bool
+  halved = eqb (j .settings .limit) 5
 
   abbrev list : Pass → List Edge
-  list d = listFrom d short top (j .splits) w n
+  list d = listFrom d halved top (j .splits) w n
 
   abbrev f : Format
   f = j .settings .format
@@ -131,11 +131,11 @@ module _ (j : band.Input) (fine : band.check j ≡ Done) (pos : 1 ≤ band.wide 
 
   lies : (d : Pass) (e : Edge) → List·Memᴰ e (list d) → Lies d w 0 (top + n) e
   lies d e i =
-      let r = list-in d short top (j .splits) w n pos (t .walk) e i in
+      let r = list-in d halved top (j .splits) w n pos (t .walk) e i in
       record { inner = r .inner; column = r .column; above = omega arith; below = omega (arith, r .below) }
 
   list-lent : (d : Pass) → map (edgeDown skip) (list d) ≡ band.passEdges d j
-  list-lent d = sym (list-down d short top skip (keeps-near d (j .band)) (j .splits) w n) ∙ ap (λ (r : ℕ). listFrom d short r (j .splits) w n) (near-skip (j .band))
+  list-lent d = sym (list-down d halved top skip (keeps-near d (j .band)) (j .splits) w n) ∙ ap (λ (r : ℕ). listFrom d halved r (j .splits) w n) (near-skip (j .band))
 
   few : (q : ℕ) → qpOf (getD (m .words) q 0) ≤ 51
   few = word-any (m .words) (t .qps)
@@ -154,7 +154,7 @@ module _ (j : band.Input) (fine : band.check j ≡ Done) (pos : 1 ≤ band.wide 
     same-v = ap (λ (k : ℕ). 4 * k) (v-entry _ _ _ _ _ (rowAt m (unitQ w e) (unitP d w e)) (qpAt m (unitQ w e)) (row-few m (unitQ w e) (unitP d w e)) (few (unitQ w e)))
 
   -- the parts that were handed to the passes, in the words of the rule
-  parts-done : (p q : Planes) (words : List ℕ) (ver hor : ℕ) → Both m entriesIn w top (list vertical) (list horizontal) p q words ver hor
+  parts-done : (p q : Planes) (words : List ℕ) (ver hor : ℕ) → BothPassesFrom m entriesIn w top (list vertical) (list horizontal) p q words ver hor
       → q ≡ record {
         y = finished m (j .strengths) (band.qpY j) Luma w (list vertical) (list horizontal) (p .y);
         u = finished m (j .strengths) (band.qpU j) Chroma w (list vertical) (list horizontal) (p .u);
@@ -227,7 +227,7 @@ module _ (j : band.Input) (fine : band.check j ≡ Done) (pos : 1 ≤ band.wide 
   -- what `band_passes` leaves of the slices is what the rule says. a and c: the samples that were not handed on, of luma and of a chroma plane
   pub band-done : (a c : ℕ) → a ≡ placesOf Luma w skip → c ≡ inFormat f (placesOf Chroma w skip) → (y u v words : List ℕ) (ver hor : ℕ)
       → take a y ≡ take a (j .y) → take c u ≡ take c (j .u) → take c v ≡ take c (j .v) → take (skip * w) words ≡ take (skip * w) (j .words)
-      → Both m entriesIn w top (list vertical) (list horizontal)
+      → BothPassesFrom m entriesIn w top (list vertical) (list horizontal)
       (record { y = drop a (j .y); u = drop c (j .u); v = drop c (j .v) }) (record { y = drop a y; u = drop c u; v = drop c v }) (drop (skip * w) words) ver hor
       → (record { reading = record { number = 0; vertical = ver; horizontal = hor; next = j .next + 1 }; y = y; u = u; v = v; words = words }) ≡ band.outcome j
   band-done a c ea ec y u v words ver hor ty tu tv tw b =
@@ -302,10 +302,10 @@ module _ (j : band.Input) (fine : band.check j ≡ Done) (pos : 1 ≤ band.wide 
   left-over : {A : Type 0} (a b : ℕ) (l : List A) → a + b ≡ length l → length (drop a l) ≡ b
   left-over a b l e = length-drop a l ∙ omega arith
 
-  pub framed : (es : List ℕ) → length es ≡ 624
-      → Frame f w (top + n) (drop (16 * (skip * w)) (j .y)) (drop (inFormat f (4 * (skip * w))) (j .u)) (drop (inFormat f (4 * (skip * w))) (j .v)) (drop (skip * w) (j .words))
+  pub lent-picture : (es : List ℕ) → length es ≡ 624
+      → LentPicture f w (top + n) (drop (16 * (skip * w)) (j .y)) (drop (inFormat f (4 * (skip * w))) (j .u)) (drop (inFormat f (4 * (skip * w))) (j .v)) (drop (skip * w) (j .words))
       (m .over) es
-  framed es e =
+  lent-picture es e =
       let k = skipped in
       let small : (c : Component) (a : ℕ) (p : List ℕ) → a ≡ placesOf c w skip → samplesOk (drop (placesOf c w skip) p) ≡ true → Samples (drop a p) =
       λ c a p q g k. sample-any (drop a p) k (ap (λ (z : ℕ). samplesOk (drop z p)) q ∙ g) in
@@ -331,7 +331,7 @@ module _ (j : band.Input) (fine : band.check j ≡ Done) (pos : 1 ≤ band.wide 
 
   module _ {s r o : ℕ} (es : s ≡ skip) (er : r ≡ top) (eo : o ≡ 4 * n) where
     pub asked : (l : List ℕ) → length l ≡ 624
-        → (Frame f w (r + o / 4) (drop (16 * (s * w)) (j .y)) (drop (inFormat f (4 * (s * w))) (j .u)) (drop (inFormat f (4 * (s * w))) (j .v)) (drop (s * w) (j .words))
+        → (LentPicture f w (r + o / 4) (drop (16 * (s * w)) (j .y)) (drop (inFormat f (4 * (s * w))) (j .u)) (drop (inFormat f (4 * (s * w))) (j .v)) (drop (s * w) (j .words))
         (record { motion = drop (4 * (s * w)) (j .motion); refs = drop (2 * (s * w)) (j .refs); keep = drop (s * w) (j .keep) }) l
         × Accepted (j .w) o (j .splits))
         × ((16 * (s * w) ≤ length (j .y)) × (inFormat f (4 * (s * w)) ≤ length (j .u)) × (inFormat f (4 * (s * w)) ≤ length (j .v)) × (s * w ≤ length (j .words))
@@ -339,7 +339,7 @@ module _ (j : band.Input) (fine : band.check j ≡ Done) (pos : 1 ≤ band.wide 
     asked l e =
         let k = skipped in
         rw (es, er, eo, walked-rows)
-        ((framed l e, accepted), (within _ _ (k .y), within _ _ (k .u), within _ _ (k .v), within _ _ (k .words), within _ _ (k .motion), within _ _ (k .refs), within _ _ (k .keep), k .few))
+        ((lent-picture l e, accepted), (within _ _ (k .y), within _ _ (k .u), within _ _ (k .v), within _ _ (k .words), within _ _ (k .motion), within _ _ (k .refs), within _ _ (k .keep), k .few))
       where
         within : (a b : ℕ) {c : ℕ} → a + b ≡ c → a ≤ c
         within a b e = omega arith
@@ -347,9 +347,9 @@ module _ (j : band.Input) (fine : band.check j ≡ Done) (pos : 1 ≤ band.wide 
     pub done-by : {l : List ℕ} → l ≡ entriesIn → (y u v words : List ℕ) (ver hor : ℕ)
         → (take (16 * (s * w)) y ≡ take (16 * (s * w)) (j .y)) × (take (inFormat f (4 * (s * w))) u ≡ take (inFormat f (4 * (s * w))) (j .u))
         × (take (inFormat f (4 * (s * w))) v ≡ take (inFormat f (4 * (s * w))) (j .v)) × (take (s * w) words ≡ take (s * w) (j .words))
-        × Both
+        × BothPassesFrom
         (record { words = drop (s * w) (j .words); over = record { motion = drop (4 * (s * w)) (j .motion); refs = drop (2 * (s * w)) (j .refs); keep = drop (s * w) (j .keep) } })
-        l w r (listFrom vertical short r (j .splits) w (o / 4)) (listFrom horizontal short r (j .splits) w (o / 4))
+        l w r (listFrom vertical halved r (j .splits) w (o / 4)) (listFrom horizontal halved r (j .splits) w (o / 4))
         (record { y = drop (16 * (s * w)) (j .y); u = drop (inFormat f (4 * (s * w))) (j .u); v = drop (inFormat f (4 * (s * w))) (j .v) })
         (record { y = drop (16 * (s * w)) y; u = drop (inFormat f (4 * (s * w))) u; v = drop (inFormat f (4 * (s * w))) v }) (drop (s * w) words) ver hor
         → (record { reading = record { number = 0; vertical = ver; horizontal = hor; next = j .next + 1 }; y = y; u = u; v = v; words = words }) ≡ band.outcome j

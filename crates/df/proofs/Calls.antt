@@ -17,7 +17,7 @@ use Rattle.strength.specs.Entries.{entriesOf}
 use Rattle.strength.proofs.Strengths.{luma-entry, u-entry, v-entry}
 use Rattle.df_check.proofs.Passed.{Passed, passed}
 use Rattle.df_rules.specs.Filter.{Planes, inY, inU, inV, filterAll}
-use Rattle.df_rules.specs.Frame.{Frame, Both}
+use Rattle.df_rules.specs.Lent.{LentPicture, BothPasses}
 use Rattle.split.specs.Accepted.{Accepted}
 use Rattle.df_rules.specs.Places.{unitQ, unitP}
 use Rattle.df_rules.specs.Strength.{rowAt, qpAt, strengthOf, strength}
@@ -45,8 +45,8 @@ module _ (i : Input) (fine : check i ≡ Fine) where
 
   -- ---- the picture, by any entries
 
-  pub framed : (t : List ℕ) → length t ≡ 624 → Frame (i .settings .format) (i .w / 4) (i .h / 4) (i .y) (i .u) (i .v) (i .words) (mapsOf i .over) t
-  framed t e =
+  pub lent-picture : (t : List ℕ) → length t ≡ 624 → LentPicture (i .settings .format) (i .w / 4) (i .h / 4) (i .y) (i .u) (i .v) (i .words) (mapsOf i .over) t
+  lent-picture t e =
       let n = told .lengths in
       let z = size in
       let a : 4 * (i .w / 4) ≡ i .w = omega (arith, z .by-four) in
@@ -99,7 +99,7 @@ module _ (i : Input) (fine : check i ≡ Fine) where
   -- ---- the outcome
 
   pub deblock-done : (t : List ℕ) (y u v words : List ℕ) (m n : ℕ) → t ≡ entriesIn i
-      → Both (mapsOf i) t (i .w / 4) (passEdges vertical i) (passEdges horizontal i) (record { y = i .y; u = i .u; v = i .v }) (record { y = y; u = u; v = v }) words m n
+      → BothPasses (mapsOf i) t (i .w / 4) (passEdges vertical i) (passEdges horizontal i) (record { y = i .y; u = i .u; v = i .v }) (record { y = y; u = u; v = v }) words m n
       → (record { reading = readingOf (Done m n); y = y; u = u; v = v; words = words }) ≡ outcome i
   unfolding outcome
   deblock-done t y u v words m n e b =

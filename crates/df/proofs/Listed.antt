@@ -34,11 +34,11 @@ use Rattle.edges.specs.Put.{Put}
 use Rattle.df.proofs.Plans.{list-long, read-back, read-units}
 use Rattle.df.proofs.Room.{few-edges, edge-in}
 
-module _ {w h : ℕ} {s : List ℕ} (a : Accepted w h s) (i : ℕ) (early : i < rootCount w h) (hor short : Bool) (top : ℕ) (high : top + h / 4 ≤ 1024) (out : List ℕ) (long : length out ≡ 512)
+module _ {w h : ℕ} {s : List ℕ} (a : Accepted w h s) (i : ℕ) (early : i < rootCount w h) (hor halved : Bool) (top : ℕ) (high : top + h / 4 ≤ 1024) (out : List ℕ) (long : length out ≡ 512)
     (list : List ℕ) (r : Walked) where
   -- the call for root i
   abbrev rootIn : root-call.Input
-  rootIn = record { w = w; h = h; splits = s; x = 64 * (i % rootsAlong w); y = 64 * (i / rootsAlong w); horizontal = hor; short = short; top = top; out = out }
+  rootIn = record { w = w; h = h; splits = s; x = 64 * (i % rootsAlong w); y = 64 * (i / rootsAlong w); horizontal = hor; halved = halved; top = top; out = out }
 
   passes : root-call.check rootIn ≡ Done
   unfolding root-call.checkOf
@@ -56,19 +56,19 @@ module _ {w h : ℕ} {s : List ℕ} (a : Accepted w h s) (i : ℕ) (early : i < 
         let f : leaves-call.after (NotCounted q) list ≡ root-call.done rootIn = ap (λ (k : Walked). leaves-call.after k list) (sym e) ∙ given in
         omega (arith, number-some q, ap (λ (p : leaves-call.Outcome). p .reading .number) f)
 
-    pub listed-root : (d : Pass) (n : ℕ) → edges.passOf hor ≡ d → r ≡ Counted n → ListedRoot w h s d short top i list n
+    pub listed-root : (d : Pass) (n : ℕ) → edges.passOf hor ≡ d → r ≡ Counted n → ListedRoot w h s d halved top i list n
     listed-root d n e c =
         let f : leaves-call.after (Counted n) list ≡ root-call.done rootIn = ap (λ (k : Walked). leaves-call.after k list) (sym c) ∙ given in
-        let es = edgesOf d short (map (leafDown top) (rootLeaves s (w / 4) (h / 4) i)) in
-        let same : root-call.edgesAt rootIn ≡ es = (λ j. edgesOf (e j) short (map (leafDown top) (rootLeaves s (w / 4) (h / 4) (index-back w i j)))) in
+        let es = edgesOf d halved (map (leafDown top) (rootLeaves s (w / 4) (h / 4) i)) in
+        let same : root-call.edgesAt rootIn ≡ es = (λ j. edgesOf (e j) halved (map (leafDown top) (rootLeaves s (w / 4) (h / 4) (index-back w i j)))) in
         let counted : n ≡ length es = ap (λ (p : leaves-call.Outcome). p .reading .count) f ∙ ap length same in
         let held : list ≡ sets out 0 (each edgeNumbers es) = ap (λ (p : leaves-call.Outcome). p .out) f ∙ ap (λ (l : List edges.Edge). sets out 0 (each edgeNumbers l)) same in
         let q : Put (each edgeNumbers es) out 0 list (2 * n) = record { count = omega (arith, edges-twice es, counted); put = held } in
         let half : 2 * n / 2 ≡ n = omega arith in
-        let few = few-edges w h s a i early d short top in
+        let few = few-edges w h s a i early d halved top in
         record {
           long = list-long es few long q;
           few = omega (arith, counted, few);
           same = ap (edgesFrom list) (sym half) ∙ read-back es few long q;
-          units = λ k g. read-units es few long q d (w / 4) top (top + h / 4) (edge-in w h s a i early d short top) k (omega (arith, half));
+          units = λ k g. read-units es few long q d (w / 4) top (top + h / 4) (edge-in w h s a i early d halved top) k (omega (arith, half));
         }

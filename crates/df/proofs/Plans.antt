@@ -26,7 +26,7 @@ use Rattle.split.specs.Edges.{Pass, vertical, horizontal, Edge, edge, edgeAt, e
 use Rattle.split.specs.Rows.{crossOf, alongOf}
 use Rattle.split.proofs.Demand3.{edges-twice}
 use Rattle.df_rules.specs.Filter.{maskAt, window, filtered}
-use Rattle.df_rules.specs.Frame.{Frame, Unit, Marked, AtUnit}
+use Rattle.df_rules.specs.Lent.{LentPicture, Unit, Marked, AtUnit}
 use Rattle.df_rules.specs.Places.{stepAcross, unitQ, unitP}
 use Rattle.df_rules.specs.Strength.{Over, Maps, rowAt, qpAt, strengthOf, strength}
 use Rattle.df_rules.proofs.Edges.{Spot, spot, unit-of, mark-of, unit-q, unit-p, p-before}
@@ -104,7 +104,7 @@ module _ (l : List Edge) (few : length l ≤ 256) {out list : List ℕ} {r : ℕ
 
 -- ---- an edge's units lie in the maps
 
-pub known : (d : Pass) {format : Format} {w h : ℕ} {y u v words : List ℕ} {over : Over} {t : List ℕ} (a b : ℕ) → Frame format w h y u v words over t → At d w h a b → Known d w words over a b
+pub known : (d : Pass) {format : Format} {w h : ℕ} {y u v words : List ℕ} {over : Over} {t : List ℕ} (a b : ℕ) → LentPicture format w h y u v words over t → At d w h a b → Known d w words over a b
 known vertical {w} {h} a b f g =
     let k = spot vertical w h a b (f .wide) (f .high) g in
     record {

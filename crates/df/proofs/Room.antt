@@ -56,8 +56,8 @@ module _ (w h : ℕ) (s : List ℕ) (a : Accepted w h s) (i : ℕ) (early : i < 
   abbrev leaves : List Leaf
   leaves = rootLeaves s (w / 4) (h / 4) i
 
-  abbrev tree : (short : Bool) → Demand3 short s (w / 4) (h / 4)
-  tree short = demand-3 short s (w / 4) (h / 4) (some-wide size) (a .walked)
+  abbrev tree : (halved : Bool) → Demand3 halved s (w / 4) (h / 4)
+  tree halved = demand-3 halved s (w / 4) (h / 4) (some-wide size) (a .walked)
 
   leaf-in : (p : Leaf) → List·Memᴰ p leaves → List·Memᴰ p (allLeaves s (w / 4) (h / 4))
   leaf-in p m = mem-leaves s (w / 4) (h / 4) (roots (w / 4) (h / 4)) i p in-time m
@@ -65,25 +65,25 @@ module _ (w h : ℕ) (s : List ℕ) (a : Accepted w h s) (i : ℕ) (early : i < 
   pub root-area : area leaves ≤ 256
   root-area = block-few (rootBytes s i) (w / 4) (h / 4) 4 (rootX (w / 4) i) (rootY (w / 4) i) (each-done (rootWalk s (w / 4) (h / 4)) (roots (w / 4) (h / 4)) (a .walked) i in-time)
 
-  module _ (d : Pass) (short : Bool) (top : ℕ) where
+  module _ (d : Pass) (halved : Bool) (top : ℕ) where
     abbrev down : List Leaf
     down = map (leafDown top) leaves
 
     sides : (p : Leaf) → List·Memᴰ p down → 1 ≤ p .side
     sides p m =
         let r = map-mem (leafDown top) leaves p m in
-        let k = tree short .aligned (r .of) (leaf-in (r .of) (r .listed)) in
+        let k = tree halved .aligned (r .of) (leaf-in (r .of) (r .listed)) in
         subst (λ (q : Leaf). 1 ≤ q .side) (sym (r .is)) (rw (k .power) (pow-pos (k .log)))
 
-    pub few-edges : length (edgesOf d short down) ≤ 256
-    few-edges = omega (arith, edges-twice (edgesOf d short down), numbers-long d short down sides, area-down top leaves, root-area)
+    pub few-edges : length (edgesOf d halved down) ≤ 256
+    few-edges = omega (arith, edges-twice (edgesOf d halved down), numbers-long d halved down sides, area-down top leaves, root-area)
 
-    pub edge-in : (e : Edge) → List·Memᴰ e (edgesOf d short down) → Lies d (w / 4) top (top + h / 4) e
+    pub edge-in : (e : Edge) → List·Memᴰ e (edgesOf d halved down) → Lies d (w / 4) top (top + h / 4) e
     edge-in e m =
-        let v = each-mem (nearEdge d) (each (visitOf d short) down) e m in
-        let p = each-mem (visitOf d short) down (v .one) (v .listed) in
+        let v = each-mem (nearEdge d) (each (visitOf d halved) down) e m in
+        let p = each-mem (visitOf d halved) down (v .one) (v .listed) in
         let r = map-mem (leafDown top) leaves (p .one) (p .listed) in
         let all = map (leafDown top) (allLeaves s (w / 4) (h / 4)) in
         let i : List·Memᴰ (p .one) all = subst (λ (q : Leaf). List·Memᴰ q all) (sym (r .is)) (map-in (leafDown top) (allLeaves s (w / 4) (h / 4)) (r .of) (leaf-in (r .of) (r .listed))) in
-        let l = list-in d short top s (w / 4) (h / 4) (some-wide size) (a .walked) e (mem-each (nearEdge d) (mem-each (visitOf d short) i (p .mine)) (v .mine)) in
+        let l = list-in d halved top s (w / 4) (h / 4) (some-wide size) (a .walked) e (mem-each (nearEdge d) (mem-each (visitOf d halved) i (p .mine)) (v .mine)) in
         record { inner = l .inner; column = l .column; above = l .above; below = omega (arith, l .below) }

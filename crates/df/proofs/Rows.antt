@@ -20,7 +20,7 @@ use Rattle.line.specs.declared.Mask.{Mask}
 use Rattle.line.specs.declared.Quad.{Quad}
 use Rattle.line.specs.Line.{maskOf}
 use Rattle.split.specs.Edges.{Pass, vertical, horizontal}
-use Rattle.df_rules.specs.Frame.{unitsAlong}
+use Rattle.df_rules.specs.Lent.{unitsAlong}
 use Rattle.df_rules.specs.Lanes.{samplesAt, putLine, putLines}
 use Rattle.df_rules.specs.Window.{putIf}
 use Rattle.df.specs.declared.window.Place.{Place}

@@ -15,12 +15,12 @@ use Rattle.split.specs.Edges.{Pass, vertical, horizontal, Edge, visitOf, nearEd
 use Rattle.split.specs.Picture.{roots, rootLeaves, leavesOf}
 use Rattle.split.specs.Walk.{Leaf}
 use Rattle.df_rules.specs.Filter.{Planes, filterOne, filterAll, inY, inU, inV}
-use Rattle.df_rules.specs.Frame.{Frame}
+use Rattle.df_rules.specs.Lent.{LentPicture}
 use Rattle.df_rules.specs.Strength.{Over, Maps}
 use Rattle.df_rules.proofs.Planes.{filter-planes}
-use Rattle.df_rules.proofs.Frames.{Framed, frame-filtered}
+use Rattle.df_rules.proofs.LentPlanes.{LentPlanes, lent-filtered}
 use Rattle.split.specs.RootCall.{leafDown}
-use Rattle.bands_rules.specs.Bands.{listFrom, doneFrom, Both}
+use Rattle.bands_rules.specs.Bands.{listFrom, doneFrom, BothPassesFrom}
 use Rattle.bands_rules.proofs.Down.{map-append}
 use Rattle.df.specs.Plan.{edgeFrom, edgesFrom, Planned, filterIn, PlaneOf, ColourOf, PassDone}
 use Rattle.df.proofs.Plans.{plan-filters}
@@ -30,13 +30,13 @@ unfolding edgesFrom
 from-long l zero = refl
 from-long l (suc n) = let i = from-long l n in omega (arith, length-append (edgesFrom l n) (edgeFrom l n ∷ []))
 
-edges-append : (d : Pass) (short : Bool) (l k : List Leaf) → edgesOf d short (l ++ k) ≡ edgesOf d short l ++ edgesOf d short k
-edges-append d short l k = ap (each (nearEdge d)) (each-append (visitOf d short) l k) ∙ each-append (nearEdge d) (each (visitOf d short) l) (each (visitOf d short) k)
+edges-append : (d : Pass) (halved : Bool) (l k : List Leaf) → edgesOf d halved (l ++ k) ≡ edgesOf d halved l ++ edgesOf d halved k
+edges-append d halved l k = ap (each (nearEdge d)) (each-append (visitOf d halved) l k) ∙ each-append (nearEdge d) (each (visitOf d halved) l) (each (visitOf d halved) k)
 
-module _ (m : Maps) (t : List ℕ) (d : Pass) (short : Bool) (top : ℕ) (s : List ℕ) (w h : ℕ) where
+module _ (m : Maps) (t : List ℕ) (d : Pass) (halved : Bool) (top : ℕ) (s : List ℕ) (w h : ℕ) where
   -- the edges of some leaves, `top` rows of units further down
   abbrev down : List Leaf → List Edge
-  down l = edgesOf d short (map (leafDown top) l)
+  down l = edgesOf d halved (map (leafDown top) l)
 
   -- after i roots
   pub record Roots (i : ℕ) (p q : Planes) (count : ℕ) : Type 0 where
@@ -50,7 +50,7 @@ module _ (m : Maps) (t : List ℕ) (d : Pass) (short : Bool) (top : ℕ) (s : Li
 
   next : (i : ℕ) → down (leavesOf s w h (i + 1)) ≡ down (leavesOf s w h i) ++ down (rootLeaves s w h i)
   unfolding leavesOf
-  next i = rw (add-one i) (ap (edgesOf d short) (map-append (leafDown top) (leavesOf s w h i) (rootLeaves s w h i)) ∙ edges-append d short (map (leafDown top) (leavesOf s w h i)) (map (leafDown top) (rootLeaves s w h i)))
+  next i = rw (add-one i) (ap (edgesOf d halved) (map-append (leafDown top) (leavesOf s w h i) (rootLeaves s w h i)) ∙ edges-append d halved (map (leafDown top) (leavesOf s w h i)) (map (leafDown top) (rootLeaves s w h i)))
 
   pub roots-more : (i n : ℕ) (l places marks : List ℕ) (p q : Planes) (y u v : List ℕ) (count : ℕ) → n ≤ 256 → edgesFrom l n ≡ down (rootLeaves s w h i)
       → ((k : ℕ) → getD (m .over .keep) k 0 ≤ 1) → Planned m d w l n places marks → Roots i p q count
@@ -73,29 +73,29 @@ module _ (m : Maps) (t : List ℕ) (d : Pass) (short : Bool) (top : ℕ) (s : Li
 
   -- the picture after them
   pub roots-frame : (i : ℕ) (p q : Planes) (count : ℕ) {format : Format} {h₁ : ℕ} {over : Over} {entries words : List ℕ}
-      → Roots i p q count → Framed format w h₁ over entries p words → Framed format w h₁ over entries q words
-  roots-frame i p q count g f = frame-filtered m t d w (down (leavesOf s w h i)) (g .planes) f
+      → Roots i p q count → LentPlanes format w h₁ over entries p words → LentPlanes format w h₁ over entries q words
+  roots-frame i p q count g f = lent-filtered m t d w (down (leavesOf s w h i)) (g .planes) f
 
-  pub roots-all : (i : ℕ) (p q : Planes) (count : ℕ) → i ≡ roots w h → Roots i p q count → PassDone m t d w (listFrom d short top s w h) p q count
+  pub roots-all : (i : ℕ) (p q : Planes) (count : ℕ) → i ≡ roots w h → Roots i p q count → PassDone m t d w (listFrom d halved top s w h) p q count
   roots-all i p q count e g = record {
     planes = g .planes ∙ ap (λ (k : ℕ). filterAll m t d w (down (leavesOf s w h k)) p) e;
     counted = g .counted ∙ ap (λ (k : ℕ). length (down (leavesOf s w h k))) e;
   }
 
 -- a picture's planes
-pub luma-plane : {format : Format} {w h : ℕ} {y u v words : List ℕ} {over : Over} {t : List ℕ} → Frame format w h y u v words over t → PlaneOf 4 w h y
+pub luma-plane : {format : Format} {w h : ℕ} {y u v words : List ℕ} {over : Over} {t : List ℕ} → LentPicture format w h y u v words over t → PlaneOf 4 w h y
 luma-plane f = record { wide = f .wide; high = f .high; long = f .long-y; all = f .all-y }
 
-pub u-plane : {format : Format} {w h : ℕ} {y u v words : List ℕ} {over : Over} {t : List ℕ} → Frame format w h y u v words over t → ColourOf format w h u
+pub u-plane : {format : Format} {w h : ℕ} {y u v words : List ℕ} {over : Over} {t : List ℕ} → LentPicture format w h y u v words over t → ColourOf format w h u
 u-plane f = record { wide = f .wide; high = f .high; long = f .long-u; all = f .all-u }
 
-pub v-plane : {format : Format} {w h : ℕ} {y u v words : List ℕ} {over : Over} {t : List ℕ} → Frame format w h y u v words over t → ColourOf format w h v
+pub v-plane : {format : Format} {w h : ℕ} {y u v words : List ℕ} {over : Over} {t : List ℕ} → LentPicture format w h y u v words over t → ColourOf format w h v
 v-plane f = record { wide = f .wide; high = f .high; long = f .long-v; all = f .all-v }
 
 -- ---- the two passes
 
 pub both-done : {m : Maps} {t : List ℕ} {w top : ℕ} {ups levels : List Edge} {p q r : Planes} {a b : ℕ} {words : List ℕ}
-    → PassDone m t vertical w ups p q a → PassDone m t horizontal w levels q r b → words ≡ doneFrom (top * w) (m .words) → Both m t w top ups levels p r words a b
+    → PassDone m t vertical w ups p q a → PassDone m t horizontal w levels q r b → words ≡ doneFrom (top * w) (m .words) → BothPassesFrom m t w top ups levels p r words a b
 both-done {m} {t = t} {w = w} {levels = levels} g k e = record {
   planes = k .planes ∙ ap (filterAll m t horizontal w levels) (g .planes);
   ups-counted = g .counted;
@@ -105,5 +105,5 @@ both-done {m} {t = t} {w = w} {levels = levels} g k e = record {
 
 -- the picture after a pass
 pub frame-done : {m : Maps} {t : List ℕ} {d : Pass} {w₁ : ℕ} {l : List Edge} {p q : Planes} {r w h : ℕ} {format : Format} {over : Over} {entries words : List ℕ}
-    → PassDone m t d w₁ l p q r → Framed format w h over entries p words → Framed format w h over entries q words
-frame-done {m} {t} {d} {w₁} {l} g f = frame-filtered m t d w₁ l (g .planes) f
+    → PassDone m t d w₁ l p q r → LentPlanes format w h over entries p words → LentPlanes format w h over entries q words
+frame-done {m} {t} {d} {w₁} {l} g f = lent-filtered m t d w₁ l (g .planes) f

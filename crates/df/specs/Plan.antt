@@ -18,7 +18,7 @@ use Rattle.split.specs.Edges.{Pass, Edge, edge, edgesOf}
 use Rattle.split.specs.Picture.{rootLeaves}
 use Rattle.split.specs.Rows.{crossOf, alongOf}
 use Rattle.df_rules.specs.Filter.{window, Planes, filterAll}
-use Rattle.df_rules.specs.Frame.{Unit, Marked, AtUnit}
+use Rattle.df_rules.specs.Lent.{Unit, Marked, AtUnit}
 use Rattle.df_rules.specs.Places.{stepAcross, unitQ, unitP}
 use Rattle.df_rules.specs.Strength.{Over, Maps, rowBy}
 use Rattle.df_rules.specs.Window.{Samples}
@@ -125,10 +125,10 @@ pub record Plan (d : Pass) (w h : ℕ) (l places marks : List ℕ) (n : ℕ) : T
   pub few : (k : ℕ) → k < n → getD places k 0 ≤ 207
 
 -- the list of a pass's edges of root i, `top` rows of units further down, r of them. w and h are in luma samples
-pub record ListedRoot (w h : ℕ) (s : List ℕ) (d : Pass) (short : Bool) (top i : ℕ) (l : List ℕ) (r : ℕ) : Type 0 where
+pub record ListedRoot (w h : ℕ) (s : List ℕ) (d : Pass) (halved : Bool) (top i : ℕ) (l : List ℕ) (r : ℕ) : Type 0 where
   pub long : length l ≡ 512
   pub few : r ≤ 256
-  pub same : edgesFrom l r ≡ edgesOf d short (map (leafDown top) (rootLeaves s (w / 4) (h / 4) i))
+  pub same : edgesFrom l r ≡ edgesOf d halved (map (leafDown top) (rootLeaves s (w / 4) (h / 4) i))
   pub units : (k : ℕ) → k < r → At d (w / 4) (top + h / 4) (getD l (2 * k) 0) (getD l (2 * k + 1) 0)
 
 -- the edges of a list were filtered, r of them

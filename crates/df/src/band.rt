@@ -4,9 +4,9 @@ ghost use Prim.Native.Nat.{_+_, _*_, _/_, _≤_};
 ghost use lib.ListN.{length, take, drop};
 ghost use Rattle.def.specs.Formats.{inFormat};
 ghost use Rattle.split.specs.Edges.{vertical, horizontal};
-ghost use Rattle.df_rules.specs.Frame.{Frame};
+ghost use Rattle.df_rules.specs.Lent.{LentPicture};
 ghost use Rattle.split.specs.Accepted.{Accepted};
-ghost use Rattle.bands_rules.specs.Bands.{listFrom, Both};
+ghost use Rattle.bands_rules.specs.Bands.{listFrom, BothPassesFrom};
 ghost use Rattle.laws.specs.Call.{Gives};
 ghost use Rattle.df.specs.Band as Band;
 use crate::Counts;
@@ -39,7 +39,7 @@ pub enum Banded {
 // Both passes over h rows of samples, below `top` rows of units. What is lent has `skip` more rows of units before these, which are not looked at.
 pub(crate) fn band_passes(
     format: Format,
-    short: bool,
+    halved: bool,
     w: usize,
     h: usize,
     skip: usize,
@@ -54,15 +54,15 @@ pub(crate) fn band_passes(
     keep: &[u8],
     entries: &[u8],
 ) -> Counts
-    requires { ⌜ Frame format (w / 4) (top + h / 4) (drop (16 * (skip * (w / 4))) (now y)) (drop (inFormat format (4 * (skip * (w / 4)))) (now u)) (drop (inFormat format (4 * (skip * (w / 4)))) (now v)) (drop (skip * (w / 4)) (now words)) (record { motion = drop (4 * (skip * (w / 4))) (now motion); refs = drop (2 * (skip * (w / 4))) (now refs); keep = drop (skip * (w / 4)) (now keep) }) (now entries)
+    requires { ⌜ LentPicture format (w / 4) (top + h / 4) (drop (16 * (skip * (w / 4))) (now y)) (drop (inFormat format (4 * (skip * (w / 4)))) (now u)) (drop (inFormat format (4 * (skip * (w / 4)))) (now v)) (drop (skip * (w / 4)) (now words)) (record { motion = drop (4 * (skip * (w / 4))) (now motion); refs = drop (2 * (skip * (w / 4))) (now refs); keep = drop (skip * (w / 4)) (now keep) }) (now entries)
         × Accepted w h (now splits) ⌝ }
     requires { ⌜ (16 * (skip * (w / 4)) ≤ length (now y)) × (inFormat format (4 * (skip * (w / 4))) ≤ length (now u)) × (inFormat format (4 * (skip * (w / 4))) ≤ length (now v)) × (skip * (w / 4) ≤ length (now words)) × (4 * (skip * (w / 4)) ≤ length (now motion)) × (2 * (skip * (w / 4)) ≤ length (now refs)) × (skip * (w / 4) ≤ length (now keep)) × (skip * (w / 4) ≤ 16384) ⌝ }
     ensures { λ r. ⌜ (take (16 * (skip * (w / 4))) (now (y .exit)) ≡ take (16 * (skip * (w / 4))) (now (y .entry)))
         × (take (inFormat format (4 * (skip * (w / 4)))) (now (u .exit)) ≡ take (inFormat format (4 * (skip * (w / 4)))) (now (u .entry)))
         × (take (inFormat format (4 * (skip * (w / 4)))) (now (v .exit)) ≡ take (inFormat format (4 * (skip * (w / 4)))) (now (v .entry)))
         × (take (skip * (w / 4)) (now (words .exit)) ≡ take (skip * (w / 4)) (now (words .entry)))
-        × Both (record { words = drop (skip * (w / 4)) (now (words .entry)); over = record { motion = drop (4 * (skip * (w / 4))) (now (motion .entry)); refs = drop (2 * (skip * (w / 4))) (now (refs .entry)); keep = drop (skip * (w / 4)) (now (keep .entry)) } }) (now (entries .entry))
-        (w / 4) top (listFrom vertical short top (now (splits .entry)) (w / 4) (h / 4)) (listFrom horizontal short top (now (splits .entry)) (w / 4) (h / 4))
+        × BothPassesFrom (record { words = drop (skip * (w / 4)) (now (words .entry)); over = record { motion = drop (4 * (skip * (w / 4))) (now (motion .entry)); refs = drop (2 * (skip * (w / 4))) (now (refs .entry)); keep = drop (skip * (w / 4)) (now (keep .entry)) } }) (now (entries .entry))
+        (w / 4) top (listFrom vertical halved top (now (splits .entry)) (w / 4) (h / 4)) (listFrom horizontal halved top (now (splits .entry)) (w / 4) (h / 4))
         (record { y = drop (16 * (skip * (w / 4))) (now (y .entry)); u = drop (inFormat format (4 * (skip * (w / 4)))) (now (u .entry)); v = drop (inFormat format (4 * (skip * (w / 4)))) (now (v .entry)) })
         (record { y = drop (16 * (skip * (w / 4))) (now (y .exit)); u = drop (inFormat format (4 * (skip * (w / 4)))) (now (u .exit)); v = drop (inFormat format (4 * (skip * (w / 4)))) (now (v .exit)) })
         (drop (skip * (w / 4)) (now (words .exit))) (r .vertical) (r .horizontal) ⌝ }
@@ -74,7 +74,7 @@ pub(crate) fn band_passes(
     let refs_from = 2 * from;
     both_passes(
         format,
-        short,
+        halved,
         w,
         h,
         top,

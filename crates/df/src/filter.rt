@@ -7,7 +7,7 @@ ghost use lib.ListN.{length, getD};
 ghost use Rattle.split.specs.Edges.{edgeAt};
 ghost use Rattle.def.specs.declared.Component.the-variants.{Luma, Chroma};
 ghost use Rattle.df_rules.specs.Filter.{window};
-ghost use Rattle.df_rules.specs.Frame.{AtUnit};
+ghost use Rattle.df_rules.specs.Lent.{AtUnit};
 ghost use Rattle.df.specs.Edges.{passOf};
 ghost use Rattle.df.specs.Plan.{maskBy, filterIn, PlaneOf, ColourOf, Plan};
 use crate::place::Pass;

@@ -5,9 +5,9 @@ ghost use Prim.Native.Nat.{_+_, _/_};
 ghost use lib.ListN.{length};
 ghost use Rattle.laws.specs.Call.{Gives};
 ghost use Rattle.split.specs.Edges.{vertical, horizontal};
-ghost use Rattle.bands_rules.specs.Bands.{listFrom, Both};
+ghost use Rattle.bands_rules.specs.Bands.{listFrom, BothPassesFrom};
 ghost use Rattle.strength.specs.Entries.{entriesOf};
-ghost use Rattle.df_rules.specs.Frame.{Frame};
+ghost use Rattle.df_rules.specs.Lent.{LentPicture};
 ghost use Rattle.split.specs.Accepted.{Accepted};
 ghost use Rattle.df_rules.specs.Visit.{allDone};
 ghost use Rattle.df.specs.Deblock as Deblock;
@@ -65,7 +65,7 @@ pub(crate) struct Counts {
 // theirs is done. The rows of edges are read from a map of them, where one is lent.
 pub(crate) fn passes_by(
     format: Format,
-    short: bool,
+    halved: bool,
     w: usize,
     h: usize,
     top: usize,
@@ -80,16 +80,16 @@ pub(crate) fn passes_by(
     rows: &[u8],
     entries: &[u8],
 ) -> Counts
-    requires { ⌜ Frame format (w / 4) (top + h / 4) (now y) (now u) (now v) (now words) (record { motion = now motion; refs = now refs; keep = now keep }) (now entries) × Accepted w h (now splits) × RowsLent (w / 4) (now words) (now motion) (now refs) (now rows) ⌝ }
-    ensures { λ r. ⌜ Both (record { words = now (words .entry); over = record { motion = now (motion .entry); refs = now (refs .entry); keep = now (keep .entry) } }) (now (entries .entry))
-        (w / 4) top (listFrom vertical short top (now (splits .entry)) (w / 4) (h / 4)) (listFrom horizontal short top (now (splits .entry)) (w / 4) (h / 4))
+    requires { ⌜ LentPicture format (w / 4) (top + h / 4) (now y) (now u) (now v) (now words) (record { motion = now motion; refs = now refs; keep = now keep }) (now entries) × Accepted w h (now splits) × RowsLent (w / 4) (now words) (now motion) (now refs) (now rows) ⌝ }
+    ensures { λ r. ⌜ BothPassesFrom (record { words = now (words .entry); over = record { motion = now (motion .entry); refs = now (refs .entry); keep = now (keep .entry) } }) (now (entries .entry))
+        (w / 4) top (listFrom vertical halved top (now (splits .entry)) (w / 4) (h / 4)) (listFrom horizontal halved top (now (splits .entry)) (w / 4) (h / 4))
         (record { y = now (y .entry); u = now (u .entry); v = now (v .entry) }) (record { y = now (y .exit); u = now (u .exit); v = now (v .exit) })
         (now (words .exit)) (r .vertical) (r .horizontal) ⌝ }
 {
     let m = deblock_pass(
         format,
         Pass::Vertical,
-        short,
+        halved,
         w,
         h,
         top,
@@ -107,7 +107,7 @@ pub(crate) fn passes_by(
     let n = deblock_pass(
         format,
         Pass::Horizontal,
-        short,
+        halved,
         w,
         h,
         top,
@@ -133,7 +133,7 @@ pub(crate) fn passes_by(
 // The same where no map is lent.
 pub(crate) fn both_passes(
     format: Format,
-    short: bool,
+    halved: bool,
     w: usize,
     h: usize,
     top: usize,
@@ -147,15 +147,15 @@ pub(crate) fn both_passes(
     keep: &[u8],
     entries: &[u8],
 ) -> Counts
-    requires { ⌜ Frame format (w / 4) (top + h / 4) (now y) (now u) (now v) (now words) (record { motion = now motion; refs = now refs; keep = now keep }) (now entries) × Accepted w h (now splits) ⌝ }
-    ensures { λ r. ⌜ Both (record { words = now (words .entry); over = record { motion = now (motion .entry); refs = now (refs .entry); keep = now (keep .entry) } }) (now (entries .entry))
-        (w / 4) top (listFrom vertical short top (now (splits .entry)) (w / 4) (h / 4)) (listFrom horizontal short top (now (splits .entry)) (w / 4) (h / 4))
+    requires { ⌜ LentPicture format (w / 4) (top + h / 4) (now y) (now u) (now v) (now words) (record { motion = now motion; refs = now refs; keep = now keep }) (now entries) × Accepted w h (now splits) ⌝ }
+    ensures { λ r. ⌜ BothPassesFrom (record { words = now (words .entry); over = record { motion = now (motion .entry); refs = now (refs .entry); keep = now (keep .entry) } }) (now (entries .entry))
+        (w / 4) top (listFrom vertical halved top (now (splits .entry)) (w / 4) (h / 4)) (listFrom horizontal halved top (now (splits .entry)) (w / 4) (h / 4))
         (record { y = now (y .entry); u = now (u .entry); v = now (v .entry) }) (record { y = now (y .exit); u = now (u .exit); v = now (v .exit) })
         (now (words .exit)) (r .vertical) (r .horizontal) ⌝ }
 {
     passes_by(
         format,
-        short,
+        halved,
         w,
         h,
         top,

@@ -5,7 +5,7 @@ ghost use Prim.Native.Nat.{_+_, _*_, _/_, _%_, _≤_, _<_};
 ghost use lib.ListN.{length};
 ghost use Rattle.def.specs.Picture.{rootCount};
 ghost use Rattle.bands_rules.specs.Bands.{listFrom};
-ghost use Rattle.df_rules.specs.Frame.{Frame};
+ghost use Rattle.df_rules.specs.Lent.{LentPicture};
 ghost use Rattle.split.specs.Accepted.{Accepted};
 ghost use Rattle.df.specs.Edges.{passOf};
 ghost use Rattle.df.specs.Plan.{ListedRoot, PassDone, RowsLent};
@@ -23,7 +23,7 @@ use split::Walked;
 // refused here.
 fn root_edges(
     pass: Pass,
-    short: bool,
+    halved: bool,
     w: usize,
     h: usize,
     top: usize,
@@ -32,12 +32,12 @@ fn root_edges(
     out: &mut [u16],
 ) -> usize
     requires { ⌜ Accepted w h (now splits) × (i < rootCount w h) × (length (now out) ≡ 512) × (top + h / 4 ≤ 1024) ⌝ }
-    ensures { λ r. ⌜ ListedRoot w h (now (splits .entry)) (passOf pass) short top i (now (out .exit)) r ⌝ }
+    ensures { λ r. ⌜ ListedRoot w h (now (splits .entry)) (passOf pass) halved top i (now (out .exit)) r ⌝ }
 {
     let across = (w + 63) / 64;
     let x = Pel(64 * (i % across));
     let z = Pel(64 * (i / across));
-    match edges::root_list(w, h, splits, x, z, is_horizontal(pass), short, top, out) {
+    match edges::root_list(w, h, splits, x, z, is_horizontal(pass), halved, top, out) {
         Walked::Done(n) => n,
         Walked::Refused(_) => 0,
     }
@@ -47,7 +47,7 @@ fn root_edges(
 pub(crate) fn deblock_pass(
     format: Format,
     pass: Pass,
-    short: bool,
+    halved: bool,
     w: usize,
     h: usize,
     top: usize,
@@ -62,9 +62,9 @@ pub(crate) fn deblock_pass(
     rows: &[u8],
     entries: &[u8],
 ) -> usize
-    requires { ⌜ Frame format (w / 4) (top + h / 4) (now y) (now u) (now v) (now words) (record { motion = now motion; refs = now refs; keep = now keep }) (now entries) × Accepted w h (now splits) × RowsLent (w / 4) (now words) (now motion) (now refs) (now rows) ⌝ }
+    requires { ⌜ LentPicture format (w / 4) (top + h / 4) (now y) (now u) (now v) (now words) (record { motion = now motion; refs = now refs; keep = now keep }) (now entries) × Accepted w h (now splits) × RowsLent (w / 4) (now words) (now motion) (now refs) (now rows) ⌝ }
     ensures { λ r. ⌜ PassDone (record { words = now (words .entry); over = record { motion = now (motion .entry); refs = now (refs .entry); keep = now (keep .entry) } }) (now (entries .entry))
-        (passOf pass) (w / 4) (listFrom (passOf pass) short top (now (splits .entry)) (w / 4) (h / 4))
+        (passOf pass) (w / 4) (listFrom (passOf pass) halved top (now (splits .entry)) (w / 4) (h / 4))
         (record { y = now (y .entry); u = now (u .entry); v = now (v .entry) }) (record { y = now (y .exit); u = now (u .exit); v = now (v .exit) }) r ⌝ }
 {
     let size = Size {
@@ -77,7 +77,7 @@ pub(crate) fn deblock_pass(
     let mut marks = [0u8; 256];
     let mut count = 0;
     for i in 0..roots {
-        let n = root_edges(pass, short, w, h, top, splits, i, &mut list);
+        let n = root_edges(pass, halved, w, h, top, splits, i, &mut list);
         plan(
             pass,
             size.columns,

@@ -5,7 +5,7 @@ ghost use Prim.Native.Nat.{_+_, _*_, _/_, _≤_, _<_};
 ghost use lib.ListN.{length, getD};
 ghost use Rattle.split.specs.Edges.{edge};
 ghost use Rattle.laws.specs.Bits.{fieldOf};
-ghost use Rattle.df_rules.specs.Frame.{Unit, Marked};
+ghost use Rattle.df_rules.specs.Lent.{Unit, Marked};
 ghost use Rattle.df_rules.specs.Places.{stepAcross, unitQ, unitP};
 ghost use Rattle.df.specs.Edges.{passOf};
 ghost use Rattle.df_rules.specs.Strength.{rowBy};

@@ -317,8 +317,8 @@ module _ (i : Input) (sides : sizeOk (i .w) (i .h) ≡ true) (lengths : checks.l
   abbrev each-told : (k : ℕ) → k < bands i → Told (inputOf i k (stateAfter i k))
   each-told = band-told i sides words-long (bands i) all acc
 
-  abbrev short : Bool
-  short = limit5 i sides
+  abbrev halved : Bool
+  halved = limit5 i sides
 
   abbrev walked : (k : ℕ) → k < bands i → BandDone (i .splits) (i .w / 4) (i .h / 4) (pos i sides) k
   walked k l = each-told k l .walk
@@ -355,12 +355,12 @@ module _ (i : Input) (sides : sizeOk (i .w) (i .h) ≡ true) (lengths : checks.l
       let k = b .k in
       let less = b .less in
       let from = b .from in
-      let q = calledAll (mapsOf i) (i .strengths) at c short (i .splits) W rows k p in
-      let lq = calls-long (mapsOf i) (i .strengths) at c short (i .splits) W rows (pos i sides) walked k (omega arith) p held in
+      let q = calledAll (mapsOf i) (i .strengths) at c halved (i .splits) W rows k p in
+      let lq = calls-long (mapsOf i) (i .strengths) at c halved (i .splits) W rows (pos i sides) walked k (omega arith) p held in
       let d = in-checked (stepOf c W) rows q (lq ∙ long₁) j b _ _ _ (places-step c W (rowsBefore k)) (places-step c W (lent i k)) (places-step c W (rowsAbove k - 1)) in
       let g = subst (λ (y : List ℕ). samplesOk (drop (placesOf c W (rowsAbove k - 1)) (planePart i k c y)) ≡ true) (after-plane i sides words-long (bands i) all acc x k (omega arith)) (part-small x k less) in
       let small = sample-at _ (d .q) g (d .inside) in
-      let same : getD q j 0 ≡ getD p j 0 = calls-below (mapsOf i) (i .strengths) at c short (i .splits) W rows (pos i sides) walked k (omega arith) p held j (omega (arith, places-step c W (16 * k))) in
+      let same : getD q j 0 ≡ getD p j 0 = calls-below (mapsOf i) (i .strengths) at c halved (i .splits) W rows (pos i sides) walked k (omega arith) p held j (omega (arith, places-step c W (16 * k))) in
       omega (arith, d .is, same))
 
   marks-fine : keepOk (i .keep) ≡ true
@@ -418,10 +418,10 @@ module _ (i : Input) (sides : sizeOk (i .w) (i .h) ≡ true) (lengths : checks.l
   map-long f [] = refl
   map-long f (a ∷ l) = ap suc (map-long f l)
 
-  lent-list : (d : Pass) (k : ℕ) → map (edgeDown (rowsBefore k)) (band.passEdges d (inputOf i k (stateAfter i k))) ≡ bandList d short (i .splits) (i .w / 4) (i .h / 4) k
-  lent-list d k = list-at (mapsOf i) (i .strengths) (qpY i) Luma short (i .splits) (i .w / 4) (i .h / 4) (pos i sides) walked d k
+  lent-list : (d : Pass) (k : ℕ) → map (edgeDown (rowsBefore k)) (band.passEdges d (inputOf i k (stateAfter i k))) ≡ bandList d halved (i .splits) (i .w / 4) (i .h / 4) k
+  lent-list d k = list-at (mapsOf i) (i .strengths) (qpY i) Luma halved (i .splits) (i .w / 4) (i .h / 4) (pos i sides) walked d k
 
-  list-long : (d : Pass) (k : ℕ) → length (band.passEdges d (inputOf i k (stateAfter i k))) ≡ length (bandList d short (i .splits) (i .w / 4) (i .h / 4) k)
+  list-long : (d : Pass) (k : ℕ) → length (band.passEdges d (inputOf i k (stateAfter i k))) ≡ length (bandList d halved (i .splits) (i .w / 4) (i .h / 4) k)
   list-long d k = sym (map-long (edgeDown (rowsBefore k)) (band.passEdges d (inputOf i k (stateAfter i k)))) ∙ ap length (lent-list d k)
 
   abbrev countIn : Pass → State → ℕ
@@ -436,16 +436,16 @@ module _ (i : Input) (sides : sizeOk (i .w) (i .h) ≡ true) (lengths : checks.l
   none-counted vertical = refl
   none-counted horizontal = refl
 
-  counted : (d : Pass) (k : ℕ) → k ≤ bands i → countIn d (stateAfter i k) ≡ length (joined-lists (bandList d short (i .splits) (i .w / 4) (i .h / 4)) k)
+  counted : (d : Pass) (k : ℕ) → k ≤ bands i → countIn d (stateAfter i k) ≡ length (joined-lists (bandList d halved (i .splits) (i .w / 4) (i .h / 4)) k)
   unfolding stateAfter joined-lists
   counted d zero l = none-counted d
   counted d (suc k) l =
-      let f = bandList d short (i .splits) (i .w / 4) (i .h / 4) in
+      let f = bandList d halved (i .splits) (i .w / 4) (i .h / 4) in
       ap (λ (o : band.Outcome). countIn d (after i k (stateAfter i k) o)) (is-done _ (fine _ (acc k l)))
       ∙ counted-one d k ∙ ap₂ _+_ (counted d k (omega arith)) (list-long d k) ∙ sym (length-append (joined-lists f k) (f k))
 
-  all-lists : (d : Pass) → passEdges d i ≡ joined-lists (bandList d short (i .splits) (i .w / 4) (i .h / 4)) (bands i)
-  all-lists d = lists-joined d short (i .splits) (i .w / 4) (i .h / 4) (pos i sides)
+  all-lists : (d : Pass) → passEdges d i ≡ joined-lists (bandList d halved (i .splits) (i .w / 4) (i .h / 4)) (bands i)
+  all-lists d = lists-joined d halved (i .splits) (i .w / 4) (i .h / 4) (pos i sides)
 
   -- ---- all of it
 
@@ -454,9 +454,9 @@ module _ (i : Input) (sides : sizeOk (i .w) (i .h) ≡ true) (lengths : checks.l
   outcome-plane u-plane = refl
   outcome-plane v-plane = refl
 
-  abbrev fill : (x : Plane) → calledAll (mapsOf i) (i .strengths) (mappedAs x i) (componentOf x) short (i .splits) (i .w / 4) (i .h / 4) (bands i) (planeIn x i) ≡ planeAfter x (outcome i)
+  abbrev fill : (x : Plane) → calledAll (mapsOf i) (i .strengths) (mappedAs x i) (componentOf x) halved (i .splits) (i .w / 4) (i .h / 4) (bands i) (planeIn x i) ≡ planeAfter x (outcome i)
   fill x =
-      calls-finished (mapsOf i) (i .strengths) (mappedAs x i) (componentOf x) short (i .splits) (i .w / 4) (i .h / 4) (pos i sides) walked (planeIn x i) (held-plane i sides lengths x)
+      calls-finished (mapsOf i) (i .strengths) (mappedAs x i) (componentOf x) halved (i .splits) (i .w / 4) (i .h / 4) (pos i sides) walked (planeIn x i) (held-plane i sides lengths x)
       ∙ sym (outcome-plane x) ∙ ap (planeAfter x) (sym is-whole)
 
   pub joined : Joined i
@@ -470,9 +470,9 @@ module _ (i : Input) (sides : sizeOk (i .w) (i .h) ≡ true) (lengths : checks.l
         next = position i sides words-long (bands i) all acc;
         finals = λ x k l j h.
             ap (λ (q : List ℕ). getD q j 0) (after-plane i sides words-long (bands i) all acc x k l)
-            ∙ calls-final (mapsOf i) (i .strengths) (mappedAs x i) (componentOf x) short (i .splits) (i .w / 4) (i .h / 4) (pos i sides) walked k l (planeIn x i) (held-plane i sides lengths x) j h
+            ∙ calls-final (mapsOf i) (i .strengths) (mappedAs x i) (componentOf x) halved (i .splits) (i .w / 4) (i .h / 4) (pos i sides) walked k l (planeIn x i) (held-plane i sides lengths x) j h
             ∙ ap (λ (q : List ℕ). getD q j 0) (fill x);
-        edges = demand-3 short (i .splits) (i .w / 4) (i .h / 4) (pos i sides) (walks-joined (i .splits) (i .w / 4) (i .h / 4) (pos i sides) walked);
+        edges = demand-3 halved (i .splits) (i .w / 4) (i .h / 4) (pos i sides) (walks-joined (i .splits) (i .w / 4) (i .h / 4) (pos i sides) walked);
         lists = all-lists;
         lent-lists = λ d k l. lent-list d k;
       }

@@ -107,8 +107,8 @@ module _ (i : Input) (ok : check i ≡ Done) where
   abbrev rows : ℕ
   rows = i .h / 4
 
-  abbrev short : Bool
-  short = eqb (i .settings .limit) 5
+  abbrev halved : Bool
+  halved = eqb (i .settings .limit) 5
 
   abbrev four : i .w % 4 ≡ 0
   four = sized (i .w) (i .h) size .by-four
@@ -159,7 +159,7 @@ module _ (i : Input) (ok : check i ≡ Done) where
     plane-long x =
         let c = componentOf x in
         let long = ap length (after-plane i size words-long n few acc x n here)
-        ∙ calls-long (mapsOf i) (i .strengths) (mappedAs x i) c short (i .splits) W rows (pos i size) walked n few (planeIn x i) (held-plane i size lengths x) ∙ long-plane i size lengths x in
+        ∙ calls-long (mapsOf i) (i .strengths) (mappedAs x i) c halved (i .splits) W rows (pos i size) walked n few (planeIn x i) (held-plane i size lengths x) ∙ long-plane i size lengths x in
         part-in x (i .settings .format) (planeOf x (stateAfter i n)) (placesOf c W (rowsBefore n)) (placesOf c W (lent i n)) (placesOf c W rows) long
         (λ e. rows-lent (stepOf c W) (planeOf x (stateAfter i n)) _ _ (e ∙ places-step c W rows) (places-step c W (rowsBefore n)) (places-step c W (lent i n)))
 
@@ -167,7 +167,7 @@ module _ (i : Input) (ok : check i ≡ Done) where
     plane-small x a =
         let c = componentOf x in
         let small : Samples (planeOf x (stateAfter i n)) = subst Samples (sym (after-plane i size words-long n few acc x n here))
-        (calls-small (mapsOf i) (i .strengths) (mappedAs x i) c short (i .splits) W rows (pos i size) walked n few (planeIn x i) (held-plane i size lengths x) (samples-fine x)) in
+        (calls-small (mapsOf i) (i .strengths) (mappedAs x i) c halved (i .splits) W rows (pos i size) walked n few (planeIn x i) (held-plane i size lengths x) (samples-fine x)) in
         samples-pass _ (λ k h. part-all (λ (v : ℕ). v ≤ 1023) (planeOf x (stateAfter i n)) small a (placesOf c W (lent i n)) (placesOf c W (rowsBefore n)) k h)
 
     marks-small : (a : ℕ) → keepOk (drop a (j .keep)) ≡ true

@@ -17,10 +17,10 @@ use Rattle.df.specs.Deblock.{Input, passEdges, qpY, qpU, qpV, mapsOf, outcome}
 -- a plane after filtering the same edges row by row, left to right, all vertical edges first
 abbrev pub byRows : Input → Component → (ℕ → ℕ) → List ℕ → List ℕ
 byRows i c at p =
-    let short = eqb (i .settings .limit) 5 in
+    let halved = eqb (i .settings .limit) 5 in
     let w = i .w / 4 in
     let h = i .h / 4 in
-    finished (mapsOf i) (i .strengths) at c w (rowList vertical short (i .splits) w h) (rowList horizontal short (i .splits) w h) p
+    finished (mapsOf i) (i .strengths) at c w (rowList vertical halved (i .splits) w h) (rowList horizontal halved (i .splits) w h) p
 
 pub record Kept (i : Input) : Type 0 where
   -- which edges, each once, no other, in which order; and that the order row by row leaves the same planes

@@ -16,7 +16,7 @@ use Rattle.laws.proofs.Orders.{run-append}
 use Rattle.laws.proofs.Flat.{flat-within}
 use Rattle.split.specs.Edges.{Pass, vertical, horizontal, Edge, edgeAt, stretch}
 use Rattle.split.specs.Rows.{crossOf, alongOf}
-use Rattle.df_rules.specs.Frame.{Unit, Marked, Frame, unitsAcross, unitsAlong, AtUnit}
+use Rattle.df_rules.specs.Lent.{Unit, Marked, LentPicture, unitsAcross, unitsAlong, AtUnit}
 use Rattle.df_rules.specs.Filter.{Planes, filterOne, filterAll}
 use Rattle.df_rules.specs.Places.{stepAcross, stepAlong, lineStart, unitQ, unitP}
 use Rattle.df_rules.specs.Strength.{Over}
@@ -33,7 +33,7 @@ module _ (w h : ℕ) where
   p-before vertical c a p = omega arith
   p-before horizontal c a p = omega (arith, mul-le-mul-right {m = 1} {n = c} w p)
 
-  module _ {format : Format} {y u v words : List ℕ} {over : Over} {entries : List ℕ} (f : Frame format w h y u v words over entries) where
+  module _ {format : Format} {y u v words : List ℕ} {over : Over} {entries : List ℕ} (f : LentPicture format w h y u v words over entries) where
     -- what is known of the picture's units
     pub unit-of : (k : ℕ) → k < h * w → Unit words (over .motion) (over .refs) k
     unit-of k p = record { word = omega (arith, f .long-words); mv = omega (arith, f .long-motion); refi = omega (arith, f .long-refs); qp = f .qps k }

@@ -33,29 +33,29 @@ raster w e f p o =
     ⊎-elim (λ z. let q = flat-within (e .y) (e .x) w (f .y) p z in omega arith)
     (λ z. let q = ap (λ (y : ℕ). y * w) (z .0) in let r = z .1 in omega arith) o
 
-module _ (short : Bool) (s : List ℕ) (w h : ℕ) (pos : 1 ≤ w) (accepted : pictureWalk s w h .answer ≡ Done) where
-  abbrev row-edges : (d : Pass) (e : Edge) → List·Memᴰ e (rowList d short s w h) ↔ EdgeOf d short s w h e
-  row-edges = row-members short s w h pos accepted
+module _ (halved : Bool) (s : List ℕ) (w h : ℕ) (pos : 1 ≤ w) (accepted : pictureWalk s w h .answer ≡ Done) where
+  abbrev row-edges : (d : Pass) (e : Edge) → List·Memᴰ e (rowList d halved s w h) ↔ EdgeOf d halved s w h e
+  row-edges = row-members halved s w h pos accepted
 
-  rows : (d : Pass) → RowByRow d short s w h (rowList d short s w h)
+  rows : (d : Pass) → RowByRow d halved s w h (rowList d halved s w h)
   rows d = record {
     members = row-edges d;
-    order = pairwise-imp (rowList d short s w h) (λ e f i j o. raster w e f (row-edges d e .0 i .column) o) (rows-order _ w h);
+    order = pairwise-imp (rowList d halved s w h) (λ e f i j o. raster w e f (row-edges d e .0 i .column) o) (rows-order _ w h);
   }
 
-  only-rows : (d : Pass) (l : List Edge) → RowByRow d short s w h l → l ≡ rowList d short s w h
-  only-rows d l r = same-list (λ e f. unitQ w e < unitQ w f) (λ e z. omega arith) (λ e f y z. omega arith) l (rowList d short s w h) (r .order) (rows d .order)
+  only-rows : (d : Pass) (l : List Edge) → RowByRow d halved s w h l → l ≡ rowList d halved s w h
+  only-rows d l r = same-list (λ e f. unitQ w e < unitQ w f) (λ e z. omega arith) (λ e f y z. omega arith) l (rowList d halved s w h) (r .order) (rows d .order)
       (λ e i. row-edges d e .1 (r .members e .0 i)) (λ e i. r .members e .1 (row-edges d e .0 i))
 
   planes : (m : Maps) (t : List ℕ) (at : ℕ → ℕ) (c : Component) (p : List ℕ)
-      → finished m t at c w (edgeList vertical short s w h) (edgeList horizontal short s w h) p
-      ≡ finished m t at c w (rowList vertical short s w h) (rowList horizontal short s w h) p
+      → finished m t at c w (edgeList vertical halved s w h) (edgeList horizontal halved s w h) p
+      ≡ finished m t at c w (rowList vertical halved s w h) (rowList horizontal halved s w h) p
   planes m t at c p =
-      filtered-rows short s w h pos accepted horizontal m t at c _
-      ∙ ap (run (filtered m t at horizontal c w) (rowList horizontal short s w h)) (filtered-rows short s w h pos accepted vertical m t at c p)
+      filtered-rows halved s w h pos accepted horizontal m t at c _
+      ∙ ap (run (filtered m t at horizontal c w) (rowList horizontal halved s w h)) (filtered-rows halved s w h pos accepted vertical m t at c p)
 
-  pub demand-3 : Demand3 short s w h
-  demand-3 = record { lists = lists-3 short s w h pos accepted; rows = rows; only-rows = only-rows; planes = planes }
+  pub demand-3 : Demand3 halved s w h
+  demand-3 = record { lists = lists-3 halved s w h pos accepted; rows = rows; only-rows = only-rows; planes = planes }
 
-pub accepted-demand-3 : (short : Bool) (s : List ℕ) (w h : ℕ) → Accepted w h s → Demand3 short s (w / 4) (h / 4)
-accepted-demand-3 short s w h a = demand-3 short s (w / 4) (h / 4) (some-wide (sized w h (a .size))) (a .walked)
+pub accepted-demand-3 : (halved : Bool) (s : List ℕ) (w h : ℕ) → Accepted w h s → Demand3 halved s (w / 4) (h / 4)
+accepted-demand-3 halved s w h a = demand-3 halved s (w / 4) (h / 4) (some-wide (sized w h (a .size))) (a .walked)

@@ -23,7 +23,7 @@ use Rattle.line.specs.Line.{lineOf}
 use Rattle.line.proofs.Lines.{line-zero}
 use Rattle.split.specs.Edges.{Pass, vertical, horizontal}
 use Rattle.split.proofs.Induct.{test}
-use Rattle.df_rules.specs.Frame.{unitsAcross, unitsAlong}
+use Rattle.df_rules.specs.Lent.{unitsAcross, unitsAlong}
 use Rattle.df_rules.specs.Lanes.{samplesAt, putLine, putLines, Apart}
 use Rattle.df_rules.specs.Places.{stepAcross, stepAlong}
 use Rattle.df_rules.specs.Window.{quadAt, putIf, lineAt, linesAt, windowAt, Samples}

@@ -2,7 +2,7 @@ pub mod Alikes
 pub mod Edges
 pub mod Example
 pub mod Finished
-pub mod Frames
+pub mod LentPlanes
 pub mod Lanes
 pub mod Local
 pub mod Moves

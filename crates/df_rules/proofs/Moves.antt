@@ -495,8 +495,8 @@ both-move mp t at c w ups levels o p xs small =
 
 -- ---- the lists of a picture whose walk is accepted
 
-pub listed-once : (short : Bool) (s : List ℕ) (w h : ℕ) → Demand3 short s w h → (d : Pass) → Once d w (edgeList d short s w h)
-listed-once short s w h d3 d = record {
+pub listed-once : (halved : Bool) (s : List ℕ) (w h : ℕ) → Demand3 halved s w h → (d : Pass) → Once d w (edgeList d halved s w h)
+listed-once halved s w h d3 d = record {
   inner = λ e i. let o = d3 .members d e .0 i in record { before = o .sure .inner; column = o .column };
   apart = d3 .once d;
 }

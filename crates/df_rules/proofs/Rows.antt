@@ -68,39 +68,39 @@ windowed k d c w st e o p = window-local _ k st _ _ _ _ (unit-along (unitSide c)
 
 -- ---- the two lists
 
-module _ (short : Bool) (s : List ℕ) (w h : ℕ) (pos : 1 ≤ w) (accepted : pictureWalk s w h .answer ≡ Done) (d : Pass) where
+module _ (halved : Bool) (s : List ℕ) (w h : ℕ) (pos : 1 ≤ w) (accepted : pictureWalk s w h .answer ≡ Done) (d : Pass) where
   -- what either list has of an edge and one that follows it
   record Follows (e f : Edge) : Type 0 where
-    first : EdgeOf d short s w h e
-    second : EdgeOf d short s w h f
+    first : EdgeOf d halved s w h e
+    second : EdgeOf d halved s w h f
     across : Across d e f
 
-  listed : Pairwise Follows (edgeList d short s w h)
-  listed = pairwise-imp (edgeList d short s w h)
-      (λ e f i j o. record { first = members short s w h pos accepted d e .0 i; second = members short s w h pos accepted d f .0 j; across = o })
-      (across-order short s w h pos accepted d)
+  listed : Pairwise Follows (edgeList d halved s w h)
+  listed = pairwise-imp (edgeList d halved s w h)
+      (λ e f i j o. record { first = members halved s w h pos accepted d e .0 i; second = members halved s w h pos accepted d f .0 j; across = o })
+      (across-order halved s w h pos accepted d)
 
-  pub row-members : (e : Edge) → List·Memᴰ e (rowList d short s w h) ↔ EdgeOf d short s w h e
+  pub row-members : (e : Edge) → List·Memᴰ e (rowList d halved s w h) ↔ EdgeOf d halved s w h e
   row-members e =
-      let a = members short s w h pos accepted d e in
-      let b = same-members short s w h pos accepted d e in
+      let a = members halved s w h pos accepted d e in
+      let b = same-members halved s w h pos accepted d e in
       (λ i. a .0 (b .1 i), λ o. b .0 (a .1 o))
 
-  by-rows : Pairwise Follows (rowList d short s w h)
-  by-rows = pairwise-imp (rowList d short s w h) (λ e f i j o. record { first = row-members e .0 i; second = row-members f .0 j; across = o }) (rows-across short s w h pos accepted d)
+  by-rows : Pairwise Follows (rowList d halved s w h)
+  by-rows = pairwise-imp (rowList d halved s w h) (λ e f i j o. record { first = row-members e .0 i; second = row-members f .0 j; across = o }) (rows-across halved s w h pos accepted d)
 
   -- two edges of one place along follow each other in one way only, so the two lists differ in pairs that commute
-  module _ (key : ℕ → ℕ) (step : Edge → List ℕ → List ℕ) (near : (e : Edge) → EdgeOf d short s w h e → Local (Keyed key (alongOf d e)) (step e)) where
+  module _ (key : ℕ → ℕ) (step : Edge → List ℕ → List ℕ) (near : (e : Edge) → EdgeOf d halved s w h e → Local (Keyed key (alongOf d e)) (step e)) where
     either-way : (e f : Edge) → Follows e f → Follows f e → (xs : List ℕ) → step e (step f xs) ≡ step f (step e xs)
     either-way e f o p =
         commute key (alongOf d e) (alongOf d f) (step e) (step f) (near e (o .first)) (near f (o .second))
         (λ q. let a = o .across q in let b = p .across (sym q) in omega arith)
 
-    steps-rows : (xs : List ℕ) → run step (edgeList d short s w h) xs ≡ run step (rowList d short s w h) xs
+    steps-rows : (xs : List ℕ) → run step (edgeList d halved s w h) xs ≡ run step (rowList d halved s w h) xs
     steps-rows =
-        same-run step Follows (λ e o. let a = o .across refl in omega arith) either-way (edgeList d short s w h) (rowList d short s w h) listed by-rows
-        (λ e. same-members short s w h pos accepted d e .0) (λ e. same-members short s w h pos accepted d e .1)
+        same-run step Follows (λ e o. let a = o .across refl in omega arith) either-way (edgeList d halved s w h) (rowList d halved s w h) listed by-rows
+        (λ e. same-members halved s w h pos accepted d e .0) (λ e. same-members halved s w h pos accepted d e .1)
 
   pub filtered-rows : (m : Maps) (t : List ℕ) (at : ℕ → ℕ) (c : Component) (xs : List ℕ)
-      → run (filtered m t at d c w) (edgeList d short s w h) xs ≡ run (filtered m t at d c w) (rowList d short s w h) xs
+      → run (filtered m t at d c w) (edgeList d halved s w h) xs ≡ run (filtered m t at d c w) (rowList d halved s w h) xs
   filtered-rows m t at c = steps-rows (unitAlong d (unitSide c) w) (filtered m t at d c w) (λ e o. windowed _ d c w _ e (o .sure .inner) (o .column))

@@ -1,6 +1,6 @@
 pub mod Demand3
 pub mod Filter
-pub mod Frame
+pub mod Lent
 pub mod Lanes
 pub mod Moves
 pub mod Places

@@ -96,12 +96,12 @@ module _ (b : Bool) (cross along : ℕ) where
 
   -- ---- a leaf's
 
-  pub leaf-plain : (short : Bool) (side : ℕ) → (short && eqb side 64) ≡ false → nearNumbers b cross along (side / 4) ≡ leafEdgeNumbers b short cross along side
-  leaf-plain short side e = rw e (sym (append-nil _))
+  pub leaf-plain : (halved : Bool) (side : ℕ) → (halved && eqb side 64) ≡ false → nearNumbers b cross along (side / 4) ≡ leafEdgeNumbers b halved cross along side
+  leaf-plain halved side e = rw e (sym (append-nil _))
 
-  pub leaf-halves : (short : Bool) (side : ℕ) → (short && eqb side 64) ≡ true
-      → nearNumbers b cross along (side / 4) ++ stretchNumbers b (cross + 32) along 16 ≡ leafEdgeNumbers b short cross along side
-  leaf-halves short side e = rw e
+  pub leaf-halves : (halved : Bool) (side : ℕ) → (halved && eqb side 64) ≡ true
+      → nearNumbers b cross along (side / 4) ++ stretchNumbers b (cross + 32) along 16 ≡ leafEdgeNumbers b halved cross along side
+  leaf-halves halved side e = rw e
 
 -- ---- the room that a leaf's edges take
 
@@ -120,5 +120,5 @@ half-room b cross along at k m side e c r =
     let n : side / 4 * (side / 4) ≡ 256 = ap (λ (i : ℕ). i * i) q in
     omega (arith, near-long b cross along (side / 4))
 
-pub whole-root : (short : Bool) (side : ℕ) → (short && eqb side 64) ≡ true → side ≡ 64
-whole-root short side e = eqb-true _ _ (and-true short (eqb side 64) e .1)
+pub whole-root : (halved : Bool) (side : ℕ) → (halved && eqb side 64) ≡ true → side ≡ 64
+whole-root halved side e = eqb-true _ _ (and-true halved (eqb side 64) e .1)

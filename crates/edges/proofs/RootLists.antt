@@ -145,12 +145,12 @@ module _ (i : root-call.Input) where
           ∙ ap (λ (b : ℕ). afterChecks (leaves-call.refused (leavesInput i list)) (leaves-call.done (leavesInput i list))
           (leaves-call.checkOf (i .w) (i .h) (i .splits) (i .x) (i .y) b)) room)
 
-      pub root-done : (out : List ℕ) (k : ℕ) → Put (each edgeNumbers (edgesOf (passOf (i .horizontal)) (i .short) (map (leafDown (i .top)) (leavesFrom o n)))) (i .out) 0 out k
+      pub root-done : (out : List ℕ) (k : ℕ) → Put (each edgeNumbers (edgesOf (passOf (i .horizontal)) (i .halved) (map (leafDown (i .top)) (leavesFrom o n)))) (i .out) 0 out k
           → Gives root-call.outcome i (leaves-call.after (Counted (k / 2)) out)
       unfolding root-call.outcome
       root-done out k z =
-          let es = edgesOf (passOf (i .horizontal)) (i .short) (map (leafDown (i .top)) (leavesFrom o n)) in
+          let es = edgesOf (passOf (i .horizontal)) (i .halved) (map (leafDown (i .top)) (leavesFrom o n)) in
           let half : k / 2 ≡ length es = omega (arith, z .count, edges-twice es) in
-          let same : es ≡ root-call.edgesAt i = ap (λ (l : List Leaf). edgesOf (passOf (i .horizontal)) (i .short) (map (leafDown (i .top)) l)) (t .back) in
+          let same : es ≡ root-call.edgesAt i = ap (λ (l : List Leaf). edgesOf (passOf (i .horizontal)) (i .halved) (map (leafDown (i .top)) l)) (t .back) in
           (λ j. leaves-call.after (Counted (half j)) (z .put j)) ∙ ap (λ (l : List Edge). leaves-call.after (Counted (length l)) (sets (i .out) 0 (each edgeNumbers l))) same
           ∙ ap (afterChecks (root-call.refused i) (root-call.done i)) (sym (check-is ∙ fine))

@@ -54,25 +54,25 @@ whole-side n e = go (ℕ-discrete n 64) where
   go (yes p) = rw p
   go (no p) = ne-eqb n 64 p ∙ sym (ne-eqb (n / 4) 16 (λ q. p (omega arith)))
 
-module _ (b short : Bool) {x y side : ℕ} (l : LeafAt x y side) where
+module _ (b halved : Bool) {x y side : ℕ} (l : LeafAt x y side) where
   abbrev p : Leaf
   p = leaf′ (x / 4) (y / 4) (side / 4)
 
   -- in the pass's own coordinates
   in-pass : (t : Bool) (cross along : ℕ) → cross % 4 ≡ 0 → X (passOf t) p ≡ cross / 4 → Y (passOf t) p ≡ along / 4
-      → leafEdgeNumbers t short cross along side ≡ each edgeNumbers (leafEdges (passOf t) short p)
+      → leafEdgeNumbers t halved cross along side ≡ each edgeNumbers (leafEdges (passOf t) halved p)
   unfolding leafEdges
   in-pass t cross along e f g =
       let d = passOf t in
       let half : (cross + 32) / 4 ≡ cross / 4 + 8 = omega arith in
       sym (rw (f, g, ← some-across cross e, ← whole-side side (l .units))
-      (each-append edgeNumbers (pick (ltb 0 cross) (stretch d (cross / 4) (along / 4) (side / 4)) []) (pick (short && eqb side 64) (stretch d (cross / 4 + 8) (along / 4) 16) [])
+      (each-append edgeNumbers (pick (ltb 0 cross) (stretch d (cross / 4) (along / 4) (side / 4)) []) (pick (halved && eqb side 64) (stretch d (cross / 4 + 8) (along / 4) 16) [])
       ∙ ap₂ _++_ (each-pick edgeNumbers (ltb 0 cross) (stretch d (cross / 4) (along / 4) (side / 4)))
-      (each-pick edgeNumbers (short && eqb side 64) (stretch d (cross / 4 + 8) (along / 4) 16) ∙ rw half)))
+      (each-pick edgeNumbers (halved && eqb side 64) (stretch d (cross / 4 + 8) (along / 4) 16) ∙ rw half)))
 
-  pub leaf-numbers : (cross along : ℕ) → cross ≡ pick b y x → along ≡ pick b x y → leafEdgeNumbers b short cross along side ≡ each edgeNumbers (each (nearEdge (passOf b)) (visitOf (passOf b) short p))
-  leaf-numbers cross along e f = rw (e, f) (go b ∙ ap (each edgeNumbers) (sym (visit-edges (passOf b) short p))) where
-    go : (t : Bool) → leafEdgeNumbers t short (pick t y x) (pick t x y) side ≡ each edgeNumbers (leafEdges (passOf t) short p)
+  pub leaf-numbers : (cross along : ℕ) → cross ≡ pick b y x → along ≡ pick b x y → leafEdgeNumbers b halved cross along side ≡ each edgeNumbers (each (nearEdge (passOf b)) (visitOf (passOf b) halved p))
+  leaf-numbers cross along e f = rw (e, f) (go b ∙ ap (each edgeNumbers) (sym (visit-edges (passOf b) halved p))) where
+    go : (t : Bool) → leafEdgeNumbers t halved (pick t y x) (pick t x y) side ≡ each edgeNumbers (leafEdges (passOf t) halved p)
     go true = in-pass true y x (l .row) refl refl
     go false = in-pass false x y (l .column) refl refl
 
@@ -85,20 +85,20 @@ module _ (b short : Bool) {x y side : ℕ} (l : LeafAt x y side) where
 
 -- ---- the edges of the leaves of a list
 
-module _ (d : Pass) (short : Bool) where
+module _ (d : Pass) (halved : Bool) where
   -- as they are written
   abbrev pub numbersOf : List Leaf → List ℕ
-  numbersOf l = each edgeNumbers (edgesOf d short l)
+  numbersOf l = each edgeNumbers (edgesOf d halved l)
 
   pub numbers-append : (l m : List Leaf) → numbersOf (l ++ m) ≡ numbersOf l ++ numbersOf m
   numbers-append l m =
-      ap (λ (v : List Visit). each edgeNumbers (each (nearEdge d) v)) (each-append (visitOf d short) l m)
-      ∙ ap (each edgeNumbers) (each-append (nearEdge d) (each (visitOf d short) l) (each (visitOf d short) m))
-      ∙ each-append edgeNumbers (edgesOf d short l) (edgesOf d short m)
+      ap (λ (v : List Visit). each edgeNumbers (each (nearEdge d) v)) (each-append (visitOf d halved) l m)
+      ∙ ap (each edgeNumbers) (each-append (nearEdge d) (each (visitOf d halved) l) (each (visitOf d halved) m))
+      ∙ each-append edgeNumbers (edgesOf d halved l) (edgesOf d halved m)
 
-  numbers-one : (p : Leaf) → numbersOf (p ∷ []) ≡ each edgeNumbers (each (nearEdge d) (visitOf d short p))
+  numbers-one : (p : Leaf) → numbersOf (p ∷ []) ≡ each edgeNumbers (each (nearEdge d) (visitOf d halved p))
   unfolding each
-  numbers-one p = ap (λ (v : List Visit). each edgeNumbers (each (nearEdge d) v)) (append-nil (visitOf d short p))
+  numbers-one p = ap (λ (v : List Visit). each edgeNumbers (each (nearEdge d) v)) (append-nil (visitOf d halved p))
 
   pub numbers-none : numbersOf [] ≡ []
   unfolding each
@@ -106,7 +106,7 @@ module _ (d : Pass) (short : Bool) where
 
   pub numbers-long : (l : List Leaf) → ((p : Leaf) → List·Memᴰ p l → 1 ≤ p .side) → length (numbersOf l) ≤ 2 * area l
   numbers-long l f =
-      omega (arith, edges-twice (edgesOf d short l), ap length (each-each (nearEdge d) (visitOf d short) (leafEdges d short) (visit-edges d short) l), edges-length d short l f)
+      omega (arith, edges-twice (edgesOf d halved l), ap length (each-each (nearEdge d) (visitOf d halved) (leafEdges d halved) (visit-edges d halved) l), edges-length d halved l f)
 
 pub map-append : {A B : Type 0} (f : A → B) (l m : List A) → map f (l ++ m) ≡ map f l ++ map f m
 map-append f [] m = refl
@@ -150,20 +150,20 @@ area-rises list j (suc m) = rw add-suc (omega (arith, area-rises list j m, area-
 -- ---- the loop over a list's leaves
 
 -- the edges of j leaves are written
-pub record Written (b short : Bool) (top : ℕ) (list : List ℕ) (out₀ : List ℕ) (at : ℕ) (out : List ℕ) (j k : ℕ) : Type 0 where
-  pub written : Put (numbersOf (passOf b) short (leavesDown top list j)) out₀ at out k
+pub record Written (b halved : Bool) (top : ℕ) (list : List ℕ) (out₀ : List ℕ) (at : ℕ) (out : List ℕ) (j k : ℕ) : Type 0 where
+  pub written : Put (numbersOf (passOf b) halved (leavesDown top list j)) out₀ at out k
 
-pub none-written : (b short : Bool) (top : ℕ) (list out : List ℕ) (at : ℕ) → Written b short top list out at out 0 at
+pub none-written : (b halved : Bool) (top : ℕ) (list out : List ℕ) (at : ℕ) → Written b halved top list out at out 0 at
 unfolding leavesFrom
-none-written b short top list out at = record { written = put-as (sym (numbers-none (passOf b) short)) (put-none out at) }
+none-written b halved top list out at = record { written = put-as (sym (numbers-none (passOf b) halved)) (put-none out at) }
 
-pub all-written : {b short : Bool} {top : ℕ} {list out₀ : List ℕ} {at : ℕ} {out : List ℕ} {j k n : ℕ} → Written b short top list out₀ at out j k → n ≤ j → j ≤ n
-    → Put (numbersOf (passOf b) short (leavesDown top list n)) out₀ at out k
-all-written {b} {short} {top} {list} {out₀} {at} {out} {j} {k} {n} z p q =
+pub all-written : {b halved : Bool} {top : ℕ} {list out₀ : List ℕ} {at : ℕ} {out : List ℕ} {j k n : ℕ} → Written b halved top list out₀ at out j k → n ≤ j → j ≤ n
+    → Put (numbersOf (passOf b) halved (leavesDown top list n)) out₀ at out k
+all-written {b} {halved} {top} {list} {out₀} {at} {out} {j} {k} {n} z p q =
     let e : j ≡ n = omega arith in
-    put-as (ap (λ (i : ℕ). numbersOf (passOf b) short (leavesDown top list i)) e) (z .written)
+    put-as (ap (λ (i : ℕ). numbersOf (passOf b) halved (leavesDown top list i)) e) (z .written)
 
-module _ {b short : Bool} {top : ℕ} {list : List ℕ} {n : ℕ} (r : ReadyAt top list n) {out₀ : List ℕ} {at : ℕ} {out : List ℕ} {j k : ℕ} (z : Written b short top list out₀ at out j k) (h : j < n)
+module _ {b halved : Bool} {top : ℕ} {list : List ℕ} {n : ℕ} (r : ReadyAt top list n) {out₀ : List ℕ} {at : ℕ} {out : List ℕ} {j k : ℕ} (z : Written b halved top list out₀ at out j k) (h : j < n)
     {x y side cross along : ℕ} (ex : x ≡ getD list (3 * j) 0) (ey : y ≡ getD list (3 * j + 1) 0 + 4 * top) (es : side ≡ getD list (3 * j + 2) 0)
     (ec : cross ≡ pick b y x) (ea : along ≡ pick b x y) where
   leaf : LeafAt x y side
@@ -176,7 +176,7 @@ module _ {b short : Bool} {top : ℕ} {list : List ℕ} {n : ℕ} (r : ReadyAt t
       (omega (
         arith,
         z .written .count,
-        numbers-long (passOf b) short (leavesDown top list j) (some-sides r j (omega arith)),
+        numbers-long (passOf b) halved (leavesDown top list j) (some-sides r j (omega arith)),
         area-down top (leavesFrom list j),
         area-more list j,
         area-rises list (suc j) (n - suc j),
@@ -185,42 +185,42 @@ module _ {b short : Bool} {top : ℕ} {list : List ℕ} {n : ℕ} (r : ReadyAt t
 
   -- what the next leaf asks
   pub leaf-asks : (m : ℕ) → at + 2 * area (leavesFrom list n) ≤ m → Starts cross along (side / 4) × (cross ≤ 4096) × (4 ≤ side) × (k + 2 * (side / 4 * (side / 4)) ≤ m)
-  leaf-asks m g = let q = leaf-starts b short leaf cross along ec ea in (q .0, q .1, q .2, room m g)
+  leaf-asks m g = let q = leaf-starts b halved leaf cross along ec ea in (q .0, q .1, q .2, room m g)
 
-  pub one-written : (out₁ : List ℕ) (k₁ : ℕ) → Put (leafEdgeNumbers b short cross along side) out k out₁ k₁ → Written b short top list out₀ at out₁ (j + 1) k₁
+  pub one-written : (out₁ : List ℕ) (k₁ : ℕ) → Put (leafEdgeNumbers b halved cross along side) out k out₁ k₁ → Written b halved top list out₀ at out₁ (j + 1) k₁
   one-written out₁ k₁ g =
       let lower : y / 4 ≡ getD list (3 * j + 1) 0 / 4 + top = omega arith in
-      let e : each edgeNumbers (each (nearEdge (passOf b)) (visitOf (passOf b) short (leaf′ (x / 4) (y / 4) (side / 4)))) ≡ numbersOf (passOf b) short (leafDown top (leafFrom list j) ∷ [])
-      = rw (ex, lower, es) (sym (numbers-one (passOf b) short (leafDown top (leafFrom list j)))) in
+      let e : each edgeNumbers (each (nearEdge (passOf b)) (visitOf (passOf b) halved (leaf′ (x / 4) (y / 4) (side / 4)))) ≡ numbersOf (passOf b) halved (leafDown top (leafFrom list j) ∷ [])
+      = rw (ex, lower, es) (sym (numbers-one (passOf b) halved (leafDown top (leafFrom list j)))) in
       record {
         written =
             rw (add-one j)
-            (put-as (sym (ap (numbersOf (passOf b) short) (down-more top list j) ∙ numbers-append (passOf b) short (leavesDown top list j) (leafDown top (leafFrom list j) ∷ [])))
-            (put-then (z .written) (put-as (leaf-numbers b short leaf cross along ec ea ∙ e) g)));
+            (put-as (sym (ap (numbersOf (passOf b) halved) (down-more top list j) ∙ numbers-append (passOf b) halved (leavesDown top list j) (leafDown top (leafFrom list j) ∷ [])))
+            (put-then (z .written) (put-as (leaf-numbers b halved leaf cross along ec ea ∙ e) g)));
       }
 
 -- ---- the loop over a picture's roots
 
 -- the edges of i roots are written
-pub record Rooted (b short : Bool) (s : List ℕ) (w h : ℕ) (out₀ out : List ℕ) (i k : ℕ) : Type 0 where
-  pub written : Put (numbersOf (passOf b) short (leavesOf s w h i)) out₀ 0 out k
+pub record Rooted (b halved : Bool) (s : List ℕ) (w h : ℕ) (out₀ out : List ℕ) (i k : ℕ) : Type 0 where
+  pub written : Put (numbersOf (passOf b) halved (leavesOf s w h i)) out₀ 0 out k
 
-pub none-rooted : (b short : Bool) (s : List ℕ) (w h : ℕ) (out : List ℕ) → Rooted b short s w h out out 0 0
+pub none-rooted : (b halved : Bool) (s : List ℕ) (w h : ℕ) (out : List ℕ) → Rooted b halved s w h out out 0 0
 unfolding leavesOf
-none-rooted b short s w h out = record { written = put-as (sym (numbers-none (passOf b) short)) (put-none out 0) }
+none-rooted b halved s w h out = record { written = put-as (sym (numbers-none (passOf b) halved)) (put-none out 0) }
 
 area-rise : (s : List ℕ) (w h n m : ℕ) → area (leavesOf s w h n) ≤ area (leavesOf s w h (n + m))
 unfolding leavesOf
 area-rise s w h n zero = rw add-zero (le-refl _)
 area-rise s w h n (suc m) = rw add-suc (omega (arith, area-rise s w h n m, area-append (leavesOf s w h (n + m)) (rootLeaves s w h (n + m))))
 
-module _ {b short : Bool} {s : List ℕ} {w h : ℕ} {out₀ out : List ℕ} {i k : ℕ} (z : Rooted b short s w h out₀ out i k) where
-  pub one-rooted : (out₁ : List ℕ) (k₁ : ℕ) → Put (numbersOf (passOf b) short (rootLeaves s w h i)) out k out₁ k₁ → Rooted b short s w h out₀ out₁ (i + 1) k₁
+module _ {b halved : Bool} {s : List ℕ} {w h : ℕ} {out₀ out : List ℕ} {i k : ℕ} (z : Rooted b halved s w h out₀ out i k) where
+  pub one-rooted : (out₁ : List ℕ) (k₁ : ℕ) → Put (numbersOf (passOf b) halved (rootLeaves s w h i)) out k out₁ k₁ → Rooted b halved s w h out₀ out₁ (i + 1) k₁
   unfolding leavesOf
-  one-rooted out₁ k₁ g = record { written = rw (add-one i) (put-as (sym (numbers-append (passOf b) short (leavesOf s w h i) (rootLeaves s w h i))) (put-then (z .written) g)) }
+  one-rooted out₁ k₁ g = record { written = rw (add-one i) (put-as (sym (numbers-append (passOf b) halved (leavesOf s w h i) (rootLeaves s w h i))) (put-then (z .written) g)) }
 
-  pub all-rooted : roots w h ≤ i → i ≤ roots w h → Put (numbersOf (passOf b) short (allLeaves s w h)) out₀ 0 out k
-  all-rooted p q = let e : i ≡ roots w h = omega arith in put-as (ap (λ (n : ℕ). numbersOf (passOf b) short (leavesOf s w h n)) e) (z .written)
+  pub all-rooted : roots w h ≤ i → i ≤ roots w h → Put (numbersOf (passOf b) halved (allLeaves s w h)) out₀ 0 out k
+  all-rooted p q = let e : i ≡ roots w h = omega arith in put-as (ap (λ (n : ℕ). numbersOf (passOf b) halved (leavesOf s w h n)) e) (z .written)
 
   -- what the next root's edges take is left
   pub root-room : 1 ≤ w → pictureWalk s w h .answer ≡ Done → i < roots w h → k + 2 * area (rootLeaves s w h i) ≤ 2 * (w * h)
@@ -233,7 +233,7 @@ module _ {b short : Bool} {s : List ℕ} {w h : ℕ} {out₀ out : List ℕ} {i 
       omega (
         arith,
         z .written .count,
-        numbers-long (passOf b) short (leavesOf s w h i) some,
+        numbers-long (passOf b) halved (leavesOf s w h i) some,
         area-append (leavesOf s w h i) (rootLeaves s w h i),
         area-rise s w h (suc i) (roots w h - suc i),
         ap (λ (n : ℕ). area (leavesOf s w h n)) e,

@@ -25,9 +25,9 @@ stretchNumbers hor cross along n = each edgeNumbers (stretch (passOf hor) (cross
 abbrev pub nearNumbers : Bool → (cross along n : ℕ) → List ℕ
 nearNumbers hor cross along n = pick (ltb 0 cross) (stretchNumbers hor cross along n) []
 
-abbrev pub leafEdgeNumbers : (hor short : Bool) → (cross along side : ℕ) → List ℕ
-leafEdgeNumbers hor short cross along side =
-    nearNumbers hor cross along (side / 4) ++ pick (short && eqb side 64) (stretchNumbers hor (cross + 32) along 16) []
+abbrev pub leafEdgeNumbers : (hor halved : Bool) → (cross along side : ℕ) → List ℕ
+leafEdgeNumbers hor halved cross along side =
+    nearNumbers hor cross along (side / 4) ++ pick (halved && eqb side 64) (stretchNumbers hor (cross + 32) along 16) []
 
 -- where a stretch of n edges may start
 pub record Starts (cross along n : ℕ) : Type 0 where

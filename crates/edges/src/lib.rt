@@ -82,7 +82,7 @@ fn near_edge(
 // A leaf's edges in a pass: its near edge and, with limit 5, the cut of a leaf of 64 into two halves.
 fn leaf_edges(
     horizontal: bool,
-    short: bool,
+    halved: bool,
     cross: Pel,
     along: Pel,
     side: usize,
@@ -90,10 +90,10 @@ fn leaf_edges(
     at: usize,
 ) -> usize
     requires { ⌜ Starts (cross .0) (along .0) (side / 4) × (cross .0 ≤ 4096) × (4 ≤ side) × (at + 2 * (side / 4 * (side / 4)) ≤ length (now out)) ⌝ }
-    ensures { λ r. ⌜ Put (leafEdgeNumbers horizontal short (cross .0) (along .0) side) (now (out .entry)) at (now (out .exit)) r ⌝ }
+    ensures { λ r. ⌜ Put (leafEdgeNumbers horizontal halved (cross .0) (along .0) side) (now (out .entry)) at (now (out .exit)) r ⌝ }
 {
     let k = near_edge(horizontal, cross, along, side / 4, out, at);
-    if short & (side == 64) {
+    if halved & (side == 64) {
         return put_stretch(horizontal, Pel(cross.0 + 32), along, 16, out, k);
     }
     k
@@ -119,13 +119,13 @@ fn leaves_edges(
     list: &[u16],
     n: usize,
     horizontal: bool,
-    short: bool,
+    halved: bool,
     top: usize,
     out: &mut [u16],
     at: usize,
 ) -> usize
     requires { ⌜ ReadyAt top (now list) n × (at + 2 * area (leavesFrom (now list) n) ≤ length (now out)) ⌝ }
-    ensures { λ r. ⌜ Put (each edgeNumbers (edgesOf (passOf horizontal) short (map (leafDown top) (leavesFrom (now (list .entry)) n)))) (now (out .entry)) at (now (out .exit)) r ⌝ }
+    ensures { λ r. ⌜ Put (each edgeNumbers (edgesOf (passOf horizontal) halved (map (leafDown top) (leavesFrom (now (list .entry)) n)))) (now (out .entry)) at (now (out .exit)) r ⌝ }
 {
     let mut k = at;
     let mut j = 0;
@@ -135,7 +135,7 @@ fn leaves_edges(
         let side = number_at(list, 3 * j + 2);
         let cross = across(horizontal, x, y);
         let along = across(horizontal, y, x);
-        k = leaf_edges(horizontal, short, cross, along, side, out, k);
+        k = leaf_edges(horizontal, halved, cross, along, side, out, k);
         j += 1;
     }
     k
@@ -149,18 +149,18 @@ fn root_edges(
     x: Pel,
     y: Pel,
     horizontal: bool,
-    short: bool,
+    halved: bool,
     out: &mut [u16],
     at: usize,
 ) -> usize
     requires { ⌜ (LeavesCall.checkOf w h (now splits) (x .0) (y .0) 768 ≡ Answer.Done) × (at + 2 * area (LeavesCall.leavesAt w h (now splits) (x .0) (y .0)) ≤ length (now out)) ⌝ }
-    ensures { λ r. ⌜ Put (each edgeNumbers (edgesOf (passOf horizontal) short (LeavesCall.leavesAt w h (now (splits .entry)) (x .0) (y .0)))) (now (out .entry)) at (now (out .exit)) r ⌝ }
+    ensures { λ r. ⌜ Put (each edgeNumbers (edgesOf (passOf horizontal) halved (LeavesCall.leavesAt w h (now (splits .entry)) (x .0) (y .0)))) (now (out .entry)) at (now (out .exit)) r ⌝ }
 {
     let mut list = [0u16; 768];
     let Walked::Done(n) = split::leaves(w, h, splits, x, y, &mut list) else {
         return at;
     };
-    leaves_edges(&list, n, horizontal, short, 0, out, at)
+    leaves_edges(&list, n, horizontal, halved, 0, out, at)
 }
 
 // A pass's list of a picture whose walk is not refused: where it ends in the buffer.
@@ -169,11 +169,11 @@ fn pass_edges(
     h: usize,
     splits: &[u8],
     horizontal: bool,
-    short: bool,
+    halved: bool,
     out: &mut [u16],
 ) -> usize
     requires { ⌜ (sizeOk w h ≡ true) × (length (now splits) ≡ 1024 * rootCount w h) × (pictureWalk (now splits) (w / 4) (h / 4) .answer ≡ Answer.Done) × (length (now out) ≡ 2 * unitCount w h) ⌝ }
-    ensures { λ r. ⌜ Put (each edgeNumbers (edgeList (passOf horizontal) short (now (splits .entry)) (w / 4) (h / 4))) (now (out .entry)) 0 (now (out .exit)) r ⌝ }
+    ensures { λ r. ⌜ Put (each edgeNumbers (edgeList (passOf horizontal) halved (now (splits .entry)) (w / 4) (h / 4))) (now (out .entry)) 0 (now (out .exit)) r ⌝ }
 {
     let across = (w + 63) / 64;
     let n = splits.len() / 1024;
@@ -182,7 +182,7 @@ fn pass_edges(
     while i < n {
         let x = Pel(64 * (i % across));
         let y = Pel(64 * (i / across));
-        k = root_edges(w, h, splits, x, y, horizontal, short, out, k);
+        k = root_edges(w, h, splits, x, y, horizontal, halved, out, k);
         i += 1;
     }
     k
@@ -262,12 +262,12 @@ pub fn root_list(
     x: Pel,
     y: Pel,
     horizontal: bool,
-    short: bool,
+    halved: bool,
     top: usize,
     out: &mut [u16],
 ) -> Walked
     ensures { λ r. ⌜ Gives RootCall.outcome
-        (record { w = w; h = h; splits = now (splits .entry); x = x .0; y = y .0; horizontal = horizontal; short = short; top = top; out = now (out .entry) })
+        (record { w = w; h = h; splits = now (splits .entry); x = x .0; y = y .0; horizontal = horizontal; halved = halved; top = top; out = now (out .entry) })
         (LeavesCall.after r (now (out .exit))) ⌝ }
 {
     if !size_ok(w, h) {
@@ -283,7 +283,7 @@ pub fn root_list(
     match split::leaves(w, h, splits, x, y, &mut list) {
         Walked::Refused(r) => Walked::Refused(r),
         Walked::Done(n) => {
-            let k = leaves_edges(&list, n, horizontal, short, top, out, 0);
+            let k = leaves_edges(&list, n, horizontal, halved, top, out, 0);
             Walked::Done(k / 2)
         }
     }

@@ -102,17 +102,17 @@ module _ (w h : ℕ) (s t : List ℕ) (x y : ℕ) (n : length t ≡ length s) (o
       (checks-same (length out))
       (λ e. ap (λ (v : Walk). leaves.after (Walked.Done (length (v .list))) (sets out 0 (each leafNumbers (v .list)))) root-walk)
 
-  abbrev root-listing : List ℕ → (horizontal short : Bool) (top : ℕ) → List ℕ → root.Input
-  root-listing z d short top out = record { w = w; h = h; splits = z; x = x; y = y; horizontal = d; short = short; top = top; out = out }
+  abbrev root-listing : List ℕ → (horizontal halved : Bool) (top : ℕ) → List ℕ → root.Input
+  root-listing z d halved top out = record { w = w; h = h; splits = z; x = x; y = y; horizontal = d; halved = halved; top = top; out = out }
 
-  pub root-same : (d short : Bool) (top : ℕ) (out : List ℕ) → root.outcome (root-listing t d short top out) ≡ root.outcome (root-listing s d short top out)
+  pub root-same : (d halved : Bool) (top : ℕ) (out : List ℕ) → root.outcome (root-listing t d halved top out) ≡ root.outcome (root-listing s d halved top out)
   unfolding root.outcome root.checkOf
-  root-same d short top out =
-      let i = root-listing s d short top out in
-      let j = root-listing t d short top out in
+  root-same d halved top out =
+      let i = root-listing s d halved top out in
+      let j = root-listing t d halved top out in
       after-same (root.refused i) (root.done i) (root.done j) (root.check i) (root.check j)
       (ap (λ (a : Answer). unless (sizeOk w h) (Refused Size) (unless (leb (top + h / 4) 1024) (Refused Size) (unless (eqb (length out) 512) (Refused Length) a))) (checks-same 768))
-      (λ e. ap (λ (v : Walk). listed (edgesOf (passOf d) short (map (root.leafDown top) (v .list)))) root-walk)
+      (λ e. ap (λ (v : Walk). listed (edgesOf (passOf d) halved (map (root.leafDown top) (v .list)))) root-walk)
     where
       listed : List Edge → leaves.Outcome
       listed l = leaves.after (Walked.Done (length l)) (sets out 0 (each edgeNumbers l))

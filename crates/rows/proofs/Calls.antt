@@ -30,7 +30,7 @@ use Rattle.line.specs.declared.Motion.{Motion}
 use Rattle.rows.specs.Checks.{lengthTests, lengthsOk, checkMaps, rightOk, checkUnit}
 use Rattle.rows.specs.FillCall as fill
 use Rattle.rows.specs.FlagCall as flag
-use Rattle.rows.specs.Inside.{Lent, Placed}
+use Rattle.rows.specs.Inside.{Lent, UnitAt}
 use Rattle.rows.specs.MotionCall as move
 use Rattle.rows.specs.Rule.{ruleMap, rightBytes, editedMap}
 
@@ -71,7 +71,7 @@ module _ (w h : ℕ) (words : List ℕ) (motion refs : List ℤ) (rows : List �
 
   pub record UnitAccepted (x y : ℕ) : Type 0 where
     pub maps : Accepted
-    pub unit : Placed (w / 4) (h / 4) (length words) x y
+    pub unit : UnitAt (w / 4) (h / 4) (length words) x y
 
   pub unit-accepted : (x y : ℕ) → checkUnit w h (length words) (length motion) (length refs) (length rows) x y ≡ Done → UnitAccepted x y
   unfolding checkUnit

@@ -18,7 +18,7 @@ use Rattle.laws.proofs.Bools.{and-false}
 use Rattle.laws.proofs.Tabulate.{is-tabulate}
 use Rattle.split.specs.Edges.{Pass, vertical, horizontal}
 use Rattle.df_rules.specs.Places.{stepAcross}
-use Rattle.rows.specs.Inside.{Placed, edgePut}
+use Rattle.rows.specs.Inside.{UnitAt, edgePut}
 use Rattle.rows.specs.Rule.{hasSide, firstBit, edgeRow, edgeOf, editedByte, editedMap}
 use Rattle.rows.proofs.Sides.{before, right-in, right-side, lower-in, lower-side, lower-row, unit-in-map}
 
@@ -36,7 +36,7 @@ after-it d c a k = go (eqb k (a + stepAcross d c)) refl where
     side true g = ne-eqb (k - stepAcross d c) a (λ h. eqb-false k (a + stepAcross d c) e (omega (arith, before d c k g)))
     side false g = refl
 
-module _ {c h n x y : ℕ} (u : Placed c h n x y) where
+module _ {c h n x y : ℕ} (u : UnitAt c h n x y) where
   abbrev a : ℕ
   a = y * c + x
 
@@ -94,7 +94,7 @@ module _ (words : List ℕ) (motion refs : List ℤ) (c : ℕ) where
   put-if-at false d k rows j l = refl
 
   -- ---- the four steps
-  module _ {h n x y : ℕ} (u : Placed c h n x y) (rows : List ℕ) (long : length rows ≡ n) where
+  module _ {h n x y : ℕ} (u : UnitAt c h n x y) (rows : List ℕ) (long : length rows ≡ n) where
     abbrev k : ℕ
     k = y * c + x
 

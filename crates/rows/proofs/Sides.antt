@@ -28,7 +28,7 @@ use Rattle.df_rules.specs.Strength.{rowBy}
 use Rattle.df_rules.proofs.Strengths as strengths
 use Rattle.row.specs.Between.{rowIn, There}
 use Rattle.row.proofs.Units.{row-in}
-use Rattle.rows.specs.Inside.{Lent, Placed}
+use Rattle.rows.specs.Inside.{Lent, UnitAt}
 use Rattle.rows.specs.Rule.{hasSide, edgeRow}
 
 -- ---- bits, by division and remainder
@@ -115,7 +115,7 @@ module _ (c x y : ℕ) (p : x < c) where
   pub row-of : (y * c + x) / c ≡ y
   row-of = mul-add-div-right (omega arith) y x ∙ ap (λ (k : ℕ). y + k) (div-eq-of-lt p) ∙ add-zero y
 
-module _ {c h n x y : ℕ} (u : Placed c h n x y) where
+module _ {c h n x y : ℕ} (u : UnitAt c h n x y) where
   pub unit-in-map : y * c + x < n
   unit-in-map = place-below c h x y n (u .column) (u .row) (u .whole)
 

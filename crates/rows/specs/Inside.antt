@@ -25,7 +25,7 @@ pub record Lent (c : ℕ) (words : List ℕ) (motion refs : List ℤ) : Type 0 w
   pub long-refs : length refs ≡ 2 * length words
 
 -- the unit at column x, row y of c by h units, n in all
-pub record Placed (c h n x y : ℕ) : Type 0 where
+pub record UnitAt (c h n x y : ℕ) : Type 0 where
   pub column : x < c
   pub row : y < h
   pub high : h ≤ 1024

@@ -13,7 +13,7 @@ ghost use Rattle.rows.specs.Checks.{lengthsOk, checkMaps, rightOk, check
 ghost use Rattle.rows.specs.FillCall as FillCall;
 ghost use Rattle.rows.specs.FlagCall as FlagCall;
 ghost use Rattle.rows.specs.FlagCall.{withFlag};
-ghost use Rattle.rows.specs.Inside.{passOf, Lent, Placed, edgePut};
+ghost use Rattle.rows.specs.Inside.{passOf, Lent, UnitAt, edgePut};
 ghost use Rattle.rows.specs.MotionCall as MotionCall;
 ghost use Rattle.rows.specs.MotionCall.{withMotion, withRefs};
 ghost use Rattle.rows.specs.Rule.{hasSide, firstBit, edgeRow, ruleByte, ruleMap, editedMap};
@@ -124,7 +124,7 @@ fn put_edges(
     y: usize,
     rows: &mut [u8],
 )
-    requires { ⌜ Lent columns (now words) (now motion) (now refs) × Placed columns lines (length (now words)) x y × (length (now rows) ≡ length (now words)) ⌝ }
+    requires { ⌜ Lent columns (now words) (now motion) (now refs) × UnitAt columns lines (length (now words)) x y × (length (now rows) ≡ length (now words)) ⌝ }
     ensures { λ _. ⌜ now (rows .exit) ≡ editedMap (now (words .entry)) (now (motion .entry)) (now (refs .entry)) columns (y * columns + x) (now (rows .entry)) ⌝ }
 {
     let k = y * columns + x;

@@ -32,8 +32,8 @@ use Rattle.sheet.proofs.Room.{few-edges, near-edges}
 use Rattle.sheet.proofs.Texts.{near-places, listed-text}
 
 -- an edge a unit at most
-units : (short : Bool) (s : List ℕ) (w h : ℕ) → 1 ≤ w → pictureWalk s w h .answer ≡ Done → (d : Pass) → length (edgeList d short s w h) ≤ w * h
-units short s w h pos e d = omega (arith, demand-3 short s w h pos e .fits d, edges-twice (edgeList d short s w h))
+units : (halved : Bool) (s : List ℕ) (w h : ℕ) → 1 ≤ w → pictureWalk s w h .answer ≡ Done → (d : Pass) → length (edgeList d halved s w h) ≤ w * h
+units halved s w h pos e d = omega (arith, demand-3 halved s w h pos e .fits d, edges-twice (edgeList d halved s w h))
 
 pub size-fits : (w h : ℕ) → Sides w h → sizeOk w h ≡ true
 unfolding sizeOk

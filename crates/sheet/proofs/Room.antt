@@ -47,32 +47,32 @@ same-edge : (d : Pass) (e f : Edge) → crossOf d e ≡ crossOf d f → alongOf 
 same-edge vertical e f p q = λ i. record { x = p i; y = q i }
 same-edge horizontal e f p q = λ i. record { x = q i; y = p i }
 
-module _ (short : Bool) (s : List ℕ) (w h : ℕ) (pos : 1 ≤ w) (accepted : pictureWalk s w h .answer ≡ Done) where
-  told : Demand3 short s w h
-  told = demand-3 short s w h pos accepted
+module _ (halved : Bool) (s : List ℕ) (w h : ℕ) (pos : 1 ≤ w) (accepted : pictureWalk s w h .answer ≡ Done) where
+  told : Demand3 halved s w h
+  told = demand-3 halved s w h pos accepted
 
   record Lies (d : Pass) (e : Edge) : Type 0 where
     inner : 0 < crossOf d e
     cross : crossOf d e < acrossBy d w h
     along : alongOf d e < alongBy d w h
 
-  lies : (d : Pass) (e : Edge) → List·Memᴰ e (edgeList d short s w h) → Lies d e
+  lies : (d : Pass) (e : Edge) → List·Memᴰ e (edgeList d halved s w h) → Lies d e
   lies vertical e m = let o = told .members vertical e .0 m in record { inner = o .sure .inner; cross = o .column; along = o .row }
   lies horizontal e m = let o = told .members horizontal e .0 m in record { inner = o .sure .inner; cross = o .row; along = o .column }
 
   rowPlace : Pass → Edge → ℕ
   rowPlace d e = (crossOf d e - 1) * alongBy d w h + alongOf d e
 
-  pub few-edges : (d : Pass) → length (edgeList d short s w h) ≤ (acrossBy d w h - 1) * alongBy d w h
+  pub few-edges : (d : Pass) → length (edgeList d halved s w h) ≤ (acrossBy d w h - 1) * alongBy d w h
   unfolding rowPlace
   few-edges d =
-      few-below (rowPlace d) ((acrossBy d w h - 1) * alongBy d w h) (edgeList d short s w h)
-      (pairwise-imp (edgeList d short s w h) (λ e f m n o q. let a = lies d e m in let b = lies d f n in
+      few-below (rowPlace d) ((acrossBy d w h - 1) * alongBy d w h) (edgeList d halved s w h)
+      (pairwise-imp (edgeList d halved s w h) (λ e f m n o q. let a = lies d e m in let b = lies d f n in
       let z = same-place (crossOf d e) (alongOf d e) (crossOf d f) (alongOf d f) (alongBy d w h) (a .along) (b .along) (a .inner) (b .inner) q in
       o (same-edge d e f (z .0) (z .1))) (told .once d))
       (λ e m. let a = lies d e m in rowed (crossOf d e) (alongOf d e) (alongBy d w h) (acrossBy d w h) (a .inner) (a .cross) (a .along))
 
-  pub near-edges : (d : Pass) (e : Edge) → List·Memᴰ e (edgeList d short s w h) → (e .x < w) × (e .y < h)
+  pub near-edges : (d : Pass) (e : Edge) → List·Memᴰ e (edgeList d halved s w h) → (e .x < w) × (e .y < h)
   near-edges d e m = let o = told .members d e .0 m in (o .column, o .row)
 
 -- ---- the leaves of a map that is walked to its end

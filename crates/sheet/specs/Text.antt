@@ -35,10 +35,10 @@ sidesOk w h = allOf (sideTests w h)
 
 -- what the walk meets, digits that ran out among it; then digits that are left over; then the edges
 unfoldable pub foundBy : Bool → Descent → Found
-foundBy short d =
+foundBy halved d =
     afterChecks (λ (r : Refusal). refused (asSheet r) 5)
     (unless (eqb (length (d .left)) 0) (refused Sheet 5)
-    (listed (edgesOf vertical short (d .walk .list)) (edgesOf horizontal short (d .walk .list))))
+    (listed (edgesOf vertical halved (d .walk .list)) (edgesOf horizontal halved (d .walk .list))))
     (d .walk .answer)
 
 -- 1, 3, 20, and then the digits

@@ -153,40 +153,40 @@ pick-length : (b : Bool) (l : List Edge) → length (pick b l []) ≤ length l
 pick-length true l = omega arith
 pick-length false l = zero-le
 
-leaf-length : (d : Pass) (short : Bool) (p : Leaf) → 1 ≤ p .side → length (leafEdges d short p) ≤ p .side * p .side
+leaf-length : (d : Pass) (halved : Bool) (p : Leaf) → 1 ≤ p .side → length (leafEdges d halved p) ≤ p .side * p .side
 unfolding leafEdges
-leaf-length d short p one =
+leaf-length d halved p one =
     let n = p .side in
     let q : n * 1 ≤ n * n = mul-le-mul-left n one in
     let i = mul-one n in
     let own = stretch d (X d p) (Y d p) n in
     let more = stretch d (X d p + 8) (Y d p) 16 in
-    let a = length-append (pick (ltb 0 (X d p)) own []) (pick (short && eqb n 16) more []) in
+    let a = length-append (pick (ltb 0 (X d p)) own []) (pick (halved && eqb n 16) more []) in
     let b = pick-length (ltb 0 (X d p)) own in
     let c = stretch-length d (X d p) (Y d p) n in
-    test (short && eqb n 16)
-    (λ t. let e = eqb-true n 16 (and-true short _ t .1) in
+    test (halved && eqb n 16)
+    (λ t. let e = eqb-true n 16 (and-true halved _ t .1) in
     let s : n * n ≡ 256 = ap (λ (m : ℕ). m * m) e in
-    omega (arith, pick-length (short && eqb n 16) more, stretch-length d (X d p + 8) (Y d p) 16))
-    (λ t. let z : length (pick (short && eqb n 16) more []) ≡ 0 = rw t in omega arith)
+    omega (arith, pick-length (halved && eqb n 16) more, stretch-length d (X d p + 8) (Y d p) 16))
+    (λ t. let z : length (pick (halved && eqb n 16) more []) ≡ 0 = rw t in omega arith)
 
-pub edges-length : (d : Pass) (short : Bool) (l : List Leaf) → ((p : Leaf) → List·Memᴰ p l → 1 ≤ p .side) → length (each (leafEdges d short) l) ≤ area l
+pub edges-length : (d : Pass) (halved : Bool) (l : List Leaf) → ((p : Leaf) → List·Memᴰ p l → 1 ≤ p .side) → length (each (leafEdges d halved) l) ≤ area l
 unfolding each
-edges-length d short [] f = zero-le
-edges-length d short (p ∷ l) f =
+edges-length d halved [] f = zero-le
+edges-length d halved (p ∷ l) f =
     omega (
       arith,
-      length-append (leafEdges d short p) (each (leafEdges d short) l),
-      leaf-length d short p (f p (List·Memᴰ·head refl)),
-      edges-length d short l (λ q m. f q (List·Memᴰ·tail m)),
+      length-append (leafEdges d halved p) (each (leafEdges d halved) l),
+      leaf-length d halved p (f p (List·Memᴰ·head refl)),
+      edges-length d halved l (λ q m. f q (List·Memᴰ·tail m)),
     )
 
-module _ (d : Pass) (short : Bool) (s : List ℕ) (w h : ℕ) (pos : 1 ≤ w) (fine : (i : ℕ) → i < roots w h → rootWalk s w h i .answer ≡ Done) where
-  pub few-edges : length (edgeList d short s w h) ≤ w * h
+module _ (d : Pass) (halved : Bool) (s : List ℕ) (w h : ℕ) (pos : 1 ≤ w) (fine : (i : ℕ) → i < roots w h → rootWalk s w h i .answer ≡ Done) where
+  pub few-edges : length (edgeList d halved s w h) ≤ w * h
   few-edges =
       omega (
         arith,
-        ap length (by-leaves d short s w h),
+        ap length (by-leaves d halved s w h),
         whole-area s w h pos fine,
-        edges-length d short (allLeaves s w h) (λ p m. known s w h pos fine p m .0 .some),
+        edges-length d halved (allLeaves s w h) (λ p m. known s w h pos fine p m .0 .some),
       )

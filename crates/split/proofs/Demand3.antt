@@ -39,65 +39,65 @@ edges-twice (e ∷ l) = let i = edges-twice l in omega arith
 abbrev pub Across : Pass → Edge → Edge → Type 0
 Across d e f = alongOf d e ≡ alongOf d f → crossOf d e < crossOf d f
 
-module _ (short : Bool) (s : List ℕ) (w h : ℕ) (pos : 1 ≤ w) (accepted : pictureWalk s w h .answer ≡ Done) where
+module _ (halved : Bool) (s : List ℕ) (w h : ℕ) (pos : 1 ≤ w) (accepted : pictureWalk s w h .answer ≡ Done) where
   abbrev fine : (i : ℕ) → i < roots w h → rootWalk s w h i .answer ≡ Done
   fine = each-done (rootWalk s w h) (roots w h) accepted
 
   -- ---- which they are
 
-  by-leaf : (d : Pass) (e : Edge) → List·Memᴰ e (edgeList d short s w h) → EdgeOf d short s w h e
+  by-leaf : (d : Pass) (e : Edge) → List·Memᴰ e (edgeList d halved s w h) → EdgeOf d halved s w h e
   by-leaf vertical e m =
-      let f = edges-mem vertical (homeOf vertical s w) w h (allLeaves s w h) (tiled-v s w h pos fine) short e (subst (List·Memᴰ e) (by-leaves vertical short s w h) m) in
-      subst (EdgeOf vertical short s w h) (sym (f .is)) (record { column = f .right; row = f .bottom; sure = f .sure })
+      let f = edges-mem vertical (homeOf vertical s w) w h (allLeaves s w h) (tiled-v s w h pos fine) halved e (subst (List·Memᴰ e) (by-leaves vertical halved s w h) m) in
+      subst (EdgeOf vertical halved s w h) (sym (f .is)) (record { column = f .right; row = f .bottom; sure = f .sure })
   by-leaf horizontal e m =
-      let f = edges-mem horizontal (homeOf horizontal s w) h w (allLeaves s w h) (tiled-h s w h pos fine) short e (subst (List·Memᴰ e) (by-leaves horizontal short s w h) m) in
-      subst (EdgeOf horizontal short s w h) (sym (f .is)) (record { column = f .bottom; row = f .right; sure = f .sure })
+      let f = edges-mem horizontal (homeOf horizontal s w) h w (allLeaves s w h) (tiled-h s w h pos fine) halved e (subst (List·Memᴰ e) (by-leaves horizontal halved s w h) m) in
+      subst (EdgeOf horizontal halved s w h) (sym (f .is)) (record { column = f .bottom; row = f .right; sure = f .sure })
 
-  leaf-by : (d : Pass) (e : Edge) → EdgeOf d short s w h e → List·Memᴰ e (edgeList d short s w h)
+  leaf-by : (d : Pass) (e : Edge) → EdgeOf d halved s w h e → List·Memᴰ e (edgeList d halved s w h)
   leaf-by vertical e a =
-      subst (List·Memᴰ e) (sym (by-leaves vertical short s w h))
-      (mem-edges vertical (homeOf vertical s w) w h (allLeaves s w h) (tiled-v s w h pos fine) short (e .x) (e .y) (a .column) (a .row) (a .sure))
+      subst (List·Memᴰ e) (sym (by-leaves vertical halved s w h))
+      (mem-edges vertical (homeOf vertical s w) w h (allLeaves s w h) (tiled-v s w h pos fine) halved (e .x) (e .y) (a .column) (a .row) (a .sure))
   leaf-by horizontal e a =
-      subst (List·Memᴰ e) (sym (by-leaves horizontal short s w h))
-      (mem-edges horizontal (homeOf horizontal s w) h w (allLeaves s w h) (tiled-h s w h pos fine) short (e .y) (e .x) (a .row) (a .column) (a .sure))
+      subst (List·Memᴰ e) (sym (by-leaves horizontal halved s w h))
+      (mem-edges horizontal (homeOf horizontal s w) h w (allLeaves s w h) (tiled-h s w h pos fine) halved (e .y) (e .x) (a .row) (a .column) (a .sure))
 
-  pub members : (d : Pass) (e : Edge) → List·Memᴰ e (edgeList d short s w h) ↔ EdgeOf d short s w h e
+  pub members : (d : Pass) (e : Edge) → List·Memᴰ e (edgeList d halved s w h) ↔ EdgeOf d halved s w h e
   members d e = (by-leaf d e, leaf-by d e)
 
-  pub same-members : (d : Pass) (e : Edge) → List·Memᴰ e (edgeList d short s w h) ↔ List·Memᴰ e (rowList d short s w h)
+  pub same-members : (d : Pass) (e : Edge) → List·Memᴰ e (edgeList d halved s w h) ↔ List·Memᴰ e (rowList d halved s w h)
   same-members d e = (
-    λ m. let a = by-leaf d e m in mem-rows _ w h (e .x) (e .y) (a .column) (a .row) (edge-is short (homeOf d s w) (crossOf d e) (alongOf d e) (a .sure)),
-    λ m. let a = rows-mem _ w h e m in leaf-by d e (record { column = a .column; row = a .row; sure = is-edge short (homeOf d s w) (crossOf d e) (alongOf d e) (a .sure) }),
+    λ m. let a = by-leaf d e m in mem-rows _ w h (e .x) (e .y) (a .column) (a .row) (edge-is halved (homeOf d s w) (crossOf d e) (alongOf d e) (a .sure)),
+    λ m. let a = rows-mem _ w h e m in leaf-by d e (record { column = a .column; row = a .row; sure = is-edge halved (homeOf d s w) (crossOf d e) (alongOf d e) (a .sure) }),
   )
 
   -- ---- their order across, and that each is listed once
 
-  pub across-order : (d : Pass) → Pairwise (Across d) (edgeList d short s w h)
-  across-order vertical = subst (Pairwise (Across vertical)) (sym (by-leaves vertical short s w h))
-      (edges-order vertical (homeOf vertical s w) w h (allLeaves s w h) (tiled-v s w h pos fine) short (Across vertical) (λ c a c′ a′ g. g))
-  across-order horizontal = subst (Pairwise (Across horizontal)) (sym (by-leaves horizontal short s w h))
-      (edges-order horizontal (homeOf horizontal s w) h w (allLeaves s w h) (tiled-h s w h pos fine) short (Across horizontal) (λ c a c′ a′ g. g))
+  pub across-order : (d : Pass) → Pairwise (Across d) (edgeList d halved s w h)
+  across-order vertical = subst (Pairwise (Across vertical)) (sym (by-leaves vertical halved s w h))
+      (edges-order vertical (homeOf vertical s w) w h (allLeaves s w h) (tiled-v s w h pos fine) halved (Across vertical) (λ c a c′ a′ g. g))
+  across-order horizontal = subst (Pairwise (Across horizontal)) (sym (by-leaves horizontal halved s w h))
+      (edges-order horizontal (homeOf horizontal s w) h w (allLeaves s w h) (tiled-h s w h pos fine) halved (Across horizontal) (λ c a c′ a′ g. g))
 
-  pub rows-across : (d : Pass) → Pairwise (Across d) (rowList d short s w h)
-  rows-across vertical = pairwise-imp (rowList vertical short s w h) (λ e f i j o q. ⊎-elim (λ z. absurd (omega arith)) (λ z. z .1) o) (rows-order _ w h)
-  rows-across horizontal = pairwise-imp (rowList horizontal short s w h) (λ e f i j o q. ⊎-elim (λ z. z) (λ z. absurd (let y = z .1 in omega arith)) o) (rows-order _ w h)
+  pub rows-across : (d : Pass) → Pairwise (Across d) (rowList d halved s w h)
+  rows-across vertical = pairwise-imp (rowList vertical halved s w h) (λ e f i j o q. ⊎-elim (λ z. absurd (omega arith)) (λ z. z .1) o) (rows-order _ w h)
+  rows-across horizontal = pairwise-imp (rowList horizontal halved s w h) (λ e f i j o q. ⊎-elim (λ z. z) (λ z. absurd (let y = z .1 in omega arith)) o) (rows-order _ w h)
 
-  pub only-rows : (d : Pass) (l : List Edge) → Pairwise Earlier l → ((e : Edge) → List·Memᴰ e l ↔ List·Memᴰ e (rowList d short s w h)) → l ≡ rowList d short s w h
+  pub only-rows : (d : Pass) (l : List Edge) → Pairwise Earlier l → ((e : Edge) → List·Memᴰ e l ↔ List·Memᴰ e (rowList d halved s w h)) → l ≡ rowList d halved s w h
   only-rows d l o g = same-list Earlier (λ e. ⊎-elim (λ z. omega arith) (λ z. let z₁ = z .1 in omega arith))
       (λ e f. ⊎-elim (λ y. ⊎-elim (λ z. omega arith) (λ z. let z₀ = z .0 in omega arith))
       (λ y. let y₀ = y .0 in let y₁ = y .1 in ⊎-elim (λ z. omega arith) (λ z. let z₁ = z .1 in omega arith)))
-      l (rowList d short s w h) o (rows-order _ w h) (λ e. g e .0) (λ e. g e .1)
+      l (rowList d halved s w h) o (rows-order _ w h) (λ e. g e .0) (λ e. g e .1)
 
-  once : (d : Pass) → Pairwise (λ e f. e ≡ f → ⊥) (edgeList d short s w h)
-  once d = pairwise-imp (edgeList d short s w h) (λ e f i j g q. let z = g (ap (alongOf d) q) in let x = ap (crossOf d) q in omega arith) (across-order d)
+  once : (d : Pass) → Pairwise (λ e f. e ≡ f → ⊥) (edgeList d halved s w h)
+  once d = pairwise-imp (edgeList d halved s w h) (λ e f i j g q. let z = g (ap (alongOf d) q) in let x = ap (crossOf d) q in omega arith) (across-order d)
 
   -- ---- in the paper's order
 
-  order : (d : Pass) → Pairwise (InOrder d s w) (edgeList d short s w h)
-  order d = subst (Pairwise (InOrder d s w)) (sym (by-leaves d short s w h)) (leaves-in-order short s w h pos fine d)
+  order : (d : Pass) → Pairwise (InOrder d s w) (edgeList d halved s w h)
+  order d = subst (Pairwise (InOrder d s w)) (sym (by-leaves d halved s w h)) (leaves-in-order halved s w h pos fine d)
 
-  only : (d : Pass) (l : List Edge) → Pairwise (InOrder d s w) l → ((e : Edge) → List·Memᴰ e l ↔ EdgeOf d short s w h e) → l ≡ edgeList d short s w h
-  only d l o g = same-list (InOrder d s w) (λ e z. strict-order d s w e e z z) (strict-order d s w) l (edgeList d short s w h) o (order d)
+  only : (d : Pass) (l : List Edge) → Pairwise (InOrder d s w) l → ((e : Edge) → List·Memᴰ e l ↔ EdgeOf d halved s w h e) → l ≡ edgeList d halved s w h
+  only d l o g = same-list (InOrder d s w) (λ e z. strict-order d s w e e z z) (strict-order d s w) l (edgeList d halved s w h) o (order d)
       (λ e m. leaf-by d e (g e .0 m)) (λ e m. g e .1 (by-leaf d e m))
 
   -- ---- the leaves
@@ -129,7 +129,7 @@ module _ (short : Bool) (s : List ℕ) (w h : ℕ) (pos : 1 ≤ w) (accepted : p
         bottom = k .bottom;
       }
 
-  pub demand-3 : Demand3 short s w h
+  pub demand-3 : Demand3 halved s w h
   demand-3 = record {
     tiles = tiles;
     distinct = distinct;
@@ -140,9 +140,9 @@ module _ (short : Bool) (s : List ℕ) (w h : ℕ) (pos : 1 ≤ w) (accepted : p
     once = once;
     order = order;
     only = only;
-    vertical-pass = vertical-pass short s w h pos fine;
-    horizontal-pass = horizontal-pass short s w h;
-    left-done = left-done short s w h pos fine;
-    right-not = right-not short s w h pos fine;
-    fits = λ d. omega (arith, edges-twice (edgeList d short s w h), few-edges d short s w h pos fine);
+    vertical-pass = vertical-pass halved s w h pos fine;
+    horizontal-pass = horizontal-pass halved s w h;
+    left-done = left-done halved s w h pos fine;
+    right-not = right-not halved s w h pos fine;
+    fits = λ d. omega (arith, edges-twice (edgeList d halved s w h), few-edges d halved s w h pos fine);
   }

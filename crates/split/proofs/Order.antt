@@ -26,7 +26,7 @@ abbrev Offset : Leaf → ℕ → Type 0
 Offset p i = (i ≡ 0) ⊎ ((p .side ≡ 16) × (i ≡ 8))
 
 -- S orders the first units of two leaves or halves, told across and along; R orders edges: by S, and those of one first unit along
-module _ (d : Pass) (home : ℕ → ℕ → Leaf) (m n : ℕ) (l : List Leaf) (t : Tiled d home m n l) (short : Bool)
+module _ (d : Pass) (home : ℕ → ℕ → Leaf) (m n : ℕ) (l : List Leaf) (t : Tiled d home m n l) (halved : Bool)
     (S : ℕ → ℕ → ℕ → ℕ → Type 0)
     (own : (p : Leaf) → List·Memᴰ p l → p .side ≡ 16 → S (X d p) (Y d p) (X d p + 8) (Y d p))
     (far : Pairwise (λ p q. (i j : ℕ) → Offset p i → Offset q j → S (X d p + i) (Y d p) (X d q + j) (Y d q)) l)
@@ -48,9 +48,9 @@ module _ (d : Pass) (home : ℕ → ℕ → Leaf) (m n : ℕ) (l : List Leaf) (t
     is : e ≡ edgeAt d (X d p + offset) place
     at-home : home (X d p + offset) place ≡ p
 
-  first : (p : Leaf) → List·Memᴰ p l → (e : Edge) → List·Memᴰ e (leafEdges d short p) → First p e
+  first : (p : Leaf) → List·Memᴰ p l → (e : Edge) → List·Memᴰ e (leafEdges d halved p) → First p e
   first p x e i =
-      let o = leaf-mem d short p e i in
+      let o = leaf-mem d halved p e i in
       ⊎-elim (λ z. let z₀ = z .0 in let q : o .cross ≡ X d p + 0 = omega arith in
       record { offset = 0; place = o .along; small = inl refl; is = o .is ∙ ap (λ (c : ℕ). edgeAt d c (o .along)) q; at-home = here p x 0 (o .along) (inl refl) (o .top) (o .bottom) })
       (λ z. let s : Offset p 8 = inr (z .1, refl) in
@@ -80,14 +80,14 @@ module _ (d : Pass) (home : ℕ → ℕ → Leaf) (m n : ℕ) (l : List Leaf) (t
   pick-order true k p = p refl
   pick-order false k p = tt
 
-  leaf-order : (p : Leaf) → List·Memᴰ p l → Pairwise R (leafEdges d short p)
+  leaf-order : (p : Leaf) → List·Memᴰ p l → Pairwise R (leafEdges d halved p)
   unfolding leafEdges
   leaf-order p x =
       let b = ltb 0 (X d p) in
-      let u = short && eqb (p .side) 16 in
+      let u = halved && eqb (p .side) 16 in
       let j = stretch d (X d p) (Y d p) (p .side) in
       let k = stretch d (X d p + 8) (Y d p) 16 in
-      let whole : u ≡ true → p .side ≡ 16 = λ z. eqb-true (p .side) 16 (and-true short (eqb (p .side) 16) z .1) in
+      let whole : u ≡ true → p .side ≡ 16 = λ z. eqb-true (p .side) 16 (and-true halved (eqb (p .side) 16) z .1) in
       let at₀ : (a : ℕ) → Y d p ≤ a → a < Y d p + p .side → home (X d p) a ≡ p =
       λ a y z. let k = t .known p x in t .found p (X d p) a x (record { left = omega arith; right = omega arith; top = y; bottom = z }) in
       let at₈ : p .side ≡ 16 → (a : ℕ) → Y d p ≤ a → a < Y d p + 16 → home (X d p + 8) a ≡ p = λ v a y z. here p x 8 a (inr (v, refl)) y (omega arith) in
@@ -103,8 +103,8 @@ module _ (d : Pass) (home : ℕ → ℕ → Leaf) (m n : ℕ) (l : List Leaf) (t
       let g₈ = at₈ v (q .place) (q .from) (q .to) in
       rw (o .is, q .is) (later (X d p) (o .place) (X d p + 8) (q .place) (rw (g₀, g₈) (own p x v))))
 
-  in-order : Pairwise R (each (leafEdges d short) l)
-  in-order = pairwise-each (leafEdges d short) R _ l far leaf-order
+  in-order : Pairwise R (each (leafEdges d halved) l)
+  in-order = pairwise-each (leafEdges d halved) R _ l far leaf-order
       (λ p q e f x y s i j. let a = first p x e i in let b = first q y f j in by-first p q e f a b (s (a .offset) (b .offset) (a .small) (b .small)))
 
 -- ---- the parts of two leaves, the first sooner than the second
@@ -170,7 +170,7 @@ strict-order d s w e f =
 
 -- ---- a picture's edges
 
-module _ (short : Bool) (s : List ℕ) (w h : ℕ) (pos : 1 ≤ w) (fine : (i : ℕ) → i < roots w h → rootWalk s w h i .answer ≡ Done) where
+module _ (halved : Bool) (s : List ℕ) (w h : ℕ) (pos : 1 ≤ w) (fine : (i : ℕ) → i < roots w h → rootWalk s w h i .answer ≡ Done) where
   abbrev tv : Tiled vertical (homeOf vertical s w) w h (allLeaves s w h)
   tv = tiled-v s w h pos fine
 
@@ -191,8 +191,8 @@ module _ (short : Bool) (s : List ℕ) (w h : ℕ) (pos : 1 ≤ w) (fine : (i : 
   part-y : (p : Leaf) → List·Memᴰ p (allLeaves s w h) → (i : ℕ) → Offset p i → Part p 0 i
   part-y p m i a = record { whole = stands p m; which = ⊎-elim (λ z. inl (refl, z)) (λ z. let z₁ = z .1 in inr (z .0, omega arith, omega arith)) a }
 
-  pub leaves-in-order : (d : Pass) → Pairwise (InOrder d s w) (each (leafEdges d short) (allLeaves s w h))
-  leaves-in-order vertical = in-order vertical (homeOf vertical s w) w h (allLeaves s w h) tv short Sooner
+  pub leaves-in-order : (d : Pass) → Pairwise (InOrder d s w) (each (leafEdges d halved) (allLeaves s w h))
+  leaves-in-order vertical = in-order vertical (homeOf vertical s w) w h (allLeaves s w h) tv halved Sooner
       (λ p m e. let o = stands p m e in let o₀ = o .0 in let o₁ = o .1 in
       let x : (p .x + 8) % 16 ≡ 8 = omega arith in
       inr (inr (refl, omega arith, rw (x, o₀, o₁) (halves-rise .0))))
@@ -201,7 +201,7 @@ module _ (short : Bool) (s : List ℕ) (w h : ℕ) (pos : 1 ≤ w) (fine : (i : 
       let y₁ : q .y + 0 ≡ q .y = omega arith in
       rw (y₀, y₁) at (g i 0 j 0 (part-x p m i a) (part-x q n j b))) offsets)
       (InOrder vertical s w) (λ c a c′ a′ g. inl g) (λ c a a′ e g. inr (refl, e, g))
-  leaves-in-order horizontal = in-order horizontal (homeOf horizontal s w) h w (allLeaves s w h) th short (λ c a c′ a′. Sooner a c a′ c′)
+  leaves-in-order horizontal = in-order horizontal (homeOf horizontal s w) h w (allLeaves s w h) th halved (λ c a c′ a′. Sooner a c a′ c′)
       (λ p m e. let o = stands p m e in let o₀ = o .0 in let o₁ = o .1 in
       let x : (p .y + 8) % 16 ≡ 8 = omega arith in
       inr (inr (omega arith, refl, rw (x, o₀, o₁) (halves-rise .1))))

@@ -117,38 +117,38 @@ record Inside (p : Leaf) (q : Visit) : Type 0 where
   broad : 1 ≤ q .wide
   high : 1 ≤ q .tall
 
-module _ (short : Bool) (p : Leaf) (some : 1 ≤ p .side) where
-  visit-inside : (q : Visit) → List·Memᴰ q (visitOf vertical short p) → Inside p q
+module _ (halved : Bool) (p : Leaf) (some : 1 ≤ p .side) where
+  visit-inside : (q : Visit) → List·Memᴰ q (visitOf vertical halved p) → Inside p q
   unfolding visitOf
-  visit-inside q m = go (short && eqb (p .side) 16) refl m
+  visit-inside q m = go (halved && eqb (p .side) 16) refl m
     where
       both : (n : ℕ) → p .side ≡ 16 → (n ≡ 0) ⊎ (n ≡ 8) → Inside p (visit (p .x + n) (p .y) 8 16)
       both n e o = ⊎-elim (λ z. record { left = omega arith; right = omega arith; top = omega arith; bottom = omega arith; broad = omega arith; high = omega arith })
           (λ z. record { left = omega arith; right = omega arith; top = omega arith; bottom = omega arith; broad = omega arith; high = omega arith }) o
 
-      go : (t : Bool) → (short && eqb (p .side) 16) ≡ t → List·Memᴰ q (pick t (halves vertical (p .x) (p .y)) (visit (p .x) (p .y) (p .side) (p .side) ∷ [])) → Inside p q
+      go : (t : Bool) → (halved && eqb (p .side) 16) ≡ t → List·Memᴰ q (pick t (halves vertical (p .x) (p .y)) (visit (p .x) (p .y) (p .side) (p .side) ∷ [])) → Inside p q
       go true t m =
-          let e = eqb-true (p .side) 16 (and-true short _ t .1) in
+          let e = eqb-true (p .side) 16 (and-true halved _ t .1) in
           let z : p .x + 0 ≡ p .x = omega arith in
           ⊎-elim (λ i. subst (Inside p) (ap (λ (n : ℕ). visit n (p .y) 8 16) z ∙ sym i) (both 0 e (inl refl)))
           (λ i. subst (Inside p) (sym (List·Memᴰ·eq-of-singleton i)) (both 8 e (inr refl))) (List·Memᴰ·cases-cons m)
       go false t m = subst (Inside p) (sym (List·Memᴰ·eq-of-singleton m)) (record { left = omega arith; right = omega arith; top = omega arith; bottom = omega arith; broad = some; high = some })
 
-  visit-order : Pairwise Follow (visitOf vertical short p)
+  visit-order : Pairwise Follow (visitOf vertical halved p)
   unfolding visitOf
-  visit-order = go (short && eqb (p .side) 16)
+  visit-order = go (halved && eqb (p .side) 16)
     where
       go : (t : Bool) → Pairwise Follow (pick t (halves vertical (p .x) (p .y)) (visit (p .x) (p .y) (p .side) (p .side) ∷ []))
       go true = (λ f m. rw (List·Memᴰ·eq-of-singleton m) (inl (omega arith)), (λ f m. absurd (List·Memᴰ·not-nil m), tt))
       go false = (λ f m. absurd (List·Memᴰ·not-nil m), tt)
 
-  visit-covers : (u v : ℕ) → Has vertical p u v → Cover (visitOf vertical short p) u v
+  visit-covers : (u v : ℕ) → Has vertical p u v → Cover (visitOf vertical halved p) u v
   unfolding visitOf
-  visit-covers u v b = go (short && eqb (p .side) 16) refl
+  visit-covers u v b = go (halved && eqb (p .side) 16) refl
     where
-      go : (t : Bool) → (short && eqb (p .side) 16) ≡ t → Cover (pick t (halves vertical (p .x) (p .y)) (visit (p .x) (p .y) (p .side) (p .side) ∷ [])) u v
+      go : (t : Bool) → (halved && eqb (p .side) 16) ≡ t → Cover (pick t (halves vertical (p .x) (p .y)) (visit (p .x) (p .y) (p .side) (p .side) ∷ [])) u v
       go true t =
-          let e = eqb-true (p .side) 16 (and-true short _ t .1) in
+          let e = eqb-true (p .side) 16 (and-true halved _ t .1) in
           let left = b .left in
           let right = b .right in
           let top = b .top in
@@ -162,40 +162,40 @@ module _ (short : Bool) (p : Leaf) (some : 1 ≤ p .side) where
 
 -- ---- the edges of a leaf's visits are the leaf's
 
-pub visit-edges : (d : Pass) (short : Bool) (p : Leaf) → each (nearEdge d) (visitOf d short p) ≡ leafEdges d short p
+pub visit-edges : (d : Pass) (halved : Bool) (p : Leaf) → each (nearEdge d) (visitOf d halved p) ≡ leafEdges d halved p
 unfolding each visitOf leafEdges
-visit-edges vertical short p =
-    test (short && eqb (p .side) 16)
-    (λ t. let e = eqb-true (p .side) 16 (and-true short _ t .1) in let l : 0 < p .x + 8 = omega arith in
+visit-edges vertical halved p =
+    test (halved && eqb (p .side) 16)
+    (λ t. let e = eqb-true (p .side) 16 (and-true halved _ t .1) in let l : 0 < p .x + 8 = omega arith in
     rw (t, lt-ltb _ _ l, e) (ap (λ (k : List Edge). pick (ltb 0 (p .x)) (stretch vertical (p .x) (p .y) 16) [] ++ k) (append-nil _)))
     (λ t. rw t)
-visit-edges horizontal short p =
-    test (short && eqb (p .side) 16)
-    (λ t. let e = eqb-true (p .side) 16 (and-true short _ t .1) in let l : 0 < p .y + 8 = omega arith in
+visit-edges horizontal halved p =
+    test (halved && eqb (p .side) 16)
+    (λ t. let e = eqb-true (p .side) 16 (and-true halved _ t .1) in let l : 0 < p .y + 8 = omega arith in
     rw (t, lt-ltb _ _ l, e) (ap (λ (k : List Edge). pick (ltb 0 (p .y)) (stretch horizontal (p .y) (p .x) 16) [] ++ k) (append-nil _)))
     (λ t. rw t)
 
-pub by-leaves : (d : Pass) (short : Bool) (s : List ℕ) (w h : ℕ) → edgeList d short s w h ≡ each (leafEdges d short) (allLeaves s w h)
-by-leaves d short s w h = each-each (nearEdge d) (visitOf d short) (leafEdges d short) (visit-edges d short) (allLeaves s w h)
+pub by-leaves : (d : Pass) (halved : Bool) (s : List ℕ) (w h : ℕ) → edgeList d halved s w h ≡ each (leafEdges d halved) (allLeaves s w h)
+by-leaves d halved s w h = each-each (nearEdge d) (visitOf d halved) (leafEdges d halved) (visit-edges d halved) (allLeaves s w h)
 
 -- ---- the passes over a picture
 
-pub horizontal-pass : (short : Bool) (s : List ℕ) (w h : ℕ) → horizontalPass (visits horizontal short s w h) ≡ edgeList horizontal short s w h
-horizontal-pass short s w h = refl
+pub horizontal-pass : (halved : Bool) (s : List ℕ) (w h : ℕ) → horizontalPass (visits horizontal halved s w h) ≡ edgeList horizontal halved s w h
+horizontal-pass halved s w h = refl
 
-module _ (short : Bool) (s : List ℕ) (w h : ℕ) (pos : 1 ≤ w) (fine : (i : ℕ) → i < roots w h → rootWalk s w h i .answer ≡ Done) where
+module _ (halved : Bool) (s : List ℕ) (w h : ℕ) (pos : 1 ≤ w) (fine : (i : ℕ) → i < roots w h → rootWalk s w h i .answer ≡ Done) where
   abbrev t : Tiled vertical (homeOf vertical s w) w h (allLeaves s w h)
   t = tiled-v s w h pos fine
 
   abbrev all : List Visit
-  all = visits vertical short s w h
+  all = visits vertical halved s w h
 
   order : Pairwise Follow all
-  order = pairwise-each (visitOf vertical short) Follow _ (allLeaves s w h) (t .order)
-      (λ p m. visit-order short p (t .known p m .some))
+  order = pairwise-each (visitOf vertical halved) Follow _ (allLeaves s w h) (t .order)
+      (λ p m. visit-order halved p (t .known p m .some))
       (λ p q a b m n o i j.
-      let k = visit-inside short p (t .known p m .some) a i in
-      let l = visit-inside short q (t .known q n .some) b j in
+      let k = visit-inside halved p (t .known p m .some) a i in
+      let l = visit-inside halved q (t .known q n .some) b j in
       let k₀ = k .right in
       let k₁ = k .bottom in
       let l₀ = l .left in
@@ -205,14 +205,14 @@ module _ (short : Bool) (s : List ℕ) (w h : ℕ) (pos : 1 ≤ w) (fine : (i : 
   covers : (u v : ℕ) → u < w → v < h → Cover all u v
   covers u v f g =
       let c = t .covers u v f g in
-      let d = visit-covers short (homeOf vertical s w u v) (t .known _ (c .0) .some) u v (c .1) in
-      record { one = d .one; listed = mem-each (visitOf vertical short) (c .0) (d .listed); bounds = d .bounds }
+      let d = visit-covers halved (homeOf vertical s w u v) (t .known _ (c .0) .some) u v (c .1) in
+      record { one = d .one; listed = mem-each (visitOf vertical halved) (c .0) (d .listed); bounds = d .bounds }
 
   inner : (q : Visit) → List·Memᴰ q all → Inner w h q
   inner q m =
-      let f = each-mem (visitOf vertical short) (allLeaves s w h) q m in
+      let f = each-mem (visitOf vertical halved) (allLeaves s w h) q m in
       let b = t .known (f .one) (f .listed) in
-      let k = visit-inside short (f .one) (b .some) q (f .mine) in
+      let k = visit-inside halved (f .one) (b .some) q (f .mine) in
       let b₀ = b .right in
       let b₁ = b .bottom in
       let k₀ = k .right in
@@ -226,5 +226,5 @@ module _ (short : Bool) (s : List ℕ) (w h : ℕ) (pos : 1 ≤ w) (fine : (i : 
   pub right-not : (pre post : List Visit) (p : Visit) → all ≡ pre ++ (p ∷ post) → done pre (p .x + p .wide) (p .y) ≡ false
   right-not pre post p e = right-is-not w h all order covers inner pre p post e
 
-  pub vertical-pass : verticalPass w [] all ≡ edgeList vertical short s w h
+  pub vertical-pass : verticalPass w [] all ≡ edgeList vertical halved s w h
   vertical-pass = along w h all order covers inner [] all refl

@@ -28,10 +28,10 @@ abbrev halfTests : ℕ → ℕ → List Bool
 halfTests k a = eqb (a % 2 ^ k) 0 ∷ eqb ((a + 2 ^ k) % 2 ^ k) 0 ∷ eqb (spread 4 (a + 2 ^ k)) (spread 4 a + 2 ^ k * 2 ^ k) ∷ []
 
 -- where a block of side 2 ^ suc k may stand, its halves stand on multiples of theirs, and the second's ranks follow the first's
-abbrev halved : ℕ → ℕ → Bool
-halved k a = unless (eqb (a % 2 ^ suc k) 0) true (unless (leb (a + 2 ^ suc k) 16) true (allOf (halfTests k a)))
+abbrev blockHalves : ℕ → ℕ → Bool
+blockHalves k a = unless (eqb (a % 2 ^ suc k) 0) true (unless (leb (a + 2 ^ suc k) 16) true (allOf (halfTests k a)))
 
-test-halved : allBelow (λ k. allBelow (halved k) 16) 4 ≡ true
+test-halved : allBelow (λ k. allBelow (blockHalves k) 16) 4 ≡ true
 unfolding spread allBelow
 test-halved = refl
 
@@ -48,7 +48,7 @@ in-halves : (k a : ℕ) → k < 4 → a % 2 ^ suc k ≡ 0 → a + 2 ^ suc k ≤ 
 in-halves k a h e l =
     let w = two-pow-succ k in
     let one = pow-pos k in
-    let t = scan-at (halved k) 16 a (omega arith) (scan-at (λ k. allBelow (halved k) 16) 4 k h test-halved) in
+    let t = scan-at (blockHalves k) 16 a (omega arith) (scan-at (λ k. allBelow (blockHalves k) 16) 4 k h test-halved) in
     let u = past (leb (a + 2 ^ suc k) 16) _ (past (eqb (a % 2 ^ suc k) 0) _ t (eq-eqb _ _ e)) (le-leb _ _ l) in
     record {
       first = eqb-true _ _ (all-at (halfTests k a) 0 u);

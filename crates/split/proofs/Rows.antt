@@ -31,23 +31,23 @@ same-leaf p q e =
 leaf-same : (p q : Leaf) → p ≡ q → sameLeaf p q ≡ true
 leaf-same p q e = simp (eq-eqb _ _ (ap (λ (z : Leaf). z .x) e), eq-eqb _ _ (ap (λ (z : Leaf). z .y) e), eq-eqb _ _ (ap (λ (z : Leaf). z .side) e))
 
-pub is-edge : (short : Bool) (home : ℕ → ℕ → Leaf) (c a : ℕ) → isEdge short home c a ≡ true → IsEdge short home c a
+pub is-edge : (halved : Bool) (home : ℕ → ℕ → Leaf) (c a : ℕ) → isEdge halved home c a ≡ true → IsEdge halved home c a
 unfolding isEdge
-is-edge short home c a e =
+is-edge halved home c a e =
     let t = and-true _ _ e in
     record { inner = ltb-true _ _ (t .0); between = go (sameLeaf (home (c - 1) a) (home c a)) refl (t .1) }
   where
-    go : (b : Bool) → sameLeaf (home (c - 1) a) (home c a) ≡ b → (not b || (short && (eqb (home c a .side) 16 && eqb (c % 16) 8))) ≡ true
-        → (home (c - 1) a ≡ home c a → ⊥) ⊎ ((short ≡ true) × (home (c - 1) a ≡ home c a) × (home c a .side ≡ 16) × (c % 16 ≡ 8))
+    go : (b : Bool) → sameLeaf (home (c - 1) a) (home c a) ≡ b → (not b || (halved && (eqb (home c a .side) 16 && eqb (c % 16) 8))) ≡ true
+        → (home (c - 1) a ≡ home c a → ⊥) ⊎ ((halved ≡ true) × (home (c - 1) a ≡ home c a) × (home c a .side ≡ 16) × (c % 16 ≡ 8))
     go true q e =
         let t = and-true _ _ e in
         let u = and-true _ _ (t .1) in
         inr (t .0, same-leaf _ _ q, eqb-true _ _ (u .0), eqb-true _ _ (u .1))
     go false q e = inl (λ z. true≢false (sym (leaf-same _ _ z) ∙ q))
 
-pub edge-is : (short : Bool) (home : ℕ → ℕ → Leaf) (c a : ℕ) → IsEdge short home c a → isEdge short home c a ≡ true
+pub edge-is : (halved : Bool) (home : ℕ → ℕ → Leaf) (c a : ℕ) → IsEdge halved home c a → isEdge halved home c a ≡ true
 unfolding isEdge
-edge-is short home c a h = rw (lt-ltb _ _ (h .inner)) (⊎-elim
+edge-is halved home c a h = rw (lt-ltb _ _ (h .inner)) (⊎-elim
     (λ ne. test (sameLeaf (home (c - 1) a) (home c a)) (λ t. absurd (ne (same-leaf _ _ t))) (λ t. rw t))
     (λ k. rw (leaf-same _ _ (k .1), k .0, eq-eqb _ _ (k .2), eq-eqb _ _ (k .3))) (h .between))
 

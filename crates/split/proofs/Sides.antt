@@ -78,17 +78,17 @@ module _ (d : Pass) where
   -- ---- a leaf's: its own, unless it stands at the picture's side; with limit 5, the one between the halves of a leaf of 64
 
   unfoldable pub leafEdges : Bool → Leaf → List Edge
-  leafEdges short p =
+  leafEdges halved p =
       pick (ltb 0 (X d p)) (stretch d (X d p) (Y d p) (p .side)) []
-      ++ pick (short && eqb (p .side) 16) (stretch d (X d p + 8) (Y d p) 16) []
+      ++ pick (halved && eqb (p .side) 16) (stretch d (X d p + 8) (Y d p) 16) []
 
-  pub record Of (short : Bool) (p : Leaf) (e : Edge) : Type 0 where
+  pub record Of (halved : Bool) (p : Leaf) (e : Edge) : Type 0 where
     pub cross : ℕ
     pub along : ℕ
     pub is : e ≡ edgeAt d cross along
     pub top : Y d p ≤ along
     pub bottom : along < Y d p + p .side
-    pub which : ((cross ≡ X d p) × (0 < X d p)) ⊎ ((short ≡ true) × (p .side ≡ 16) × (cross ≡ X d p + 8))
+    pub which : ((cross ≡ X d p) × (0 < X d p)) ⊎ ((halved ≡ true) × (p .side ≡ 16) × (cross ≡ X d p + 8))
 
   pub pick-mem : {e : Edge} (b : Bool) (l : List Edge) → List·Memᴰ e (pick b l []) → (b ≡ true) × List·Memᴰ e l
   pick-mem true l m = (refl, m)
@@ -98,31 +98,31 @@ module _ (d : Pass) where
   mem-pick true l t m = m
   mem-pick false l t m = absurd (true≢false (sym t))
 
-  pub leaf-mem : (short : Bool) (p : Leaf) (e : Edge) → List·Memᴰ e (leafEdges short p) → Of short p e
+  pub leaf-mem : (halved : Bool) (p : Leaf) (e : Edge) → List·Memᴰ e (leafEdges halved p) → Of halved p e
   unfolding leafEdges
-  leaf-mem short p e m =
+  leaf-mem halved p e m =
       ⊎-elim (λ i. let b = pick-mem (ltb 0 (X d p)) _ i in let o = stretch-mem _ _ _ e (b .1) in
       record { cross = X d p; along = o .place; is = o .is; top = o .from; bottom = o .to; which = inl (refl, ltb-true _ _ (b .0)) })
-      (λ i. let b = pick-mem (short && eqb (p .side) 16) _ i in let o = stretch-mem _ _ _ e (b .1) in
+      (λ i. let b = pick-mem (halved && eqb (p .side) 16) _ i in let o = stretch-mem _ _ _ e (b .1) in
       let t = and-true _ _ (b .0) in let n = eqb-true _ _ (t .1) in let u = o .to in
       record { cross = X d p + 8; along = o .place; is = o .is; top = o .from; bottom = omega arith; which = inr (t .0, n, refl) })
       (List·Memᴰ·append-cases (pick (ltb 0 (X d p)) (stretch d (X d p) (Y d p) (p .side)) []) m)
 
-  mem-leaf-own : (short : Bool) (p : Leaf) (a : ℕ) → 0 < X d p → Y d p ≤ a → a < Y d p + p .side → List·Memᴰ (edgeAt d (X d p) a) (leafEdges short p)
+  mem-leaf-own : (halved : Bool) (p : Leaf) (a : ℕ) → 0 < X d p → Y d p ≤ a → a < Y d p + p .side → List·Memᴰ (edgeAt d (X d p) a) (leafEdges halved p)
   unfolding leafEdges
-  mem-leaf-own short p a g t b = Memᴰ·append-left _ (mem-pick (ltb 0 (X d p)) _ (lt-ltb _ _ g) (mem-stretch _ _ _ a t b))
+  mem-leaf-own halved p a g t b = Memᴰ·append-left _ (mem-pick (ltb 0 (X d p)) _ (lt-ltb _ _ g) (mem-stretch _ _ _ a t b))
 
-  mem-leaf-half : (short : Bool) (p : Leaf) (a : ℕ) → short ≡ true → p .side ≡ 16 → Y d p ≤ a → a < Y d p + p .side → List·Memᴰ (edgeAt d (X d p + 8) a) (leafEdges short p)
+  mem-leaf-half : (halved : Bool) (p : Leaf) (a : ℕ) → halved ≡ true → p .side ≡ 16 → Y d p ≤ a → a < Y d p + p .side → List·Memᴰ (edgeAt d (X d p + 8) a) (leafEdges halved p)
   unfolding leafEdges
-  mem-leaf-half short p a s n t b =
+  mem-leaf-half halved p a s n t b =
       Memᴰ·append-right (pick (ltb 0 (X d p)) (stretch d (X d p) (Y d p) (p .side)) [])
-      (mem-pick (short && eqb (p .side) 16) _ (rw (s, eq-eqb _ _ n)) (mem-stretch _ _ _ a t (omega arith)))
+      (mem-pick (halved && eqb (p .side) 16) _ (rw (s, eq-eqb _ _ n)) (mem-stretch _ _ _ a t (omega arith)))
 
   -- ---- all of them
 
-  module _ (home : ℕ → ℕ → Leaf) (m n : ℕ) (l : List Leaf) (t : Tiled home m n l) (short : Bool) where
+  module _ (home : ℕ → ℕ → Leaf) (m n : ℕ) (l : List Leaf) (t : Tiled home m n l) (halved : Bool) where
     abbrev pub edges : List Edge
-    edges = each (leafEdges short) l
+    edges = each (leafEdges halved) l
 
     pub record Found (e : Edge) : Type 0 where
       pub cross : ℕ
@@ -130,14 +130,14 @@ module _ (d : Pass) where
       pub is : e ≡ edgeAt d cross along
       pub right : cross < m
       pub bottom : along < n
-      pub sure : IsEdge short home cross along
+      pub sure : IsEdge halved home cross along
 
     pub edges-mem : (e : Edge) → List·Memᴰ e edges → Found e
     edges-mem e i =
-        let f = each-mem (leafEdges short) l e i in
+        let f = each-mem (leafEdges halved) l e i in
         let p = f .one in
         let k = t .known p (f .listed) in
-        let o = leaf-mem short p e (f .mine) in
+        let o = leaf-mem halved p e (f .mine) in
         let top = o .top in
         let bottom = o .bottom in
         ⊎-elim (λ z. let z₀ = z .0 in let z₁ = z .1 in
@@ -170,7 +170,7 @@ module _ (d : Pass) where
         })
         (o .which)
 
-    pub mem-edges : (c a : ℕ) → c < m → a < n → IsEdge short home c a → List·Memᴰ (edgeAt d c a) edges
+    pub mem-edges : (c a : ℕ) → c < m → a < n → IsEdge halved home c a → List·Memᴰ (edgeAt d c a) edges
     mem-edges c a gw gh s =
         let p = home c a in
         let v = t .covers c a gw gh in
@@ -179,11 +179,11 @@ module _ (d : Pass) where
         let pos = s .inner in
         ⊎-elim (λ ne. test (eqb c (X d p))
         (λ q. let e = eqb-true c (X d p) q in
-        subst (λ (n : ℕ). List·Memᴰ (edgeAt d n a) edges) (sym e) (mem-each (leafEdges short) (v .0) (mem-leaf-own short p a (omega arith) (k .top) (k .bottom))))
+        subst (λ (n : ℕ). List·Memᴰ (edgeAt d n a) edges) (sym e) (mem-each (leafEdges halved) (v .0) (mem-leaf-own halved p a (omega arith) (k .top) (k .bottom))))
         (λ q. let n = eqb-false c (X d p) q in absurd (ne (t .found p (c - 1) a (v .0) (record { left = omega arith; right = omega arith; top = k .top; bottom = k .bottom })))))
         (λ z. let n = z .2 in let y = b .whole n in let z₃ = z .3 in
         let e : c ≡ X d p + 8 = omega arith in
-        subst (λ (n : ℕ). List·Memᴰ (edgeAt d n a) edges) (sym e) (mem-each (leafEdges short) (v .0) (mem-leaf-half short p a (z .0) n (k .top) (k .bottom))))
+        subst (λ (n : ℕ). List·Memᴰ (edgeAt d n a) edges) (sym e) (mem-each (leafEdges halved) (v .0) (mem-leaf-half halved p a (z .0) n (k .top) (k .bottom))))
         (s .between)
 
     -- their order: those of one place along follow each other across
@@ -203,11 +203,11 @@ module _ (d : Pass) where
       pick-order true k p = p
       pick-order false k p = tt
 
-      leaf-order : (p : Leaf) → Pairwise R (leafEdges short p)
+      leaf-order : (p : Leaf) → Pairwise R (leafEdges halved p)
       unfolding leafEdges
       leaf-order p =
           let b = ltb 0 (X d p) in
-          let u = short && eqb (p .side) 16 in
+          let u = halved && eqb (p .side) 16 in
           let j = stretch d (X d p) (Y d p) (p .side) in
           let k = stretch d (X d p + 8) (Y d p) 16 in
           pairwise-append R (pick b j []) (pick u k []) (pick-order b j (stretch-order (X d p) (Y d p) (p .side))) (pick-order u k (stretch-order (X d p + 8) (Y d p) 16))
@@ -217,10 +217,10 @@ module _ (d : Pass) where
           by e f (X d p) (o .place) (X d p + 8) (q .place) (o .is) (q .is) (λ z. omega arith))
 
       pub edges-order : Pairwise R edges
-      edges-order = pairwise-each (leafEdges short) R _ l (t .order) (λ p i. leaf-order p)
+      edges-order = pairwise-each (leafEdges halved) R _ l (t .order) (λ p i. leaf-order p)
           (λ p q e f x y b i j.
-          let o = leaf-mem short p e i in
-          let u = leaf-mem short q f j in
+          let o = leaf-mem halved p e i in
+          let u = leaf-mem halved q f j in
           let k = t .known p x in
           let o₁ = o .bottom in
           let u₁ = u .top in

@@ -1,4 +1,4 @@
--- What a pass visits, in the order of the walk, and its list of edges, as listing writes it. short: the transform limit is 5.
+-- What a pass visits, in the order of the walk, and its list of edges, as listing writes it. halved: the transform limit is 5.
 -- A place is told by its coordinate across the pass's edges and the one along them, so that both passes are one definition.
 -- Assumes nothing: these are definitions.
 use mathlib.Core.Bool.{Bool, true, false, _&&_}
@@ -42,10 +42,10 @@ halves vertical x y = visit x y 8 16 ∷ visit (x + 8) y 8 16 ∷ []
 halves horizontal x y = visit x y 16 8 ∷ visit x (y + 8) 16 8 ∷ []
 
 unfoldable pub visitOf : Pass → Bool → Leaf → List Visit
-visitOf d short p = pick (short && eqb (p .side) 16) (halves d (p .x) (p .y)) (visit (p .x) (p .y) (p .side) (p .side) ∷ [])
+visitOf d halved p = pick (halved && eqb (p .side) 16) (halves d (p .x) (p .y)) (visit (p .x) (p .y) (p .side) (p .side) ∷ [])
 
 abbrev pub visits : Pass → Bool → List ℕ → ℕ → ℕ → List Visit
-visits d short s w h = each (visitOf d short) (allLeaves s w h)
+visits d halved s w h = each (visitOf d halved) (allLeaves s w h)
 
 -- n edges, from c across and a along
 unfoldable pub stretch : Pass → (c a n : ℕ) → List Edge
@@ -59,10 +59,10 @@ nearEdge horizontal p = pick (ltb 0 (p .y)) (stretch horizontal (p .y) (p .x) (p
 
 -- the edges of some leaves, one after the other; and a pass's list, those of all
 abbrev pub edgesOf : Pass → Bool → List Leaf → List Edge
-edgesOf d short l = each (nearEdge d) (each (visitOf d short) l)
+edgesOf d halved l = each (nearEdge d) (each (visitOf d halved) l)
 
 abbrev pub edgeList : Pass → Bool → List ℕ → ℕ → ℕ → List Edge
-edgeList d short s w h = edgesOf d short (allLeaves s w h)
+edgeList d halved s w h = edgesOf d halved (allLeaves s w h)
 
 -- the pass by the code's flag: whether its edges are horizontal
 abbrev pub passOf : Bool → Pass

@@ -31,7 +31,7 @@ pub record Input : Type 0 where
   pub x : ℕ
   pub y : ℕ
   pub horizontal : Bool
-  pub short : Bool
+  pub halved : Bool
   pub top : ℕ
   pub out : List ℕ
 
@@ -47,7 +47,7 @@ abbrev pub check : Input → Answer
 check i = checkOf (i .w) (i .h) (i .splits) (i .x) (i .y) (i .top) (length (i .out))
 
 abbrev pub edgesAt : Input → List Edge
-edgesAt i = edgesOf (passOf (i .horizontal)) (i .short) (map (leafDown (i .top)) (leaves.leavesAt (i .w) (i .h) (i .splits) (i .x) (i .y)))
+edgesAt i = edgesOf (passOf (i .horizontal)) (i .halved) (map (leafDown (i .top)) (leaves.leavesAt (i .w) (i .h) (i .splits) (i .x) (i .y)))
 
 abbrev pub refused : Input → Refusal → leaves.Outcome
 refused i r = leaves.after (NotCounted r) (i .out)

@@ -27,23 +27,23 @@ alongOf horizontal e = e .x
 
 -- the unit c across, a along and the one before it lie in different leaves or, with limit 5, on two sides of the cut of a leaf of 64.
 -- home: the leaf of a unit, by its place across and along
-pub record IsEdge (short : Bool) (home : ℕ → ℕ → Leaf) (c a : ℕ) : Type 0 where
+pub record IsEdge (halved : Bool) (home : ℕ → ℕ → Leaf) (c a : ℕ) : Type 0 where
   pub inner : 0 < c
-  pub between : (home (c - 1) a ≡ home c a → ⊥) ⊎ ((short ≡ true) × (home (c - 1) a ≡ home c a) × (home c a .side ≡ 16) × (c % 16 ≡ 8))
+  pub between : (home (c - 1) a ≡ home c a → ⊥) ⊎ ((halved ≡ true) × (home (c - 1) a ≡ home c a) × (home c a .side ≡ 16) × (c % 16 ≡ 8))
 
 -- e is an edge of the pass, in a picture of w by h units
-pub record EdgeOf (d : Pass) (short : Bool) (s : List ℕ) (w h : ℕ) (e : Edge) : Type 0 where
+pub record EdgeOf (d : Pass) (halved : Bool) (s : List ℕ) (w h : ℕ) (e : Edge) : Type 0 where
   pub column : e .x < w
   pub row : e .y < h
-  pub sure : IsEdge short (homeOf d s w) (crossOf d e) (alongOf d e)
+  pub sure : IsEdge halved (homeOf d s w) (crossOf d e) (alongOf d e)
 
 -- the same as a test
 abbrev pub sameLeaf : Leaf → Leaf → Bool
 sameLeaf p q = eqb (p .x) (q .x) && (eqb (p .y) (q .y) && eqb (p .side) (q .side))
 
 unfoldable pub isEdge : Bool → (ℕ → ℕ → Leaf) → ℕ → ℕ → Bool
-isEdge short home c a =
-    ltb 0 c && (not (sameLeaf (home (c - 1) a) (home c a)) || (short && (eqb (home c a .side) 16 && eqb (c % 16) 8)))
+isEdge halved home c a =
+    ltb 0 c && (not (sameLeaf (home (c - 1) a) (home c a)) || (halved && (eqb (home c a .side) 16 && eqb (c % 16) 8)))
 
 -- of row v, from the left, those of the first n columns that pass the test
 unfoldable pub rowOf : (Edge → Bool) → ℕ → ℕ → List Edge
@@ -57,4 +57,4 @@ rowsOf is w (suc n) = rowsOf is w n ++ rowOf is n w
 
 -- a pass's edges, row by row
 abbrev pub rowList : Pass → Bool → List ℕ → ℕ → ℕ → List Edge
-rowList d short s w h = rowsOf (λ e. isEdge short (homeOf d s w) (crossOf d e) (alongOf d e)) w h
+rowList d halved s w h = rowsOf (λ e. isEdge halved (homeOf d s w) (crossOf d e) (alongOf d e)) w h

@@ -9,11 +9,11 @@ use Rattle.edges.proofs.leaves_edges.Statement.{statement}
 use Rattle.edges.proofs.leaves_edges.Tie as tie
 
 abbrev Inv-loop : tie.InvT-loop
-Inv-loop list n horizontal short top out₀ at k₀ j₀ out k j =
-    (j ≤ n) × (length out ≡ length out₀) × (3 * n ≤ length list) × Written horizontal short top list out₀ at out j k
+Inv-loop list n horizontal halved top out₀ at k₀ j₀ out k j =
+    (j ≤ n) × (length out ≡ length out₀) × (3 * n ≤ length list) × Written horizontal halved top list out₀ at out j k
 
 abbrev μ-loop : tie.MeasureT-loop
-μ-loop list n horizontal short top out₀ at k₀ j₀ out k j = n - j
+μ-loop list n horizontal halved top out₀ at k₀ j₀ out k j = n - j
 
 -- a leaf's row, as it lies in what is lent
 mul-y : tie.Need-mul-y Inv-loop μ-loop

@@ -18,11 +18,11 @@ use Rattle.edges.proofs.pass_edges.Statement.{statement}
 use Rattle.edges.proofs.pass_edges.Tie as tie
 
 abbrev Inv-loop : tie.InvT-loop
-Inv-loop w h splits horizontal short out₀ across n k₀ i₀ out k i =
-    (i ≤ n) × (length out ≡ length out₀) × Rooted horizontal short splits (w / 4) (h / 4) out₀ out i k
+Inv-loop w h splits horizontal halved out₀ across n k₀ i₀ out k i =
+    (i ≤ n) × (length out ≡ length out₀) × Rooted horizontal halved splits (w / 4) (h / 4) out₀ out i k
 
 abbrev μ-loop : tie.MeasureT-loop
-μ-loop w h splits horizontal short out₀ across n k₀ i₀ out k i = n - i
+μ-loop w h splits horizontal halved out₀ across n k₀ i₀ out k i = n - i
 
 size : (s : tie.Start Inv-loop μ-loop) → Sized (s .args .w) (s .args .h)
 size s = sized _ _ (s .pre .0)
@@ -67,7 +67,7 @@ loop-again c =
       omega arith,
       e .kept .1 .1 .1 .1 .1 .1 .1 .0 ∙ l .inv .1,
       one-rooted (l .inv .2) _ _
-          (put-as (ap (λ (m : List Leaf). each edgeNumbers (edgesOf (passOf (a .horizontal)) (a .short) m)) (leaves-at (a .w) (a .h) (a .splits .now) (l .i))) (e .ensures)),
+          (put-as (ap (λ (m : List Leaf). each edgeNumbers (edgesOf (passOf (a .horizontal)) (a .halved) m)) (leaves-at (a .w) (a .h) (a .splits .now) (l .i))) (e .ensures)),
     )
 
 returns : tie.Need-returns Inv-loop μ-loop

@@ -37,7 +37,7 @@ returns-2 : tie.Need-returns-2
 returns-2 c =
     let a = c .before .before .before .before .before .before .before .before .before .before .before .before .before .args in
     let t = told _ _ _ _ (c .before .before .before .before .before .before .before .before .before .leaves .ensures) (c .before .before .before .before .before .before .n .given .1) in
-    put-as (ap (λ (l : List Leaf). each edgeNumbers (edgesOf (passOf (a .horizontal)) (a .short) l)) (down-zero _ ∙ t .back)) (c .before .before .leaves-edges .ensures)
+    put-as (ap (λ (l : List Leaf). each edgeNumbers (edgesOf (passOf (a .horizontal)) (a .halved) l)) (down-zero _ ∙ t .back)) (c .before .before .leaves-edges .ensures)
 
 pub root-edges-spec : {M : Type 1} → statement M
 root-edges-spec =

@@ -16,7 +16,7 @@ use Rattle.edges.proofs.root_list.Tie as tie
 abbrev inputOf : tie.Start → Input
 inputOf s =
     let a = s .args in
-    record { w = a .w; h = a .h; splits = a .splits .now; x = a .x .0; y = a .y .0; horizontal = a .horizontal; short = a .short; top = a .top; out = a .out .now }
+    record { w = a .w; h = a .h; splits = a .splits .now; x = a .x .0; y = a .y .0; horizontal = a .horizontal; halved = a .halved; top = a .top; out = a .out .now }
 
 size-fine : (c : tie.Else1) → sizeOk (c .before .before .before .before .args .w) (c .before .before .before .before .args .h) ≡ true
 size-fine c = sym (c .before .size-ok .ensures) ∙ not-false _ (c .if1 .left)

@@ -15,9 +15,9 @@ use Rattle.split.specs.Edges.{vertical, horizontal, Edge}
 use Rattle.df_check.proofs.Formats.{at-most}
 use Rattle.df_check.proofs.Fronts.{whole-end, end-drop}
 use Rattle.df_rules.specs.Filter.{Planes, filterAll}
-use Rattle.df_rules.specs.Frame.{Frame}
+use Rattle.df_rules.specs.Lent.{LentPicture}
 use Rattle.df_rules.specs.Strength.{Maps}
-use Rattle.bands_rules.specs.Bands.{listFrom, doneFrom, Both}
+use Rattle.bands_rules.specs.Bands.{listFrom, doneFrom, BothPassesFrom}
 use Rattle.df.proofs.band.band_passes.Statement.{statement}
 use Rattle.df.proofs.band.band_passes.Tie as tie
 
@@ -58,17 +58,17 @@ module _ (f : Format) (w n k : ℕ) (e : k ≡ inFormat f (4 * n)) (y u v words 
   planes-left i = record { y = whole-end (16 * n) y i; u = end-at e u i; v = end-at e v i }
 
   -- what both passes are asked for
-  framed : (h : ℕ) → Frame f w h (leftPlanes .y) (leftPlanes .u) (leftPlanes .v) (left .words) (left .over) t
-      → Frame f w h (lentPlanes .y) (lentPlanes .u) (lentPlanes .v) (lent .words) (lent .over) t
-  framed h g =
-      subst (λ (p : Planes). Frame f w h (p .y) (p .u) (p .v) (lent .words) (lent .over) t) (sym planes-left)
-      (subst (λ (m : Maps). Frame f w h (leftPlanes .y) (leftPlanes .u) (leftPlanes .v) (m .words) (m .over) t) (sym maps-left) g)
+  lent-picture : (h : ℕ) → LentPicture f w h (leftPlanes .y) (leftPlanes .u) (leftPlanes .v) (left .words) (left .over) t
+      → LentPicture f w h (lentPlanes .y) (lentPlanes .u) (lentPlanes .v) (lent .words) (lent .over) t
+  lent-picture h g =
+      subst (λ (p : Planes). LentPicture f w h (p .y) (p .u) (p .v) (lent .words) (lent .over) t) (sym planes-left)
+      (subst (λ (m : Maps). LentPicture f w h (leftPlanes .y) (leftPlanes .u) (leftPlanes .v) (m .words) (m .over) t) (sym maps-left) g)
 
   -- and what they leave
   passed : (top : ℕ) (ups levels : List Edge) (y₁ u₁ v₁ words₁ : List ℕ) (ver hor : ℕ)
       → 16 * n ≤ length y → inFormat f (4 * n) ≤ length u → inFormat f (4 * n) ≤ length v → n ≤ length words
-      → Both lent t w top ups levels lentPlanes (record { y = y₁; u = u₁; v = v₁ }) words₁ ver hor
-      → Both left t w top ups levels leftPlanes
+      → BothPassesFrom lent t w top ups levels lentPlanes (record { y = y₁; u = u₁; v = v₁ }) words₁ ver hor
+      → BothPassesFrom left t w top ups levels leftPlanes
       (record {
         y = drop (16 * n) (putMid (16 * n) (length y - 16 * n) y y₁);
         u = drop (inFormat f (4 * n)) (putMid k (length u - k) u u₁);
@@ -93,7 +93,7 @@ both-passes-requires c κs =
     let s = c .before .before .before .before .before .before .before .before .before .before .before .before .before .before .before in
     let a = s .args in
     let k = c .before .before .before .before .before .before .before .in-format in (
-      framed (a .format) (a .w / 4) (a .skip * (a .w / 4)) (k .result) (k .ensures) (a .y .now) (a .u .now) (a .v .now) (a .words .now)
+      lent-picture (a .format) (a .w / 4) (a .skip * (a .w / 4)) (k .result) (k .ensures) (a .y .now) (a .u .now) (a .v .now) (a .words .now)
           (a .motion .now) (a .refs .now) (a .keep .now) (a .entries .now) (a .top + a .h / 4) (s .pre .0 .0),
       s .pre .0 .1,
     )
@@ -112,7 +112,7 @@ returns c =
       front-at (k .ensures) (a .v .now) (b .last .1 .1 .1 .1 .1 .1 .1 .0) (r .2),
       take-put n (length (a .words .now) - n) (a .words .now) (b .last .1 .1 .1 .1 .1 .1 .1 .1 .0) (r .3),
       passed (a .format) (a .w / 4) n (k .result) (k .ensures) (a .y .now) (a .u .now) (a .v .now) (a .words .now) (a .motion .now) (a .refs .now) (a .keep .now) (a .entries .now) (a .top)
-          (listFrom vertical (a .short) (a .top) (a .splits .now) (a .w / 4) (a .h / 4)) (listFrom horizontal (a .short) (a .top) (a .splits .now) (a .w / 4) (a .h / 4))
+          (listFrom vertical (a .halved) (a .top) (a .splits .now) (a .w / 4) (a .h / 4)) (listFrom horizontal (a .halved) (a .top) (a .splits .now) (a .w / 4) (a .h / 4))
           (b .last .1 .1 .1 .1 .1 .0) (b .last .1 .1 .1 .1 .1 .1 .0) (b .last .1 .1 .1 .1 .1 .1 .1 .0) (b .last .1 .1 .1 .1 .1 .1 .1 .1 .0) (b .result .vertical) (b .result .horizontal)
           (r .0) (r .1) (r .2) (r .3) (b .ensures),
     )

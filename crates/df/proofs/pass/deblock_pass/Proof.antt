@@ -7,7 +7,7 @@ use lib.ListN.{length}
 use Rattle.def.proofs.Sizes.{Sized, sized}
 use Rattle.split.proofs.Roots.{few-roots, roots-units}
 use Rattle.df_rules.specs.Strength.{Maps}
-use Rattle.df_rules.proofs.Frames.{Framed}
+use Rattle.df_rules.proofs.LentPlanes.{LentPlanes}
 use Rattle.df.specs.Edges.{passOf}
 use Rattle.df.proofs.Plans.{known, plan-few}
 use Rattle.df.proofs.Turns.{Roots, roots-none, roots-more, roots-frame, roots-all, luma-plane, u-plane, v-plane}
@@ -15,13 +15,13 @@ use Rattle.df.proofs.pass.deblock_pass.Statement.{statement}
 use Rattle.df.proofs.pass.deblock_pass.Tie as tie
 
 abbrev Inv-loop : tie.InvT-loop
-Inv-loop format pass short w h top y₀ u₀ v₀ words splits motion refs keep rows entries size roots list₀ places₀ marks₀ count₀ i₀ y u v list places marks count i =
+Inv-loop format pass halved w h top y₀ u₀ v₀ words splits motion refs keep rows entries size roots list₀ places₀ marks₀ count₀ i₀ y u v list places marks count i =
     (i ≤ roots) × (length y ≡ length y₀) × (length u ≡ length u₀) × (length v ≡ length v₀) × (length list ≡ 512) × (length places ≡ 256) × (length marks ≡ 256)
-    × Roots (record { words = words; over = record { motion = motion; refs = refs; keep = keep } }) entries (passOf pass) short top splits (w / 4) (h / 4) i
+    × Roots (record { words = words; over = record { motion = motion; refs = refs; keep = keep } }) entries (passOf pass) halved top splits (w / 4) (h / 4) i
     (record { y = y₀; u = u₀; v = v₀ }) (record { y = y; u = u; v = v }) count
 
 abbrev μ-loop : tie.MeasureT-loop
-μ-loop format pass short w h top y₀ u₀ v₀ words splits motion refs keep rows entries size roots list₀ places₀ marks₀ count₀ i₀ y u v list places marks count i = roots - i
+μ-loop format pass halved w h top y₀ u₀ v₀ words splits motion refs keep rows entries size roots list₀ places₀ marks₀ count₀ i₀ y u v list places marks count i = roots - i
 
 -- what decides
 abbrev maps : tie.Start Inv-loop μ-loop → Maps
@@ -66,7 +66,7 @@ plan-requires c κs =
 
 -- the picture, at a turn
 current : (c : tie.At-loop Inv-loop μ-loop) → let a = c .before .before .before .before .before .before .before .before .before .args in
-    Framed (a .format) (a .w / 4) (a .top + a .h / 4) (record { motion = a .motion .now; refs = a .refs .now; keep = a .keep .now }) (a .entries .now) (record { y = c .loop .y; u = c .loop .u; v = c .loop .v }) (a .words .now)
+    LentPlanes (a .format) (a .w / 4) (a .top + a .h / 4) (record { motion = a .motion .now; refs = a .refs .now; keep = a .keep .now }) (a .entries .now) (record { y = c .loop .y; u = c .loop .u; v = c .loop .v }) (a .words .now)
 current c = let s = c .before .before .before .before .before .before .before .before .before in roots-frame (maps s) _ (passOf (s .args .pass)) _ _ _ _ _ (c .loop .i) _ _ _ (c .loop .inv .7) (s .pre .0)
 
 filter-luma-requires : tie.Need-filter-luma-requires Inv-loop μ-loop

@@ -22,13 +22,13 @@ returns : tie.Need-returns
 returns c =
     let s = c .before .before .before .before .before .before .before .before .before .before in
     let k = c .before .before .before .before .before .before .before .is-horizontal in
-    listed-root (s .pre .0) (s .args .i) (s .pre .1) (k .result) (s .args .short) (s .args .top) (s .pre .3) _ (s .pre .2) _ _ (c .before .before .before .before .before .root-list .ensures) (passOf (s .args .pass)) _ (k .ensures) (c .before .n .given .1)
+    listed-root (s .pre .0) (s .args .i) (s .pre .1) (k .result) (s .args .halved) (s .args .top) (s .pre .3) _ (s .pre .2) _ _ (c .before .before .before .before .before .root-list .ensures) (passOf (s .args .pass)) _ (k .ensures) (c .before .n .given .1)
 
 returns-2 : tie.Need-returns-2
 returns-2 c =
     let s = c .before .before .before .before .before .before .before .before .before in
     let k = c .before .before .before .before .before .before .is-horizontal in
-    absurd (list-met (s .pre .0) (s .args .i) (s .pre .1) (k .result) (s .args .short) (s .args .top) (s .pre .3) _ (s .pre .2) _ _ (c .before .before .before .before .root-list .ensures) _ (c .enum-told .given .1))
+    absurd (list-met (s .pre .0) (s .args .i) (s .pre .1) (k .result) (s .args .halved) (s .args .top) (s .pre .3) _ (s .pre .2) _ _ (c .before .before .before .before .root-list .ensures) _ (c .enum-told .given .1))
 
 pub root-edges-spec : {M : Type 1} → statement M
 root-edges-spec =

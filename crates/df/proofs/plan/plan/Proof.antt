@@ -6,7 +6,7 @@ use borrow.Author.Needs.{needs}
 use lib.ListN.{length}
 use Rattle.laws.proofs.Fill.{Upto, upto-none, upto-more}
 use Rattle.split.specs.Edges.{edge}
-use Rattle.df_rules.specs.Frame.{Unit, Marked}
+use Rattle.df_rules.specs.Lent.{Unit, Marked}
 use Rattle.df_rules.specs.Places.{unitQ, unitP}
 use Rattle.df_rules.specs.Strength.{Over, Maps}
 use Rattle.df.specs.Edges.{passOf}

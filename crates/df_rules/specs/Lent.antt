@@ -27,7 +27,7 @@ pub record Marked (keep : List ℕ) (k : ℕ) : Type 0 where
   pub few : getD keep k 0 ≤ 1
 
 -- a picture of w by h units and of a format, with its maps, and the strength entries
-pub record Frame (f : Format) (w h : ℕ) (y u v words : List ℕ) (over : Over) (entries : List ℕ) : Type 0 where
+pub record LentPicture (f : Format) (w h : ℕ) (y u v words : List ℕ) (over : Over) (entries : List ℕ) : Type 0 where
   pub wide : w ≤ 1024
   pub high : h ≤ 1024
   pub long-y : length y ≡ 4 * h * (4 * w)
@@ -62,7 +62,7 @@ pub record AtUnit (d : Pass) (w h c a : ℕ) : Type 0 where
   pub along : a < 4 * unitsAlong d w h
 
 -- both passes' lists were filtered, one after the other, and counted, and every unit is done. t: the strength entries
-pub record Both (m : Maps) (t : List ℕ) (w : ℕ) (ups levels : List Edge) (p q : Planes) (words : List ℕ) (ver hor : ℕ) : Type 0 where
+pub record BothPasses (m : Maps) (t : List ℕ) (w : ℕ) (ups levels : List Edge) (p q : Planes) (words : List ℕ) (ver hor : ℕ) : Type 0 where
   pub planes : q ≡ filterAll m t horizontal w levels (filterAll m t vertical w ups p)
   pub ups-counted : ver ≡ length ups
   pub levels-counted : hor ≡ length levels
