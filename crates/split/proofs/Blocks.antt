@@ -1,5 +1,5 @@
 -- A block of the walk, in luma samples as the code has it and in units as the rules have it.
---     byte-at-centre, low-bit, high-bit, only-one, deeper, not-last, counted, within, fewer    the numbers of the walk's code
+--     byte-at-centre, low-bit, high-bit, only-one, deeper, not-last, has-byte, not-eight, counted, within, fewer    the numbers of the walk's code
 --     past-x, past-y, inside    a leaf
 --     skip-x, skip-y, skip, started, at-unit, at-leaf, at-bad, at-cut    each way through the walk
 --     Cut, cut    what a block that is cut hands to its parts
@@ -45,6 +45,13 @@ deeper level l = omega arith
 pub not-last : (level : ℕ) → level < 4 → (level ≡ 3 → ⊥) → level + 1 < 4
 not-last level l n = omega arith
 
+-- a block of side 16 or more has a byte, and so have its parts
+pub has-byte : {level : ℕ} → level < 3 → level < 4
+has-byte l = omega arith
+
+pub not-eight : (level : ℕ) → level < 3 → (level ≡ 2 → ⊥) → level + 1 < 3
+not-eight level l n = omega arith
+
 pub counted : (part : ℕ) → part < 4 → part + 1 < 2 ^ 64
 counted part l = omega arith
 
@@ -63,9 +70,12 @@ module _ {w h x y side level : ℕ} (b : Block w h x y side level) where
   pub row-back : y ≡ 4 * (y / 4)
   row-back = omega arith
 
-  -- a block of the last level is a unit
-  pub as-unit : level ≡ 4 → Block w h x y 4 4
-  as-unit e = let p : side ≡ 4 = rw e at (b .power) in rw (p, e) at b
+  -- a block of level 3 has side 8, and room for four leaves
+  pub as-eight : level ≡ 3 → Block w h x y 8 3
+  as-eight e = let p : side ≡ 8 = rw e at (b .power) in rw (p, e) at b
+
+  pub room-eight : level ≡ 3 → (n m : ℕ) → 3 * (n + side / 4 * (side / 4)) ≤ m → 3 * (n + 4) ≤ m
+  room-eight e n m g = let p : side ≡ 8 = rw e at (b .power) in rw p at g
 
   -- a block's room holds a leaf
   pub room-one : (n m : ℕ) → 3 * (n + side / 4 * (side / 4)) ≤ m → 3 * n + 3 ≤ m

@@ -102,7 +102,42 @@ fn part_at(x: Pel, y: Pel, half: usize, part: usize) -> Part
     }
 }
 
-// The leaves of the block at (x, y), of side 8 or more, in the order of the walk, which calls itself on blocks of half the side until they are units.
+// The leaves of the block of side 8 at (x, y). It stands apart from the walk for the same reason: most blocks of a tree are of side 8 or units.
+fn put_eight(bytes: &[u8], w: usize, h: usize, x: Pel, y: Pel, out: &mut [u16], n: usize) -> Walked
+    requires { ⌜ Block w h (x .0) (y .0) 8 3 × (length (now bytes) ≡ 1024) × (3 * (n + 4) ≤ length (now out)) ⌝ }
+    ensures { λ r. ⌜ Stored (walk (now (bytes .entry)) (w / 4) (h / 4) (4 - 3) (x .0 / 4) (y .0 / 4)) (now (out .entry)) n (now (out .exit)) r ⌝ }
+{
+    if w <= x.0 {
+        return Walked::Done(n);
+    }
+    if h <= y.0 {
+        return Walked::Done(n);
+    }
+    let byte = get_split_mode(bytes, x, y, 8, 3);
+    if byte > 1 {
+        return Walked::Refused(Refusal::Split);
+    }
+    if byte == 0 {
+        return put_leaf(w, h, x, y, 8, 3, out, n);
+    }
+    let mut count = n;
+    let mut part = 0;
+    while part < 4 {
+        let place = part_at(x, y, 4, part);
+        match put_unit(w, h, place.x, place.y, out, count) {
+            Walked::Done(met) => {
+                count = met;
+            }
+            Walked::Refused(r) => {
+                return Walked::Refused(r);
+            }
+        }
+        part += 1;
+    }
+    Walked::Done(count)
+}
+
+// The leaves of the block at (x, y), of side 16 or more, in the order of the walk, which calls itself on blocks of half the side until they are of side 8.
 fn walk_block(
     bytes: &[u8],
     w: usize,
@@ -114,7 +149,7 @@ fn walk_block(
     out: &mut [u16],
     n: usize,
 ) -> Walked
-    requires { ⌜ Block w h (x .0) (y .0) side level × (level < 4) × (length (now bytes) ≡ 1024) × (3 * (n + side / 4 * (side / 4)) ≤ length (now out)) ⌝ }
+    requires { ⌜ Block w h (x .0) (y .0) side level × (level < 3) × (length (now bytes) ≡ 1024) × (3 * (n + side / 4 * (side / 4)) ≤ length (now out)) ⌝ }
     ensures { λ r. ⌜ Stored (walk (now (bytes .entry)) (w / 4) (h / 4) (4 - level) (x .0 / 4) (y .0 / 4)) (now (out .entry)) n (now (out .exit)) r ⌝ }
 {
     if (w <= x.0) | (h <= y.0) {
@@ -132,8 +167,8 @@ fn walk_block(
     let mut part = 0;
     while part < 4 {
         let place = part_at(x, y, half, part);
-        let walked = if level == 3 {
-            put_unit(w, h, place.x, place.y, out, count)
+        let walked = if level == 2 {
+            put_eight(bytes, w, h, place.x, place.y, out, count)
         } else {
             walk_block(bytes, w, h, place.x, place.y, half, level + 1, out, count)
         };

@@ -1,5 +1,5 @@
 -- `split::walk_block` meets its contract: it calls itself on blocks of half the side, which is the measure. The loop's invariant: the parts so far are stored.
--- Both ways to walk a part, `put_unit` and the walk itself, leave the same behind (`part-walked`).
+-- Both ways to walk a part, `put_eight` and the walk itself, leave the same behind (`part-walked`).
 -- Assumes nothing.
 use mathlib.Core.Logic.{⊎-elim}
 use mathlib.Core.Path.{_≡_, refl, subst, _∙_}
@@ -11,7 +11,7 @@ use borrow.Fn.PlainCycle.{Measures, is, falls, and}
 use lib.ListN.{length}
 use Rattle.split.specs.Stored.{Block, Stored}
 use Rattle.split.specs.Walk.{walk}
-use Rattle.split.proofs.Blocks.{Cut, cut, as-unit, room-one, only-one, deeper, not-last, counted, within, fewer, skip, started, at-bad, at-leaf}
+use Rattle.split.proofs.Blocks.{Cut, cut, as-eight, room-eight, room-one, only-one, deeper, has-byte, not-eight, counted, within, fewer, skip, started, at-bad, at-leaf}
 use Rattle.split.proofs.Parts.{Turned, no-part, part-block, part-room, part-more, part-refused, whole}
 use Rattle.split.proofs.Stores.{stored-nothing, stored-refused, stored-as}
 use Rattle.split.proofs.walk_block.Reads as walk-block
@@ -20,7 +20,7 @@ use Rattle.split.proofs.+walk_block.Lts-walk_block as walk-block-lts
 use Rattle.split.proofs.get_split_mode.Reads as get-split-mode-reads
 use Rattle.split.proofs.part_at.Reads as part-at-reads
 use Rattle.split.proofs.put_leaf.Reads as put-leaf-reads
-use Rattle.split.proofs.put_unit.Reads as put-unit-reads
+use Rattle.split.proofs.put_eight.Reads as put-eight-reads
 use Rattle.split.proofs.+walk_block.{statement}
 use Rattle.split.proofs.+walk_block.Tie.{close}
 
@@ -48,8 +48,8 @@ calls t = (
   put-leaf-reads.Learnt,
   part-at-reads.Asked,
   part-at-reads.Learnt,
-  put-unit-reads.Asked,
-  put-unit-reads.Learnt,
+  put-eight-reads.Asked,
+  put-eight-reads.Learnt,
   walk-block-below t,
   walk-block.Post,
 )
@@ -89,7 +89,7 @@ part-walked : (t : ℕ) (j : Met t) →
     × Stored (walk (a .bytes .now) (a .w / 4) (a .h / 4) (4 - (a .level + 1)) (q .x .0 / 4) (q .y .0 / 4)) (p .out) (p .count) (j .if4 .out) (j .if4 .walked)
 part-walked t j =
     ⊎-elim
-    (λ u. rw (u .5, u .6) (u .2 .kept .1 .1 .1 .1 .0, rw (u .0 .taken) (u .2 .ensures _)))
+    (λ u. rw (u .5, u .6) (u .2 .kept .1 .1 .1 .1 .1 .0, rw (u .0 .taken) (u .2 .ensures)))
     (λ u. rw (u .5, u .6) (u .2 .kept .1 .1 .1 .1 .1 .1 .1 .0, u .2 .ensures))
     (j .if4 .came)
 
@@ -102,12 +102,12 @@ pub +walk-block-spec : {M : Type 1} → statement M
     -- outside the picture, to the right or below: nothing is met
     (λ c. stored-as (skip _ (c .before .before .before .before .before .pre .1 .0) (c .if1 .taken)) (stored-nothing _ _))
     -- the byte: neither 0 nor 1. e is where the block is known to start inside
-    (λ c κs. let p = c .before .before .before .before .before .pre .1 in (p .2, p .0 .right, p .0 .bottom, p .1))
+    (λ c κs. let p = c .before .before .before .before .before .pre .1 in (p .2, p .0 .right, p .0 .bottom, has-byte (p .1)))
     (λ c.
     let e = c .before .before in
     let i = inside t e in
     let p = e .before .before .before .before .before .pre .1 in
-    stored-as (at-bad _ (p .0) (i .0) (i .1) (p .1) _ (c .before .get-split-mode .ensures) (c .if2 .taken)) (stored-refused _ _ _))
+    stored-as (at-bad _ (p .0) (i .0) (i .1) (has-byte (p .1)) _ (c .before .get-split-mode .ensures) (c .if2 .taken)) (stored-refused _ _ _))
     -- 0: a leaf
     (λ c κs. let p = c .before .before .before .before .before .before .before .before .before .pre .1 in (p .0, room-one (p .0) _ _ (p .3)))
     (λ c. c .before .before .put-leaf .kept .1 .1 .1 .1 .1 .1 .0)
@@ -116,25 +116,30 @@ pub +walk-block-spec : {M : Type 1} → statement M
     let e = g .before in
     let i = inside t e in
     let p = e .before .before .before .before .before .pre .1 in
-    stored-as (at-leaf _ (p .0) (i .0) (i .1) (p .1) _ (g .get-split-mode .ensures) (c .before .before .before .before .if3 .taken)) (c .before .before .put-leaf .ensures))
+    stored-as (at-leaf _ (p .0) (i .0) (i .1) (has-byte (p .1)) _ (g .get-split-mode .ensures) (c .before .before .before .before .if3 .taken)) (c .before .before .put-leaf .ensures))
     -- 1: the loop over the four parts
     (λ c.
     let g = c .before .before in
     let e = g .before in
     let i = inside t e in
     let p = e .before .before .before .before .before .pre .1 in
-    (zero-le, refl, cut _ (p .0) (i .0) (i .1) (p .1) _ (g .get-split-mode .ensures) (only-one _ (c .before .if2 .left) (c .if3 .left)), no-part _ _ _ _ _ _ _ _))
+    (zero-le, refl, cut _ (p .0) (i .0) (i .1) (has-byte (p .1)) _ (g .get-split-mode .ensures) (only-one _ (c .before .if2 .left) (c .if3 .left)), no-part _ _ _ _ _ _ _ _))
     (λ c κs. let v = c .before .loop .inv .2 in (v .right, v .bottom, c .loop-test .taken))
-    -- what the next part asks, as a unit
-    (λ c κs. let q = part-asks t (c .before .before) in (as-unit (q .0) (omega (arith, c .before .if4 .taken)), room-one (q .0) _ _ (q .1)))
+    -- what the next part asks, of side 8
+    (λ c κs.
+    let n = c .before .before in
+    let q = part-asks t n in
+    let s = n .before .before .before .before .before .before .before .before .before .before .before in
+    let e : s .args .level + 1 ≡ 3 = omega (arith, c .before .if4 .taken) in
+    (as-eight (q .0) e, s .pre .1 .2, room-eight (q .0) e _ _ (q .1)))
     -- and as a block that is walked: half the side
-    (λ c. record { fits = deeper _ (c .before .before .before .before .before .before .before .before .before .before .before .before .pre .1 .1) })
+    (λ c. record { fits = deeper _ (has-byte (c .before .before .before .before .before .before .before .before .before .before .before .before .pre .1 .1)) })
     (λ c κs.
     let n = c .before .before in
     let q = part-asks t n in
     let s = n .before .before .before .before .before .before .before .before .before .before .before in
     let p = s .pre in
-    (subst (λ (m : ℕ). s .args .side / 2 < m) (p .0) (n .before .before .loop .inv .2 .less), (q .0, not-last _ (p .1 .1) (c .before .if4 .left), p .1 .2, q .1)))
+    (subst (λ (m : ℕ). s .args .side / 2 < m) (p .0) (n .before .before .loop .inv .2 .less), (q .0, not-eight _ (p .1 .1) (c .before .if4 .left), p .1 .2, q .1)))
     (λ c. search needs)
     (λ c. search needs)
     -- a part that is refused ends the walk
