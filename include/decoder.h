@@ -10,10 +10,11 @@
  * No call allocates or keeps anything from one call to the next: what it works on is lent to it or lies on its stack. So calls on different
  * slices may run on different threads at the same time; a slice that is only read may be lent to several.
  *
- * Bytes of stack that each call was measured to need, its arguments and its return address among them (tools/stack/run,
- * docs/SPEED.md): derived_chroma_qp_mapping_tables 272, get_avail_intra 72, get_avail_inter 80, get_mpm 56, get_nbr 624, ipred_b 144,
- * recon 24, recon_plane 241, check 2,400, leaves 2,456, visiting_rank 272, list_edges 4,248, reconstruct 13,232, deblock 7,856,
- * listing 53,472.
+ * Bytes of stack that each call was measured to need, its arguments and its return address among them (tools/stack/run, docs/SPEED.md):
+ * derived_chroma_qp_mapping_tables 272, get_avail_intra 72, get_avail_inter 80, get_mpm 56, get_nbr 560, ipred_b 144, recon 24, recon_plane
+ * 241, check 2,400, leaves 2,456, put_map 984, get_map 1,480, mend 984, visiting_rank 272, list_edges 4,248, reconstruct 12,240, deblock
+ * 7,856, deblock_band 7,440, fill_rows 217, set_motion 457, set_flag 408, deblock_by_rows 7,856, listing 53,472, read_header 408,
+ * write_header 352, read_frame 224, write_frame 64, import_frame 472, ward_row 248.
  *
  * Sizes, lengths and their order are in specs/ of the crate that each call names; w and h are the picture's sides in luma samples. */
 #ifndef LOMSAKEUN_DECODER_H
