@@ -10,8 +10,11 @@ use say::end_line;
 use say::field;
 use y4m_frame::FrameRead;
 
-mod rooms;
+mod header; // header.rt: a stream that is written
+mod rooms; // rooms.rt: room for a frame
 
+pub use header::progress;
+pub use header::put_header;
 pub use rooms::frames;
 pub use rooms::large_bytes;
 pub use rooms::large_chroma;

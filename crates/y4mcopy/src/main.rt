@@ -1,35 +1,6 @@
 // Writes the YUV4MPEG2 file that its argument names to standard output again, read and checked: its header as this product writes one, and its frames. F is
 // 25:1 and A is 1:1 where the file's header has none. At a refusal it stops: what was written are the frames before it.
-use def::Format;
-use libc::STDOUT_FILENO;
 use y4m_header::HeaderRead;
-use y4m_header::HeaderWritten;
-
-// Writes the header; answers the refusal's number, 0 where it is done, and 255 where writing failed.
-fn put_header(w: usize, h: usize, f: usize, g: usize, a: usize, b: usize) -> u8 {
-    let mut head = [0u8; 256];
-    match y4m_header::write_header(
-        Format::Colour,
-        w,
-        h,
-        y4m_file::or_else(f, 25),
-        y4m_file::or_else(g, 1),
-        y4m_file::or_else(a, 1),
-        y4m_file::or_else(b, 1),
-        &mut head,
-    ) {
-        HeaderWritten::Refused(r) => def::refusal_number(r),
-        HeaderWritten::Written(n) => {
-            if 256 < n {
-                return 255;
-            }
-            if io::write_all(STDOUT_FILENO, &head[..n]) {
-                return 0;
-            }
-            255
-        }
-    }
-}
 
 fn copied(file: i32) -> u8 {
     let mut head = [0u8; 256];
@@ -51,7 +22,7 @@ fn copied(file: i32) -> u8 {
             b,
             next,
         } => {
-            if put_header(w, h, f, g, a, b) != 0 {
+            if !y4m_file::put_header(w, h, f, g, a, b) {
                 say::line(b"y4mcopy: the copy cannot be written");
                 return 2;
             }
