@@ -3,14 +3,13 @@
 --     column-run    a unit's column in a run
 --     intra-run, still-run    what is known of a whole run
 -- Assumes nothing.
-use Prim.Native.Nat.{ℕ, zero, suc, _+_, _-_, _*_, _/_, _%_, _≤_, _<_}
-use mathlib.Core.Path.{_≡_, refl, sym, ap, _∙_, subst}
-use mathlib.Core.Bool.{Bool, true, false, not, _&&_, _||_}
+use Prim.Native.Nat.{ℕ, zero, suc, _+_, _-_, _*_, _%_, _≤_, _<_}
+use mathlib.Core.Path.{_≡_, refl, sym, ap, _∙_}
+use mathlib.Core.Bool.{Bool, true, false, _&&_, _||_}
 use mathlib.Core.List.{List}
 use native.Mathlib.Nat.{mod-eq-of-lt, mod-add-mod, add-zero}
 use native.Mathlib.Omega.{arith}
 use borrow.Author.Tests.{eqb-true, eq-eqb, lt-ltb, le-leb, not-true}
-use lib.Dec.{eqb, ltb, leb}
 use lib.IntN.{ℤ, pos}
 use lib.ListN.{length, getD}
 use Rattle.laws.specs.Bits.{withField}
@@ -21,7 +20,7 @@ use Rattle.laws.proofs.Scans.{scan-at}
 use Rattle.laws.proofs.ScanAll.{scan-pass}
 use Rattle.def.specs.Word.{intraOf, codedOf}
 use Rattle.line.specs.Row.{rowOf}
-use Rattle.line.proofs.Rows.{eqZ-same, row-self, either-intra}
+use Rattle.line.proofs.Rows.{eqZ-same, row-self}
 use Rattle.split.specs.Edges.{Pass, vertical, horizontal}
 use Rattle.df_rules.specs.Places.{stepAcross}
 use Rattle.df_rules.specs.Strength.{motionAt, rowBy}

@@ -1,12 +1,12 @@
 -- Runs of units that follow each other in one row of units, and what is tested of all of them at once.
 -- Assumes nothing: these are definitions.
-use Prim.Native.Nat.{ℕ, _+_, _%_, _≤_, _<_}
+use Prim.Native.Nat.{ℕ, _+_, _%_, _≤_}
 use mathlib.Core.Path.{_≡_}
 use mathlib.Core.Bool.{Bool, not, _||_}
 use mathlib.Core.List.{List}
 use lib.Dec.{eqb}
 use lib.IntN.{ℤ, pos}
-use lib.ListN.{length, getD}
+use lib.ListN.{getD}
 use Rattle.laws.specs.Scan.{allBelow}
 use Rattle.def.specs.Word.{intraOf, codedOf}
 use Rattle.line.specs.Row.{eqZ}

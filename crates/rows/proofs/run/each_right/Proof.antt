@@ -2,7 +2,6 @@
 use Prim.Native.Nat.{_-_, _≤_}
 use mathlib.Core.Path.{_≡_, sym, _∙_}
 use native.Mathlib.Omega.{arith}
-use borrow.Author.Needs.{needs}
 use Rattle.laws.proofs.Scans.{scan-none}
 use Rattle.laws.proofs.ScanAll.{scan-step}
 use Rattle.rows.specs.Runs.{rightRun}
