@@ -3,6 +3,7 @@ ghost use Prim.Native.Nat.{_≤_};
 use crate::Job;
 use crate::pen::Pen;
 use crate::svg;
+use crate::svg::plus;
 use decoder::Mended;
 use decoder::Pel;
 use decoder::Walked;
@@ -12,10 +13,6 @@ use tree_file::number_at;
 struct Band {
     rows: usize,
     above: usize,
-}
-
-fn plus(a: usize, b: usize) -> usize {
-    std::num::wrapping_add_usize(a, b)
 }
 
 // ---- a root

@@ -13,7 +13,7 @@ fn smaller(a: usize, b: usize) -> usize {
     if a < b { a } else { b }
 }
 
-fn plus(a: usize, b: usize) -> usize {
+pub(crate) fn plus(a: usize, b: usize) -> usize {
     std::num::wrapping_add_usize(a, b)
 }
 
@@ -269,6 +269,45 @@ fn entry(pen: Pen, out: &mut [u8; 65536], sample: &[u8], text: &[u8], n: usize) 
     words(p, out, b"</text>\n")
 }
 
+// The edges of both passes.
+fn passes(pen: Pen, out: &mut [u8; 65536], vertical: usize, horizontal: usize) -> Pen {
+    let p = entry(
+        pen,
+        out,
+        b"<path d=\"M54 34v16\" stroke=\"#d55e00\" stroke-width=\"4\"/>\n",
+        b"<text x=\"66\" y=\"47\">vertical edges, first pass: ",
+        vertical,
+    );
+    entry(
+        p,
+        out,
+        b"<path d=\"M330 42h16\" stroke=\"#0072b2\" stroke-width=\"4\"/>\n",
+        b"<text x=\"352\" y=\"47\">horizontal edges, second pass: ",
+        horizontal,
+    )
+}
+
+// The leaves, and of a torn map the changes.
+fn blocks(pen: Pen, out: &mut [u8; 65536], job: Job, leaves: usize, changes: usize) -> Pen {
+    let p = entry(
+        pen,
+        out,
+        b"<rect x=\"330\" y=\"12\" width=\"12\" height=\"12\" fill=\"none\" stroke=\"#8a8a8a\"/>\n",
+        b"<text x=\"352\" y=\"22\">leaves: ",
+        leaves,
+    );
+    if !job.torn {
+        return p;
+    }
+    entry(
+        p,
+        out,
+        b"<rect x=\"464\" y=\"12\" width=\"12\" height=\"12\" fill=\"#ffe98a\" stroke=\"#7a5c00\" stroke-dasharray=\"3 2\"/>\n",
+        b"<text x=\"484\" y=\"22\">split bytes mended: ",
+        changes,
+    )
+}
+
 // The end of the picture: what was drawn is known by now.
 pub(crate) fn end(pen: Pen, out: &mut [u8; 65536], job: Job) -> Pen {
     let leaves = pen.leaves;
@@ -277,36 +316,7 @@ pub(crate) fn end(pen: Pen, out: &mut [u8; 65536], job: Job) -> Pen {
     let changes = pen.changes;
     let p = words(pen, out, b"</g>\n");
     let p = title(p, out, job);
-    let p = entry(
-        p,
-        out,
-        b"<path d=\"M54 34v16\" stroke=\"#d55e00\" stroke-width=\"4\"/>\n",
-        b"<text x=\"66\" y=\"47\">vertical edges, first pass: ",
-        vertical,
-    );
-    let p = entry(
-        p,
-        out,
-        b"<path d=\"M330 42h16\" stroke=\"#0072b2\" stroke-width=\"4\"/>\n",
-        b"<text x=\"352\" y=\"47\">horizontal edges, second pass: ",
-        horizontal,
-    );
-    let p = entry(
-        p,
-        out,
-        b"<rect x=\"330\" y=\"12\" width=\"12\" height=\"12\" fill=\"none\" stroke=\"#8a8a8a\"/>\n",
-        b"<text x=\"352\" y=\"22\">leaves: ",
-        leaves,
-    );
-    if job.torn {
-        let p = entry(
-            p,
-            out,
-            b"<rect x=\"464\" y=\"12\" width=\"12\" height=\"12\" fill=\"#ffe98a\" stroke=\"#7a5c00\" stroke-dasharray=\"3 2\"/>\n",
-            b"<text x=\"484\" y=\"22\">split bytes mended: ",
-            changes,
-        );
-        return words(p, out, b"</svg>\n");
-    }
+    let p = passes(p, out, vertical, horizontal);
+    let p = blocks(p, out, job, leaves, changes);
     words(p, out, b"</svg>\n")
 }
