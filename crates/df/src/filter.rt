@@ -42,7 +42,7 @@ pub(crate) struct Size {
     pub(crate) rows: usize,
 }
 
-// One unit's edge in luma, by the place of its strength and its marks: x and z are where Q's first luma sample lies across the edge and along it. Strength 0
+// One unit's edge in luma, by the place of its strength and its marks: cross and along are where Q's first luma sample lies across the edge and along it. Strength 0
 // leaves a window untouched. In the horizontal pass the lines lie side by side.
 fn edge_luma(
     pass: Pass,
@@ -51,17 +51,17 @@ fn edge_luma(
     entries: &[u8],
     k: usize,
     marks: u8,
-    x: usize,
-    z: usize,
+    cross: usize,
+    along: usize,
 )
-    requires { ⌜ PlaneOf 4 (size .columns) (size .rows) (now y) × AtUnit (passOf pass) (size .columns) (size .rows) x z × (k ≤ 207) × (length (now entries) ≡ 624) ⌝ }
-    ensures { λ _. ⌜ now (y .exit) ≡ window (maskBy Luma marks) (passOf pass) Luma (size .columns) (4 * getD (now (entries .entry)) k 0) (edgeAt (passOf pass) (x / 4) (z / 4)) (now (y .entry)) ⌝ }
+    requires { ⌜ PlaneOf 4 (size .columns) (size .rows) (now y) × AtUnit (passOf pass) (size .columns) (size .rows) cross along × (k ≤ 207) × (length (now entries) ≡ 624) ⌝ }
+    ensures { λ _. ⌜ now (y .exit) ≡ window (maskBy Luma marks) (passOf pass) Luma (size .columns) (4 * getD (now (entries .entry)) k 0) (edgeAt (passOf pass) (cross / 4) (along / 4)) (now (y .entry)) ⌝ }
 {
     let st = strength_at(entries, k);
     if st == 0 {
         return;
     }
-    let p = place(pass, 4 * size.columns, x, z);
+    let p = place(pass, 4 * size.columns, cross, along);
     if marks == 0 {
         luma(p.next == 1, y, p, st);
         return;
@@ -78,19 +78,19 @@ fn edge_chroma(
     entries: &[u8],
     k: usize,
     marks: u8,
-    x: usize,
-    z: usize,
+    cross: usize,
+    along: usize,
 )
-    requires { ⌜ PlaneOf 2 (size .columns) (size .rows) (now u) × PlaneOf 2 (size .columns) (size .rows) (now v) × AtUnit (passOf pass) (size .columns) (size .rows) x z × (k ≤ 207) × (length (now entries) ≡ 624) ⌝ }
-    ensures { λ _. ⌜ (now (u .exit) ≡ window (maskBy Chroma marks) (passOf pass) Chroma (size .columns) (4 * getD (now (entries .entry)) (208 + k) 0) (edgeAt (passOf pass) (x / 4) (z / 4)) (now (u .entry)))
-        × (now (v .exit) ≡ window (maskBy Chroma marks) (passOf pass) Chroma (size .columns) (4 * getD (now (entries .entry)) (416 + k) 0) (edgeAt (passOf pass) (x / 4) (z / 4)) (now (v .entry))) ⌝ }
+    requires { ⌜ PlaneOf 2 (size .columns) (size .rows) (now u) × PlaneOf 2 (size .columns) (size .rows) (now v) × AtUnit (passOf pass) (size .columns) (size .rows) cross along × (k ≤ 207) × (length (now entries) ≡ 624) ⌝ }
+    ensures { λ _. ⌜ (now (u .exit) ≡ window (maskBy Chroma marks) (passOf pass) Chroma (size .columns) (4 * getD (now (entries .entry)) (208 + k) 0) (edgeAt (passOf pass) (cross / 4) (along / 4)) (now (u .entry)))
+        × (now (v .exit) ≡ window (maskBy Chroma marks) (passOf pass) Chroma (size .columns) (4 * getD (now (entries .entry)) (416 + k) 0) (edgeAt (passOf pass) (cross / 4) (along / 4)) (now (v .entry))) ⌝ }
 {
     let su = strength_at(entries, 208 + k);
     let sv = strength_at(entries, 416 + k);
     if (su == 0) & (sv == 0) {
         return;
     }
-    let p = place(pass, 2 * size.columns, x / 2, z / 2);
+    let p = place(pass, 2 * size.columns, cross / 2, along / 2);
     if marks == 0 {
         chroma(p.next == 1, u, v, p, su, sv);
         return;
@@ -118,9 +118,9 @@ pub(crate) fn filter_luma(
         let k = places[i] as usize;
         let a = number_at(list, 2 * i);
         let b = number_at(list, 2 * i + 1);
-        let x = cross_of(pass, a, b);
-        let z = along_of(pass, a, b);
-        edge_luma(pass, size, &mut *y, entries, k, marks[i], x, z);
+        let cross = cross_of(pass, a, b);
+        let along = along_of(pass, a, b);
+        edge_luma(pass, size, &mut *y, entries, k, marks[i], cross, along);
     }
 }
 
@@ -144,9 +144,19 @@ fn filter_chroma(
         let k = places[i] as usize;
         let a = number_at(list, 2 * i);
         let b = number_at(list, 2 * i + 1);
-        let x = cross_of(pass, a, b);
-        let z = along_of(pass, a, b);
-        edge_chroma(pass, size, &mut *u, &mut *v, entries, k, marks[i], x, z);
+        let cross = cross_of(pass, a, b);
+        let along = along_of(pass, a, b);
+        edge_chroma(
+            pass,
+            size,
+            &mut *u,
+            &mut *v,
+            entries,
+            k,
+            marks[i],
+            cross,
+            along,
+        );
     }
 }
 

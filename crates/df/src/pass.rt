@@ -36,8 +36,8 @@ fn root_edges(
 {
     let across = (w + 63) / 64;
     let x = Pel(64 * (i % across));
-    let z = Pel(64 * (i / across));
-    match edges::root_list(w, h, splits, x, z, is_horizontal(pass), halved, top, out) {
+    let y = Pel(64 * (i / across));
+    match edges::root_list(w, h, splits, x, y, is_horizontal(pass), halved, top, out) {
         Walked::Done(n) => n,
         Walked::Refused(_) => 0,
     }

@@ -21,7 +21,7 @@ use Rattle.df.proofs.filter.edge_chroma.Statement.{statement}
 use Rattle.df.proofs.filter.edge_chroma.Tie as tie
 
 -- where the edge stands
-at-spot : (s : tie.Start) → Spot (passOf (s .args .pass)) (s .args .size .columns) (s .args .size .rows) (s .args .x) (s .args .z)
+at-spot : (s : tie.Start) → Spot (passOf (s .args .pass)) (s .args .size .columns) (s .args .size .rows) (s .args .cross) (s .args .along)
 at-spot s = spot _ _ _ _ _ (s .pre .0 .wide) (s .pre .0 .high) (s .pre .2)
 
 returns : tie.Need-returns
@@ -29,10 +29,10 @@ returns c =
     let a = c .before .before .before .before .before .before .args in
     let d = passOf (a .pass) in
     let w = a .size .columns in
-    let p = placeOf d (2 * w) (2 * (a .x / 4)) (2 * (a .z / 4)) in
+    let p = placeOf d (2 * w) (2 * (a .cross / 4)) (2 * (a .along / 4)) in
     let t = and-true (eqb (c .before .before .strength-at .result) 0) (eqb (c .before .strength-at2 .result) 0) (c .if1 .taken) in (
-      edge-by Chroma d w (a .x / 4) (a .z / 4) _ _ _ (maskBy Chroma (a .marks)) p _ _ refl (c .before .before .strength-at .ensures) refl (untouched _ _ _ _ _ _ (a .u .now) (eqb-true _ _ (t .0))),
-      edge-by Chroma d w (a .x / 4) (a .z / 4) _ _ _ (maskBy Chroma (a .marks)) p _ _ refl (c .before .strength-at2 .ensures) refl (untouched _ _ _ _ _ _ (a .v .now) (eqb-true _ _ (t .1))),
+      edge-by Chroma d w (a .cross / 4) (a .along / 4) _ _ _ (maskBy Chroma (a .marks)) p _ _ refl (c .before .before .strength-at .ensures) refl (untouched _ _ _ _ _ _ (a .u .now) (eqb-true _ _ (t .0))),
+      edge-by Chroma d w (a .cross / 4) (a .along / 4) _ _ _ (maskBy Chroma (a .marks)) p _ _ refl (c .before .strength-at2 .ensures) refl (untouched _ _ _ _ _ _ (a .v .now) (eqb-true _ _ (t .1))),
     )
 
 place-requires : tie.Need-place-requires
@@ -43,7 +43,7 @@ place-requires c κs =
     (omega arith, omega arith, omega arith, omega arith)
 
 -- the windows' place, by the unit
-is-place : (c : tie.After-place) → let a = c .before .before .before .before .before .before .before .before .args in c .place .result ≡ placeOf (passOf (a .pass)) (2 * a .size .columns) (2 * (a .x / 4)) (2 * (a .z / 4))
+is-place : (c : tie.After-place) → let a = c .before .before .before .before .before .before .before .before .args in c .place .result ≡ placeOf (passOf (a .pass)) (2 * a .size .columns) (2 * (a .cross / 4)) (2 * (a .along / 4))
 is-place c =
     let s = c .before .before .before .before .before .before .before .before in
     let k = at-spot s in
@@ -60,8 +60,8 @@ lies c =
     let w = a .size .columns in
     let h = a .size .rows in
     let d = passOf (a .pass) in
-    let x = a .x / 4 in
-    let z = a .z / 4 in
+    let x = a .cross / 4 in
+    let z = a .along / 4 in
     let in-plane = inside 2 w h (omega arith) d x z (k .inner) (k .across) (k .along) in
     let u : Inside (c .place .result) 1 (a .u .now) = subst (λ (p : Place). Inside p 1 (a .u .now)) (sym (is-place c)) (omega (arith, f .long)) in
     let v : Inside (c .place .result) 1 (a .v .now) = subst (λ (p : Place). Inside p 1 (a .v .now)) (sym (is-place c)) (omega (arith, g .long)) in
@@ -73,7 +73,7 @@ beside : (c : tie.After-place) → eqb (c .place .result .next) 1 ≡ true → B
 beside c t =
     let s = c .before .before .before .before .before .before .before .before in
     let a = s .args in
-    beside-chroma (passOf (a .pass)) (a .size .columns) (a .size .rows) (a .x / 4) (a .z / 4) _ (at-spot s .along) (is-place c) (eqb-true _ _ t)
+    beside-chroma (passOf (a .pass)) (a .size .columns) (a .size .rows) (a .cross / 4) (a .along / 4) _ (at-spot s .along) (is-place c) (eqb-true _ _ t)
 
 chroma-requires : tie.Need-chroma-requires
 chroma-requires c κs = let l = lies (c .before .before .before .before) in (beside (c .before .before .before .before), l .0, l .1)

@@ -20,7 +20,7 @@ use Rattle.df.proofs.filter.edge_luma.Statement.{statement}
 use Rattle.df.proofs.filter.edge_luma.Tie as tie
 
 -- where the edge stands
-at-spot : (s : tie.Start) → Spot (passOf (s .args .pass)) (s .args .size .columns) (s .args .size .rows) (s .args .x) (s .args .z)
+at-spot : (s : tie.Start) → Spot (passOf (s .args .pass)) (s .args .size .columns) (s .args .size .rows) (s .args .cross) (s .args .along)
 at-spot s = spot _ _ _ _ _ (s .pre .0 .wide) (s .pre .0 .high) (s .pre .1)
 
 returns : tie.Need-returns
@@ -28,7 +28,7 @@ returns c =
     let a = c .before .before .before .before .args in
     let d = passOf (a .pass) in
     let w = a .size .columns in
-    edge-by Luma d w (a .x / 4) (a .z / 4) _ _ _ (maskBy Luma (a .marks)) (placeOf d (4 * w) (4 * (a .x / 4)) (4 * (a .z / 4))) _ _ refl (c .before .strength-at .ensures) refl (untouched _ _ _ _ _ _ (a .y .now) (c .if1 .taken))
+    edge-by Luma d w (a .cross / 4) (a .along / 4) _ _ _ (maskBy Luma (a .marks)) (placeOf d (4 * w) (4 * (a .cross / 4)) (4 * (a .along / 4))) _ _ refl (c .before .strength-at .ensures) refl (untouched _ _ _ _ _ _ (a .y .now) (c .if1 .taken))
 
 place-requires : tie.Need-place-requires
 place-requires c κs =
@@ -38,7 +38,7 @@ place-requires c κs =
     (omega arith, omega arith, k .few-x, k .few-z)
 
 -- the window's place, by the unit
-is-place : (c : tie.After-place) → let a = c .before .before .before .before .before .before .args in c .place .result ≡ placeOf (passOf (a .pass)) (4 * a .size .columns) (4 * (a .x / 4)) (4 * (a .z / 4))
+is-place : (c : tie.After-place) → let a = c .before .before .before .before .before .before .args in c .place .result ≡ placeOf (passOf (a .pass)) (4 * a .size .columns) (4 * (a .cross / 4)) (4 * (a .along / 4))
 is-place c =
     let s = c .before .before .before .before .before .before in
     let k = at-spot s in
@@ -54,8 +54,8 @@ lies c =
     let w = a .size .columns in
     let h = a .size .rows in
     let d = passOf (a .pass) in
-    let x = a .x / 4 in
-    let z = a .z / 4 in
+    let x = a .cross / 4 in
+    let z = a .along / 4 in
     let in-plane = inside 4 w h (omega arith) d x z (k .inner) (k .across) (k .along) in
     let y : Inside (c .place .result) 3 (a .y .now) = subst (λ (p : Place). Inside p 3 (a .y .now)) (sym (is-place c)) (omega (arith, f .long)) in
     let four : Apart (c .place .result .step) (c .place .result .next) 4 = subst (λ (p : Place). Apart (p .step) (p .next) 4) (sym (is-place c)) (apart-pass 4 w h (omega arith) d x z (k .inner) (k .across) (k .along)) in
@@ -66,7 +66,7 @@ beside : (c : tie.After-place) → eqb (c .place .result .next) 1 ≡ true → B
 beside c t =
     let s = c .before .before .before .before .before .before in
     let a = s .args in
-    beside-luma (passOf (a .pass)) (a .size .columns) (a .size .rows) (a .x / 4) (a .z / 4) _ (at-spot s .along) (is-place c) (eqb-true _ _ t)
+    beside-luma (passOf (a .pass)) (a .size .columns) (a .size .rows) (a .cross / 4) (a .along / 4) _ (at-spot s .along) (is-place c) (eqb-true _ _ t)
 
 luma-requires : tie.Need-luma-requires
 luma-requires c κs = (beside (c .before .before .before), lies (c .before .before .before))
