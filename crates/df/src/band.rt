@@ -10,7 +10,7 @@ ghost use Rattle.bands_rules.specs.Bands.{listFrom, BothPassesFrom};
 ghost use Rattle.laws.specs.Call.{Gives};
 ghost use Rattle.df.specs.Band as Band;
 use crate::Counts;
-use crate::both_passes;
+use crate::passes_by;
 use crate::entries_by;
 use def::Answer;
 use def::Format;
@@ -36,7 +36,8 @@ pub enum Banded {
     Refused(Refusal, Bands),
 }
 
-// Both passes over h rows of samples, below `top` rows of units. What is lent has `skip` more rows of units before these, which are not looked at.
+// Both passes over h rows of samples, below `top` rows of units. What is lent has `skip` more rows of units before these, which are not looked at. No map of edge
+// rows is lent.
 pub(crate) fn band_passes(
     format: Format,
     halved: bool,
@@ -72,7 +73,7 @@ pub(crate) fn band_passes(
     let chroma = in_format(format, 4 * from);
     let motion_from = 4 * from;
     let refs_from = 2 * from;
-    both_passes(
+    passes_by(
         format,
         halved,
         w,
@@ -86,6 +87,7 @@ pub(crate) fn band_passes(
         &motion[motion_from..],
         &refs[refs_from..],
         &keep[from..],
+        &splits[..0],
         entries,
     )
 }

@@ -130,48 +130,6 @@ pub(crate) fn passes_by(
     }
 }
 
-// The same where no map is lent.
-pub(crate) fn both_passes(
-    format: Format,
-    halved: bool,
-    w: usize,
-    h: usize,
-    top: usize,
-    y: &mut [u16],
-    u: &mut [u16],
-    v: &mut [u16],
-    words: &mut [u32],
-    splits: &[u8],
-    motion: &[i16],
-    refs: &[i8],
-    keep: &[u8],
-    entries: &[u8],
-) -> Counts
-    requires { ⌜ LentPicture format (w / 4) (top + h / 4) (now y) (now u) (now v) (now words) (record { motion = now motion; refs = now refs; keep = now keep }) (now entries) × Accepted w h (now splits) ⌝ }
-    ensures { λ r. ⌜ BothPassesFrom (record { words = now (words .entry); over = record { motion = now (motion .entry); refs = now (refs .entry); keep = now (keep .entry) } }) (now (entries .entry))
-        (w / 4) top (listFrom vertical halved top (now (splits .entry)) (w / 4) (h / 4)) (listFrom horizontal halved top (now (splits .entry)) (w / 4) (h / 4))
-        (record { y = now (y .entry); u = now (u .entry); v = now (v .entry) }) (record { y = now (y .exit); u = now (u .exit); v = now (v .exit) })
-        (now (words .exit)) (r .vertical) (r .horizontal) ⌝ }
-{
-    passes_by(
-        format,
-        halved,
-        w,
-        h,
-        top,
-        y,
-        u,
-        v,
-        words,
-        splits,
-        motion,
-        refs,
-        keep,
-        &splits[..0],
-        entries,
-    )
-}
-
 // evc_deblock: everything is checked before the first write. No map of edge rows is lent.
 pub fn deblock(
     w: usize,

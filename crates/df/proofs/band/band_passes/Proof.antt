@@ -1,6 +1,6 @@
 -- `df::band::band_passes` meets its contract: both passes over the rest of what is lent. Assumes nothing.
 use Prim.Native.Nat.{ℕ, _+_, _-_, _*_, _/_, _≤_}
-use mathlib.Core.Path.{_≡_, sym, ap, _∙_, subst}
+use mathlib.Core.Path.{_≡_, refl, sym, ap, _∙_, subst}
 use mathlib.Core.List.{List}
 use native.Mathlib.Nat.{le-refl}
 use native.Mathlib.Omega.{arith}
@@ -85,17 +85,18 @@ module _ (f : Format) (w n k : ℕ) (e : k ≡ inFormat f (4 * n)) (y u v words 
         marks = end-drop n words words₁ lw ∙ b .marks ∙ ap (λ (m : Maps). doneFrom (top * w) (m .words)) maps-left;
       }
 
-abbrev start : tie.After-both-passes → tie.Start
-start d = d .before .before .before .before .before .before .before .before .before .before .before .before .before .before .before .before
+abbrev start : tie.After-passes-by → tie.Start
+start d = d .before .before .before .before .before .before .before .before .before .before .before .before .before .before .before .before .before
 
-both-passes-requires : tie.Need-both-passes-requires
-both-passes-requires c κs =
-    let s = c .before .before .before .before .before .before .before .before .before .before .before .before .before .before .before in
+passes-by-requires : tie.Need-passes-by-requires
+passes-by-requires c κs =
+    let s = c .before .before .before .before .before .before .before .before .before .before .before .before .before .before .before .before in
     let a = s .args in
-    let k = c .before .before .before .before .before .before .before .in-format in (
+    let k = c .before .before .before .before .before .before .before .before .in-format in (
       lent-picture (a .format) (a .w / 4) (a .skip * (a .w / 4)) (k .result) (k .ensures) (a .y .now) (a .u .now) (a .v .now) (a .words .now)
           (a .motion .now) (a .refs .now) (a .keep .now) (a .entries .now) (a .top + a .h / 4) (s .pre .0 .0),
       s .pre .0 .1,
+      λ k h. absurd (omega arith),
     )
 
 returns : tie.Need-returns
@@ -104,8 +105,8 @@ returns c =
     let s = start d in
     let a = s .args in
     let n = a .skip * (a .w / 4) in
-    let k = d .before .before .before .before .before .before .before .before .in-format in
-    let b = d .both-passes in
+    let k = d .before .before .before .before .before .before .before .before .before .in-format in
+    let b = d .passes-by in
     let r = s .pre .1 in (
       take-put (16 * n) (length (a .y .now) - 16 * n) (a .y .now) (b .last .1 .1 .1 .1 .1 .0) (r .0),
       front-at (k .ensures) (a .u .now) (b .last .1 .1 .1 .1 .1 .1 .0) (r .1),
@@ -193,13 +194,14 @@ band-passes-spec =
     (λ c. c .before .before .before .before .before .before .before .before .before .before .before .before .before .before .pre .1 .6)
     (λ c. c .before .before .before .before .before .before .before .before .before .before .before .before .before .before .pre .1 .6)
     (λ c. le-refl _)
-    both-passes-requires
+    (λ c. refl)
+    passes-by-requires
     (λ c. let d = c .before .before .before .before .before .before .before .before in
-    kept-long _ (start d .args .y .now) (d .both-passes .last .1 .1 .1 .1 .1 .0) (d .both-passes .kept .1 .1 .1 .1 .1 .0))
+    kept-long _ (start d .args .y .now) (d .passes-by .last .1 .1 .1 .1 .1 .0) (d .passes-by .kept .1 .1 .1 .1 .1 .0))
     (λ c. let d = c .before .before .before .before .before .before .before .before in
-    kept-long _ (start d .args .u .now) (d .both-passes .last .1 .1 .1 .1 .1 .1 .0) (d .both-passes .kept .1 .1 .1 .1 .1 .1 .0))
+    kept-long _ (start d .args .u .now) (d .passes-by .last .1 .1 .1 .1 .1 .1 .0) (d .passes-by .kept .1 .1 .1 .1 .1 .1 .0))
     (λ c. let d = c .before .before .before .before .before .before .before .before in
-    kept-long _ (start d .args .v .now) (d .both-passes .last .1 .1 .1 .1 .1 .1 .1 .0) (d .both-passes .kept .1 .1 .1 .1 .1 .1 .1 .0))
+    kept-long _ (start d .args .v .now) (d .passes-by .last .1 .1 .1 .1 .1 .1 .1 .0) (d .passes-by .kept .1 .1 .1 .1 .1 .1 .1 .0))
     (λ c. let d = c .before .before .before .before .before .before .before .before in
-    kept-long _ (start d .args .words .now) (d .both-passes .last .1 .1 .1 .1 .1 .1 .1 .1 .0) (d .both-passes .kept .1 .1 .1 .1 .1 .1 .1 .1 .0))
+    kept-long _ (start d .args .words .now) (d .passes-by .last .1 .1 .1 .1 .1 .1 .1 .1 .0) (d .passes-by .kept .1 .1 .1 .1 .1 .1 .1 .1 .0))
     returns)
