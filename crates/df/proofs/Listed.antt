@@ -44,7 +44,8 @@ module _ {w h : ℕ} {s : List ℕ} (a : Accepted w h s) (i : ℕ) (early : i < 
   unfolding root-call.checkOf
   passes =
       let z = sized w h (a .size) in
-      rw (a .size, le-leb (top + h / 4) 1024 high, eq-eqb (length out) 512 long) (leaves-given w h s _ _ (a .size) (a .long) (a .walked) (omega arith) (omega arith) (root-column z i early) (root-row z i early))
+      rw (a .size, le-leb (top + h / 4) 1024 high, eq-eqb (length out) 512 long)
+      (leaves-given w h s _ _ (a .size) (a .long) (a .walked) (omega arith) (omega arith) (root-column z i early) (root-row z i early))
 
   module _ (g : Gives root-call.outcome rootIn (leaves-call.after r list)) where
     given : leaves-call.after r list ≡ root-call.done rootIn

@@ -66,8 +66,20 @@ numbers-at (p ∷ l) (suc j) h =
 
 -- an edge's first luma sample
 at-edge : (d : Pass) (w top h : ℕ) (e : Edge) (x y : ℕ) → Lies d w top h e → Reads e x y → At d w h x y
-at-edge vertical w top h e x y g r = record { whole-c = omega (arith, r .column); whole-a = omega (arith, r .row); inner = omega (arith, r .column, g .inner); across = omega (arith, r .column, g .column); along = omega (arith, r .row, g .below) }
-at-edge horizontal w top h e x y g r = record { whole-c = omega (arith, r .row); whole-a = omega (arith, r .column); inner = omega (arith, r .row, g .inner); across = omega (arith, r .row, g .below); along = omega (arith, r .column, g .column) }
+at-edge vertical w top h e x y g r = record {
+  whole-c = omega (arith, r .column);
+  whole-a = omega (arith, r .row);
+  inner = omega (arith, r .column, g .inner);
+  across = omega (arith, r .column, g .column);
+  along = omega (arith, r .row, g .below);
+}
+at-edge horizontal w top h e x y g r = record {
+  whole-c = omega (arith, r .row);
+  whole-a = omega (arith, r .column);
+  inner = omega (arith, r .row, g .inner);
+  across = omega (arith, r .row, g .below);
+  along = omega (arith, r .column, g .column);
+}
 
 module _ (l : List Edge) (few : length l ≤ 256) {out list : List ℕ} {r : ℕ} (long : length out ≡ 512) (z : Put (each edgeNumbers l) out 0 list r) where
   pub count : r / 2 ≡ length l
@@ -165,7 +177,8 @@ module _ (t : List ℕ) (first : ℕ) (c : Component) (d : Pass) (w : ℕ) where
       let h : n < suc n = omega arith in
       ap (window (maskBy c (getD marks n 0)) d c w (4 * getD t (first + getD places n 0) 0) e)
       (plan-filters m at f few l places marks n xs (record { at = λ k i. g .at k (omega arith); kept = λ k i. g .kept k (omega arith) }))
-      ∙ ap₂ (λ (k : Mask) (st : ℕ). window k d c w st e (run (filtered m t at d c w) (edgesFrom l n) xs)) (mask-given m few c d w e (getD marks n 0) (g .kept n h)) (strong m at f e (getD places n 0) (g .at n h))
+      ∙ ap₂ (λ (k : Mask) (st : ℕ). window k d c w st e (run (filtered m t at d c w) (edgesFrom l n) xs))
+      (mask-given m few c d w e (getD marks n 0) (g .kept n h)) (strong m at f e (getD places n 0) (g .at n h))
       ∙ sym (run-append (filtered m t at d c w) (edgesFrom l n) (e ∷ []) xs)
 
   module _ (l places marks : List ℕ) where

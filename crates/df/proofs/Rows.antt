@@ -126,7 +126,8 @@ lanes-put p xs t first (suc n) e h l =
     let r = putLines (maskOf Luma false false) (λ (k : ℕ). samplesAt (p .step) (p .at + k) xs) 8 1 first n t in
     let i : p .at + n ≡ p .at + n * p .next = rw (e, mul-one n) in
     rw (mul-one n, ← add-one n)
-    (gather-more p xs t r first n (samplesAt (p .step) (p .at + n) xs) (omega arith) (lines-long _ _ _ _ _ n t ∙ l) (ap (λ (j : ℕ). samplesAt (p .step) j xs) i) (lanes-put p xs t first n e (omega arith) l))
+    (gather-more p xs t r first n (samplesAt (p .step) (p .at + n) xs) (omega arith) (lines-long _ _ _ _ _ n t ∙ l)
+    (ap (λ (j : ℕ). samplesAt (p .step) j xs) i) (lanes-put p xs t first n e (omega arith) l))
 
 -- rows of s, `step` apart, copied over those of xs, `apart` from each other: the lines of s over those of xs
 pub rows-copied : (m : Mask) (to apart from step n : ℕ) (s xs x₁ x₂ x₃ x₄ : List ℕ) → n ≤ apart

@@ -50,7 +50,8 @@ module _ (m : Maps) (t : List ℕ) (d : Pass) (halved : Bool) (top : ℕ) (s : L
 
   next : (i : ℕ) → down (leavesOf s w h (i + 1)) ≡ down (leavesOf s w h i) ++ down (rootLeaves s w h i)
   unfolding leavesOf
-  next i = rw (add-one i) (ap (edgesOf d halved) (map-append (leafDown top) (leavesOf s w h i) (rootLeaves s w h i)) ∙ edges-append d halved (map (leafDown top) (leavesOf s w h i)) (map (leafDown top) (rootLeaves s w h i)))
+  next i = rw (add-one i) (ap (edgesOf d halved) (map-append (leafDown top) (leavesOf s w h i) (rootLeaves s w h i))
+      ∙ edges-append d halved (map (leafDown top) (leavesOf s w h i)) (map (leafDown top) (rootLeaves s w h i)))
 
   pub roots-more : (i n : ℕ) (l places marks : List ℕ) (p q : Planes) (y u v : List ℕ) (count : ℕ) → n ≤ 256 → edgesFrom l n ≡ down (rootLeaves s w h i)
       → ((k : ℕ) → getD (m .over .keep) k 0 ≤ 1) → Planned m d w l n places marks → Roots i p q count

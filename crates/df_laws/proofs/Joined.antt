@@ -48,7 +48,8 @@ use Rattle.split.specs.Picture.{across}
 use Rattle.df.specs.Band as band
 use Rattle.df.proofs.Lengths.{luma-places, chroma-places, stepOf, places-step}
 use Rattle.df.proofs.Told.{fine, is-done, Told, told, at-next}
-use Rattle.df_laws.specs.Bands.{State, start, stateAfter, inputOf, after, lent, wordsBack, planePart, planeBack, bands, AcceptedTo, Accepted, Plane, luma-plane, u-plane, v-plane, componentOf, mappedAs, planeIn, planeOf, planeAfter, Joined}
+use Rattle.df_laws.specs.Bands.{State, start, stateAfter, inputOf, after, lent, wordsBack, planePart, planeBack, bands, AcceptedTo, Accepted, Plane, luma-plane}
+use Rattle.df_laws.specs.Bands.{u-plane, v-plane, componentOf, mappedAs, planeIn, planeOf, planeAfter, Joined}
 use Rattle.df.specs.Deblock.{Input, Outcome, checked, check, passEdges, qpY, mapsOf, deblocked, refused, done, outcome}
 
 -- ---- where a place of a picture lies: in one band, and in what the band's call checks. S: how many places a row of units has
@@ -69,7 +70,8 @@ in-band S rowsAll j some l =
     let e = div-add-mod' j S in
     let g = mod-lt j some in
     let few = b .few in
-    let last : row < bandRows rowsAll k + 16 * k = test (ltb (bandRows rowsAll k) 16) (λ t. let o = b .reaches (ltb-true _ _ t) in omega arith) (λ t. let o = ltb-false (bandRows rowsAll k) 16 t in omega arith) in
+    let last : row < bandRows rowsAll k + 16 * k = test (ltb (bandRows rowsAll k) 16) (λ t. let o = b .reaches (ltb-true _ _ t) in omega arith) (λ t.
+    let o = ltb-false (bandRows rowsAll k) 16 t in omega arith) in
     record {
       k = k;
       less = less;
@@ -229,7 +231,8 @@ module _ (i : Input) (sides : sizeOk (i .w) (i .h) ≡ true) (long : length (i .
 
   plane-step : (k : ℕ) → k < n → (x : Plane) (p : List ℕ)
       → let j = inputOf i k (stateAfter i k) in
-      planeBack i k (componentOf x) (finished (band.mapsOf j) (i .strengths) (mappedAs x i) (componentOf x) (i .w / 4) (band.passEdges vertical j) (band.passEdges horizontal j) (planePart i k (componentOf x) p)) p
+      planeBack i k (componentOf x) (finished (band.mapsOf j) (i .strengths) (mappedAs x i) (componentOf x) (i .w / 4) (band.passEdges vertical j)
+      (band.passEdges horizontal j) (planePart i k (componentOf x) p)) p
       ≡ called (mapsOf i) (i .strengths) (mappedAs x i) (componentOf x) (limit5 i sides) (i .splits) (i .w / 4) (i .h / 4) k p
   unfolding called
   plane-step k l x p =
@@ -237,7 +240,8 @@ module _ (i : Input) (sides : sizeOk (i .w) (i .h) ≡ true) (long : length (i .
       let W = i .w / 4 in
       let c = componentOf x in
       let same = part-alikes (marked-alikes i sides k (stateAfter i k .words) (words-marked k (omega arith))) (1 * (rowsBefore k * W)) (1 * (lent i k * W)) in
-      ap (λ (q : List ℕ). planeBack i k c q p) (finished-alike (band.mapsOf j .over) same (i .strengths) (mappedAs x i) c W (band.passEdges vertical j) (band.passEdges horizontal j) (planePart i k c p))
+      ap (λ (q : List ℕ). planeBack i k c q p)
+      (finished-alike (band.mapsOf j .over) same (i .strengths) (mappedAs x i) c W (band.passEdges vertical j) (band.passEdges horizontal j) (planePart i k c p))
 
   -- a band's call, in one plane
   after-one : (k : ℕ) → k < n → (x : Plane) → let s = stateAfter i k in
@@ -358,9 +362,11 @@ module _ (i : Input) (sides : sizeOk (i .w) (i .h) ≡ true) (lengths : checks.l
       let q = calledAll (mapsOf i) (i .strengths) at c halved (i .splits) W rows k p in
       let lq = calls-long (mapsOf i) (i .strengths) at c halved (i .splits) W rows (pos i sides) walked k (omega arith) p held in
       let d = in-checked (stepOf c W) rows q (lq ∙ long₁) j b _ _ _ (places-step c W (rowsBefore k)) (places-step c W (lent i k)) (places-step c W (rowsAbove k - 1)) in
-      let g = subst (λ (y : List ℕ). samplesOk (drop (placesOf c W (rowsAbove k - 1)) (planePart i k c y)) ≡ true) (after-plane i sides words-long (bands i) all acc x k (omega arith)) (part-small x k less) in
+      let g = subst (λ (y : List ℕ). samplesOk (drop (placesOf c W (rowsAbove k - 1)) (planePart i k c y)) ≡ true)
+      (after-plane i sides words-long (bands i) all acc x k (omega arith)) (part-small x k less) in
       let small = sample-at _ (d .q) g (d .inside) in
-      let same : getD q j 0 ≡ getD p j 0 = calls-below (mapsOf i) (i .strengths) at c halved (i .splits) W rows (pos i sides) walked k (omega arith) p held j (omega (arith, places-step c W (16 * k))) in
+      let same : getD q j 0 ≡ getD p j 0 = calls-below (mapsOf i) (i .strengths) at c halved (i .splits) W rows (pos i sides) walked k
+      (omega arith) p held j (omega (arith, places-step c W (16 * k))) in
       omega (arith, d .is, same))
 
   marks-fine : keepOk (i .keep) ≡ true

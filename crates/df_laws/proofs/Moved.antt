@@ -44,7 +44,8 @@ state-plane i fine acc x n few =
     let size = passed (checked i) fine .size in
     let long = lengths i fine in
     after-plane i size (long-words i size long) (bands i) (omega arith) acc x n few
-    ∙ calls-joined (mapsOf i) (i .strengths) (mappedAs x i) (componentOf x) (eqb (i .settings .limit) 5) (i .splits) (i .w / 4) (i .h / 4) (pos i size) (walked i fine) n few (planeIn x i) (held-plane i size long x)
+    ∙ calls-joined (mapsOf i) (i .strengths) (mappedAs x i) (componentOf x) (eqb (i .settings .limit) 5) (i .splits) (i .w / 4) (i .h / 4) (pos i size)
+    (walked i fine) n few (planeIn x i) (held-plane i size long x)
 
 -- ---- the picture at once
 
@@ -80,11 +81,13 @@ module _ (i : Input) (fine : check i ≡ Done) where
 
     moves-first : (x : Plane) → MovesIn i x (firstEdges i vertical n) (firstEdges i horizontal n)
     moves-first x =
-        both-move (mapsOf i) (i .strengths) (mappedAs x i) (componentOf x) (i .w / 4) (firstEdges i vertical n) (firstEdges i horizontal n) (first vertical) (first horizontal) (planeIn x i) (samples x)
+        both-move (mapsOf i) (i .strengths) (mappedAs x i) (componentOf x) (i .w / 4) (firstEdges i vertical n) (firstEdges i horizontal n)
+        (first vertical) (first horizontal) (planeIn x i) (samples x)
 
     pub moved-bands : MovedBands i n
     moved-bands =
-        let e : (x : Plane) → planeOf x (stateAfter i n) ≡ finished (mapsOf i) (i .strengths) (mappedAs x i) (componentOf x) (i .w / 4) (firstEdges i vertical n) (firstEdges i horizontal n) (planeIn x i) =
+        let e : (x : Plane) → planeOf x (stateAfter i n) ≡ finished (mapsOf i) (i .strengths) (mappedAs x i) (componentOf x) (i .w / 4)
+        (firstEdges i vertical n) (firstEdges i horizontal n) (planeIn x i) =
         λ x. state-plane i fine acc x n few in
         record {
           passes = moves-first;

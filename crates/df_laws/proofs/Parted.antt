@@ -179,7 +179,8 @@ module _ (i : Input) (ok : check i ≡ Done) where
     words-small a =
         let l = stateAfter i n .words in
         let same = marked-alikes i size n l marked in
-        scan-pass _ _ (λ k h. le-leb _ 51 (part-all (λ (v : ℕ). qpOf v ≤ 51) l (λ q. subst (λ (v : ℕ). v ≤ 51) (sym (same .same q .qp)) (words-fine q)) a (1 * (lent i n * W)) (1 * (rowsBefore n * W)) k h))
+        scan-pass _ _ (λ k h. le-leb _ 51 (part-all (λ (v : ℕ). qpOf v ≤ 51) l
+        (λ q. subst (λ (v : ℕ). v ≤ 51) (sym (same .same q .qp)) (words-fine q)) a (1 * (lent i n * W)) (1 * (rowsBefore n * W)) k h))
 
     -- a map of m numbers a unit
     map-long : {A : Type 0} (m : ℕ) (l : List A) → length l ≡ m * (rows * W) → length (mapPart m W (rowsBefore n) (lent i n) l) ≡ m * (lent i n * W)

@@ -147,4 +147,5 @@ pub record Joined (i : Input) : Type 0 where
   -- demand 3 over the bands joined: the bands' lists, one after the other, are the picture's, and a call filters its band's where it lies in what is lent
   pub edges : Demand3 (eqb (i .settings .limit) 5) (i .splits) (i .w / 4) (i .h / 4)
   pub lists : (d : Pass) → passEdges d i ≡ joined (bandList d (eqb (i .settings .limit) 5) (i .splits) (i .w / 4) (i .h / 4)) (bands i)
-  pub lent-lists : (d : Pass) (k : ℕ) → k < bands i → map (edgeDown (rowsBefore k)) (band.passEdges d (inputOf i k (stateAfter i k))) ≡ bandList d (eqb (i .settings .limit) 5) (i .splits) (i .w / 4) (i .h / 4) k
+  pub lent-lists : (d : Pass) (k : ℕ) → k < bands i → map (edgeDown (rowsBefore k)) (band.passEdges d (inputOf i k (stateAfter i k))) ≡ bandList d
+      (eqb (i .settings .limit) 5) (i .splits) (i .w / 4) (i .h / 4) k

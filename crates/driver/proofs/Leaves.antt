@@ -52,7 +52,8 @@ module _ {w h : ℕ} {format : Format} {constrained : Bool} {leaves : List ℕ} 
       }
 
   -- U and V ask nothing of Y's prediction
-  pub colour-asked : {x z side mask : ℕ} {words u v : List ℕ} → ColourAsked (givenOf w h format constrained leaves residual py pu pv) x z side mask words u v → ColourAsked (givenOf w h format constrained leaves residual [] pu pv) x z side mask words u v
+  pub colour-asked : {x z side mask : ℕ} {words u v : List ℕ} → ColourAsked (givenOf w h format constrained leaves residual py pu pv) x z side mask words u v
+      → ColourAsked (givenOf w h format constrained leaves residual [] pu pv) x z side mask words u v
   colour-asked k =
       record {
         u-lent = k .u-lent;
@@ -80,7 +81,8 @@ module _ (g : Given) (x z side kind mask at : ℕ) (words u v : List ℕ) where
 
   pub planes-drawn : (y : List ℕ) {y′ u′ v′ : List ℕ} {coded-y : Bool} {a end : ℕ} → coded-y ≡ codedY mask
       → (y′ ≡ componentOf g Luma x z side kind (g .pred-y) coded-y at y words) × (a ≡ at + residualCount Luma coded-y side)
-      → ColourDrawn (givenOf (g .w) (g .h) (g .format) (g .constrained) [] (g .residual) [] (g .pred-u) (g .pred-v)) x z side kind mask a words u v u′ v′ end → Drawn g x z side kind mask at words y u v y′ u′ v′ end
+      → ColourDrawn (givenOf (g .w) (g .h) (g .format) (g .constrained) [] (g .residual) [] (g .pred-u) (g .pred-v)) x z side kind mask a words u v u′ v′
+      end → Drawn g x z side kind mask at words y u v y′ u′ v′ end
   planes-drawn y {a = a} ey p q =
       let first : a ≡ startU at mask side = p .1 ∙ rw ey in
       record { y-drawn = p .0 ∙ rw ey; u-drawn = q .u-drawn ∙ rw first; v-drawn = q .v-drawn ∙ rw first; ends = q .ends ∙ rw first }
@@ -105,10 +107,12 @@ told w h x z side words modes keep s b e f d =
 -- ---- one leaf more of a list: leaf k + j is numbered from the list's first
 
 module _ {g : Given} {y u v words modes keep : List ℕ} {end : ℕ} where
-  pub leaves-start : (list : List ℕ) (k : ℕ) → StateAsked g (stateOf y u v words modes keep end k) → Stepped g (leavesFrom list 0) (stateOf y u v words modes keep end k) (stateOf y u v words modes keep end (k + 0))
+  pub leaves-start : (list : List ℕ) (k : ℕ) → StateAsked g (stateOf y u v words modes keep end k)
+      → Stepped g (leavesFrom list 0) (stateOf y u v words modes keep end k) (stateOf y u v words modes keep end (k + 0))
   leaves-start list k h = let e : k + 0 ≡ k = omega arith in rw e (leaves-none g list _ h)
 
-  pub leaves-asked : {s : State} (list : List ℕ) (k j : ℕ) → Stepped g (leavesFrom list j) s (stateOf y u v words modes keep end (k + j)) → placeOf end (k + j) ≡ passed (g .leaves) (leavesFrom list j) (s .place)
+  pub leaves-asked : {s : State} (list : List ℕ) (k j : ℕ) → Stepped g (leavesFrom list j) s (stateOf y u v words modes keep end (k + j))
+      → placeOf end (k + j) ≡ passed (g .leaves) (leavesFrom list j) (s .place)
   leaves-asked list k j a = stepped-place g (leavesFrom list j) _ _ a
 
 module _ (g : Given) {x z side kind qp mask mark at end : ℕ} {y u v words modes keep y′ u′ v′ words′ modes′ keep′ : List ℕ} where

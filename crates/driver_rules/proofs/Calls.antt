@@ -44,13 +44,26 @@ module _ (a : Around) (k : BlockAsked a) where
         (side-in-component (a .component) (a .side) (blocked _ _ _ _ _ (k .block) .side-ok)) (run-long a) room small (run-good a k) in
         rw side (ap (λ (o : ipred.Outcome). o .block) (q ∙ sym done))
 
-  pub drawn-from : (lent : List ℕ) → LentAsked (a .component) (a .w) (a .h) lent → (kind : ℕ) (coded : Bool) (coef : List ℤ) (pred₁ plane₁ : List ℕ) (i : ℕ) → length coef ≡ sampleCount (a .component) (a .side)
+  pub drawn-from : (lent : List ℕ) → LentAsked (a .component) (a .w) (a .h) lent → (kind : ℕ) (coded : Bool) (coef : List ℤ) (pred₁ plane₁ : List ℕ)
+      (i : ℕ) → length coef ≡ sampleCount (a .component) (a .side)
       → pred₁ ≡ predictionOf a kind lent
-      → _≡_ {A = Outcome} (record { number = i; rec = plane₁ }) (recon.outcome (record { component = a .component; w = a .w; h = a .h; x = a .x; y = a .y; side = a .side; coded = coded; pred = pred₁; coef = coef; rec = a .plane }))
+      → _≡_ {A = Outcome} (record { number = i; rec = plane₁ })
+      (recon.outcome (record { component = a .component; w = a .w; h = a .h; x = a .x; y = a .y; side = a .side; coded = coded; pred = pred₁; coef = coef; rec = a .plane }))
       → plane₁ ≡ planeOf a kind lent coded coef
   unfolding planeOf
   drawn-from lent l kind coded coef pred₁ plane₁ i long e p =
-      let input : recon.Input = record { component = a .component; w = a .w; h = a .h; x = a .x; y = a .y; side = a .side; coded = coded; pred = predictionOf a kind lent; coef = coef; rec = a .plane } in
+      let input : recon.Input = record {
+        component = a .component;
+        w = a .w;
+        h = a .h;
+        x = a .x;
+        y = a .y;
+        side = a .side;
+        coded = coded;
+        pred = predictionOf a kind lent;
+        coef = coef;
+        rec = a .plane;
+      } in
       let q = rw e at p in
       let done = reconstructs-plane input (k .size) (k .plane-long) (k .block) (prediction-long a lent kind) long (prediction-small a k lent l kind) in
       ap (λ (o : Outcome). o .rec) (q ∙ sym done)

@@ -35,7 +35,8 @@ use Rattle.split.specs.CheckCall as check-call
 use Rattle.split.specs.Picture.{pictureWalk}
 use Rattle.split.specs.Walk.{Leaf}
 use Rattle.driver_rules.specs.Asked.{Small, LentAsked, GivenAsked, StateAsked, Reaches, Accepted}
-use Rattle.driver_rules.specs.Call.{Input, colourLength, readTests, readOk, writtenTests, writtenOk, recordTests, recordsOk, lentTests, lentOk, dataCheck, checkOf, check, leavesOf, start, done, outcome}
+use Rattle.driver_rules.specs.Call.{Input, colourLength, readTests, readOk, writtenTests, writtenOk, recordTests, recordsOk, lentTests, lentOk, dataCheck, checkOf}
+use Rattle.driver_rules.specs.Call.{check, leavesOf, start, done, outcome}
 use Rattle.driver_rules.specs.Records.{byteAt, maskAt, bytesOk, mostMask, Place, first, passed}
 use Rattle.driver_rules.proofs.Places.{passed-count}
 use Rattle.driver_rules.proofs.Small.{done-none}
@@ -84,7 +85,14 @@ pub written-told : (w h : ℕ) (f : Format) (y u v words modes keep : ℕ) → w
 unfolding writtenOk
 written-told w h f y u v words modes keep e =
     let t = writtenTests w h f y u v words modes keep in
-    record { y-long = luma w h y (eqb-true _ _ (all-at t 0 e)); u-long = eqb-true _ _ (all-at t 1 e); v-long = eqb-true _ _ (all-at t 2 e); words-long = eqb-true _ _ (all-at t 3 e); modes-long = eqb-true _ _ (all-at t 4 e); keep-long = eqb-true _ _ (all-at t 5 e) }
+    record {
+      y-long = luma w h y (eqb-true _ _ (all-at t 0 e));
+      u-long = eqb-true _ _ (all-at t 1 e);
+      v-long = eqb-true _ _ (all-at t 2 e);
+      words-long = eqb-true _ _ (all-at t 3 e);
+      modes-long = eqb-true _ _ (all-at t 4 e);
+      keep-long = eqb-true _ _ (all-at t 5 e);
+    }
 
 -- ---- the call's input, where its checks find nothing
 
@@ -179,7 +187,8 @@ dataRow f r residual at n py pu pv =
     (unless (lentOk py pu pv) (Refused Sample)
     Done)))
 
-pub data-row : (f : Format) (r : List ℕ) (residual at n : ℕ) (py pu pv : List ℕ) (l : List Leaf) → record { at = at; k = n } ≡ passed r l first → dataRow f r residual at n py pu pv ≡ dataCheck f r residual py pu pv l
+pub data-row : (f : Format) (r : List ℕ) (residual at n : ℕ) (py pu pv : List ℕ) (l : List Leaf) → record { at = at; k = n } ≡ passed r l first
+    → dataRow f r residual at n py pu pv ≡ dataCheck f r residual py pu pv l
 unfolding dataCheck
 data-row f r residual at n py pu pv l e =
     let a : at ≡ passed r l first .at = ap (λ (t : Place). t .at) e in

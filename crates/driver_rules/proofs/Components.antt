@@ -68,7 +68,8 @@ abbrev pub inPlane : Around → List ℕ → Around
 inPlane a plane =
     record { component = a .component; w = a .w; h = a .h; plane = plane; words = a .words; x = a .x; y = a .y; side = a .side; constrained = a .constrained }
 
-module _ (R : ℕ → ℕ → Type 0) (missing : R 512 512) (a : Around) (other : List ℕ) (wide : a .w % 4 ≡ 0) (high : a .h % 4 ≡ 0) (d : DoneAs (a .component) (a .w) (a .h) R (a .plane) other (a .words)) where
+module _ (R : ℕ → ℕ → Type 0) (missing : R 512 512) (a : Around) (other : List ℕ) (wide : a .w % 4 ≡ 0) (high : a .h % 4 ≡ 0)
+    (d : DoneAs (a .component) (a .w) (a .h) R (a .plane) other (a .words)) where
   abbrev b : Around
   b = inPlane a other
 
@@ -110,7 +111,9 @@ module _ (a : Around) (wide : a .w % 4 ≡ 0) (high : a .h % 4 ≡ 0) where
       is-tabulate (runAt (inPlane a other)) n (tabulate n (runAt a)) 0 (length-tabulate (runAt a) n) (λ k p. getD-tabulate (runAt a) n k 0 p ∙ run-as (_≡_ {A = ℕ}) refl a other wide high d k)
 
 -- a call whose input is right is done, and does not refuse
-gathers : (i : nbr.Input) → let a = i .around in sizeOk (a .w) (a .h) ≡ true → length (a .plane) ≡ planeLength (a .component) (a .w) (a .h) → length (a .words) ≡ unitCount (a .w) (a .h) → blockOk (a .w) (a .h) (a .x) (a .y) (a .side) ≡ true → length (i .run) ≡ runLength (a .component) (a .side) → nbr.samplesOk a ≡ true → nbr.outcome i ≡ nbr.done i
+gathers : (i : nbr.Input) → let a = i .around in
+    sizeOk (a .w) (a .h) ≡ true → length (a .plane) ≡ planeLength (a .component) (a .w) (a .h) → length (a .words) ≡ unitCount (a .w) (a .h)
+    → blockOk (a .w) (a .h) (a .x) (a .y) (a .side) ≡ true → length (i .run) ≡ runLength (a .component) (a .side) → nbr.samplesOk a ≡ true → nbr.outcome i ≡ nbr.done i
 unfolding nbr.outcome nbr.checkOf nbr.lengthsOk
 gathers i s p q b r g = rw (s, eq-eqb _ _ p, eq-eqb _ _ q, b, eq-eqb _ _ r, g)
 
@@ -149,7 +152,8 @@ prediction-long a lent kind = go (isMode kind) (sideOf (a .component) (a .side))
   go true n = length-tabulate _ _
   go false n = length-tabulate _ _
 
-pub plane-is : (a : Around) (kind : ℕ) (lent : List ℕ) (coded : Bool) (coef : List ℤ) → let n = sideOf (a .component) (a .side) in planeOf a kind lent coded coef ≡ withBlock 0 (across a) (column a) (row a) n n (blockAt coded (predictionOf a kind lent) coef n) (a .plane)
+pub plane-is : (a : Around) (kind : ℕ) (lent : List ℕ) (coded : Bool) (coef : List ℤ) → let n = sideOf (a .component) (a .side) in
+    planeOf a kind lent coded coef ≡ withBlock 0 (across a) (column a) (row a) n n (blockAt coded (predictionOf a kind lent) coef n) (a .plane)
 unfolding planeOf
 plane-is a kind lent coded coef = refl
 

@@ -99,9 +99,11 @@ module _ (g : Given) (ga : GivenAsked g) where
   held s t = record { y = t .y; u = t .u; v = t .v; words = s .words; modes = t .modes; keep = t .keep; place = s .place }
 
   module _ (x y side : ℕ) (s t : State) (sa : StateAsked g s) (ta : StateAsked g t) (b : blockOk (g .w) (g .h) x y side ≡ true) (a : Alike g s t) where
-    colour : (plane other lent : List ℕ) (kind : ℕ) (coded : Bool) (coef : List ℤ) (word : ℕ) → length plane ≡ inFormat (g .format) (planeLength Chroma (g .w) (g .h)) → length other ≡ inFormat (g .format) (planeLength Chroma (g .w) (g .h))
+    colour : (plane other lent : List ℕ) (kind : ℕ) (coded : Bool) (coef : List ℤ) (word : ℕ)
+        → length plane ≡ inFormat (g .format) (planeLength Chroma (g .w) (g .h)) → length other ≡ inFormat (g .format) (planeLength Chroma (g .w) (g .h))
         → (g .format ≡ Colour → PlaneSame Chroma (g .w) (g .h) plane other (s .words)) → g .format ≡ Colour
-        → PlaneSame Chroma (g .w) (g .h) (planeOf (aroundOf g Chroma x y side plane (s .words)) kind lent coded coef) (planeOf (aroundOf g Chroma x y side other (s .words)) kind lent coded coef) (withUnits (g .w) x y side word (s .words))
+        → PlaneSame Chroma (g .w) (g .h) (planeOf (aroundOf g Chroma x y side plane (s .words)) kind lent coded coef)
+        (planeOf (aroundOf g Chroma x y side other (s .words)) kind lent coded coef) (withUnits (g .w) x y side word (s .words))
     colour plane other lent kind coded coef word ep eo d c =
         plane-alike (aroundOf g Chroma x y side plane (s .words)) other lent kind coded coef word (ga .size) b (rw c at ep) (rw c at eo) (sa .words-long) (d c)
 
@@ -130,7 +132,8 @@ module _ (g : Given) (ga : GivenAsked g) where
   steps-alike [] s t f sa ta a = a
   steps-alike (p ∷ l) s t f sa ta a =
       let b = f p (List·Memᴰ·head refl) in
-      steps-alike l (step g p s) (step g p t) (λ q m. f q (List·Memᴰ·tail m)) (step-asked g _ _ _ s ga sa b) (step-asked g _ _ _ t ga ta b) (step-alike (4 * p .x) (4 * p .y) (4 * p .side) s t sa ta b a)
+      steps-alike l (step g p s) (step g p t) (λ q m. f q (List·Memᴰ·tail m)) (step-asked g _ _ _ s ga sa b) (step-asked g _ _ _ t ga ta b)
+      (step-alike (4 * p .x) (4 * p .y) (4 * p .side) s t sa ta b a)
 
 -- ---- the theorem
 

@@ -109,7 +109,8 @@ module _ (g : Given) (ga : GivenAsked g) where
     mark s = unitAt (g .w) (s .keep) u v
 
     -- what leaves that come after the unit's own do not change
-    kept : (q : Leaf) (l : List Leaf) (s : State) → Holds q u v → ((p : Leaf) → List·Memᴰ p l → Before q p) → Fits l → StateAsked g s → (word (steps g l s) ≡ word s) × (mode (steps g l s) ≡ mode s) × (mark (steps g l s) ≡ mark s)
+    kept : (q : Leaf) (l : List Leaf) (s : State) → Holds q u v → ((p : Leaf) → List·Memᴰ p l → Before q p) → Fits l → StateAsked g s
+        → (word (steps g l s) ≡ word s) × (mode (steps g l s) ≡ mode s) × (mark (steps g l s) ≡ mark s)
     unfolding run stepAt
     kept q [] s k b f a = (refl, refl, refl)
     kept q (p ∷ l) s k b f a =
@@ -160,11 +161,13 @@ module _ (g : Given) (ga : GivenAsked g) where
 
 -- ---- a plane all of whose units are done
 
-plane-small : (c : Component) (w h : ℕ) (plane words : List ℕ) → sizeOk w h ≡ true → length plane ≡ planeLength c w h → DoneSmall c w h plane words → ((u v : ℕ) → u < w / 4 → v < h / 4 → doneOf (unitAt w words u v) ≡ true) → samplesOk plane ≡ true
+plane-small : (c : Component) (w h : ℕ) (plane words : List ℕ) → sizeOk w h ≡ true → length plane ≡ planeLength c w h → DoneSmall c w h plane words
+    → ((u v : ℕ) → u < w / 4 → v < h / 4 → doneOf (unitAt w words u v) ≡ true) → samplesOk plane ≡ true
 plane-small c w h plane words s long d all = samples-pass plane (λ k p. whole-as c w h Small plane plane words s d all k (rw long at p))
 
 -- U or V: in a grey picture there is no sample
-colour-small : (f : Format) (w h : ℕ) (plane words : List ℕ) → sizeOk w h ≡ true → length plane ≡ inFormat f (planeLength Chroma w h) → DoneSmall Chroma w h plane words → ((u v : ℕ) → u < w / 4 → v < h / 4 → doneOf (unitAt w words u v) ≡ true) → samplesOk plane ≡ true
+colour-small : (f : Format) (w h : ℕ) (plane words : List ℕ) → sizeOk w h ≡ true → length plane ≡ inFormat f (planeLength Chroma w h) → DoneSmall Chroma w h plane words
+    → ((u v : ℕ) → u < w / 4 → v < h / 4 → doneOf (unitAt w words u v) ≡ true) → samplesOk plane ≡ true
 colour-small Grey w h plane words s long d all = samples-pass plane (λ k p. absurd (omega (arith, long, p)))
 colour-small Colour w h plane words s long d all = plane-small Chroma w h plane words s long d all
 

@@ -20,7 +20,8 @@ unfolding blockOk
 block-passes w h x y side s a b c d = rw (s, eq-eqb _ _ a, eq-eqb _ _ b, le-leb _ _ c, le-leb _ _ d)
 
 -- of a side of 2 ^ log units, at (x, y) in luma
-pub leaf-block : (w h log x y side : ℕ) → log ≤ 4 → x % 4 ≡ 0 → y % 4 ≡ 0 → x / 4 % 2 ^ log ≡ 0 → y / 4 % 2 ^ log ≡ 0 → side ≡ 4 * 2 ^ log → x / 4 + 2 ^ log ≤ w / 4 → y / 4 + 2 ^ log ≤ h / 4 → blockOk w h x y side ≡ true
+pub leaf-block : (w h log x y side : ℕ) → log ≤ 4 → x % 4 ≡ 0 → y % 4 ≡ 0 → x / 4 % 2 ^ log ≡ 0 → y / 4 % 2 ^ log ≡ 0 → side ≡ 4 * 2 ^ log
+    → x / 4 + 2 ^ log ≤ w / 4 → y / 4 + 2 ^ log ≤ h / 4 → blockOk w h x y side ≡ true
 unfolding blockSideOk
 leaf-block w h zero x y side s p q a b e c d = rw e (block-passes w h x y 4 refl (omega arith) (omega arith) (omega arith) (omega arith))
 leaf-block w h (suc zero) x y side s p q a b e c d = rw e (block-passes w h x y 8 refl (omega arith) (omega arith) (omega arith) (omega arith))
@@ -42,7 +43,8 @@ listed {w = w} {h = h} t =
             let b = t .leaves j m in
             let k = b .stands in
             let p = k .power in
-            leaf-block w h (k .log) _ _ _ (k .spot .level) (b .numbers .column) (b .numbers .row) (in-picture (k .log) _ (k .spot .level) (k .spot .column)) (in-picture (k .log) _ (k .spot .level) (k .spot .row))
+            leaf-block w h (k .log) _ _ _ (k .spot .level) (b .numbers .column) (b .numbers .row) (in-picture (k .log) _ (k .spot .level) (k .spot .column))
+            (in-picture (k .log) _ (k .spot .level) (k .spot .row))
             (omega (arith, b .numbers .units)) (omega (arith, b .columns)) (omega (arith, b .rows));
       };
     }

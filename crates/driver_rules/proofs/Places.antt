@@ -39,7 +39,8 @@ module _ (r : List ℕ) where
     pub passed-grows : (i n : ℕ) → i ≤ n → (passed r (f i) t .at ≤ passed r (f n) t .at) × (passed r (f i) t .k ≤ passed r (f n) t .k)
     passed-grows i zero h = let e : i ≡ 0 = omega arith in rw e (le-refl _, le-refl _)
     passed-grows i (suc n) h = go (decLt i (suc n)) (λ q. passed-grows i n q) where
-      go : Dec (i < suc n) → (i ≤ n → (passed r (f i) t .at ≤ passed r (f n) t .at) × (passed r (f i) t .k ≤ passed r (f n) t .k)) → (passed r (f i) t .at ≤ passed r (f (suc n)) t .at) × (passed r (f i) t .k ≤ passed r (f (suc n)) t .k)
+      go : Dec (i < suc n) → (i ≤ n → (passed r (f i) t .at ≤ passed r (f n) t .at) × (passed r (f i) t .k ≤ passed r (f n) t .k))
+          → (passed r (f i) t .at ≤ passed r (f (suc n)) t .at) × (passed r (f i) t .k ≤ passed r (f (suc n)) t .k)
       go (yes p) before =
           let e = before (omega arith) in
           let m = passed-more (g n) (passed r (f n) t) in

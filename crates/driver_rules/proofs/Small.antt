@@ -96,7 +96,8 @@ module _ (c : Component) (w h x y side : ℕ) (s : sizeOk w h ≡ true) (b : blo
       → (f g : ℕ → ℕ → ℕ) → ((i j : ℕ) → R (f i j) (g i j)) → (word : ℕ) → DoneAs c w h R plane other words → DoneAs c w h R (drawn f plane) (drawn g other) (withUnits w x y side word words)
   done-more R plane other words ep eo ew f g new word d = record { each = at } where
     sample : (f : ℕ → ℕ → ℕ) (l : List ℕ) → length l ≡ planeLength c w h → (i j : ℕ) → i < w / scaleOf c → j < h / scaleOf c → let old = getD l (j * (w / scaleOf c) + i) 0 in
-        getD (drawn f l) (j * (w / scaleOf c) + i) 0 ≡ pick (within (y / scaleOf c) (side / scaleOf c) j) (pick (within (x / scaleOf c) (side / scaleOf c) i) (f (j - y / scaleOf c) (i - x / scaleOf c)) old) old
+        getD (drawn f l) (j * (w / scaleOf c) + i) 0 ≡ pick (within (y / scaleOf c) (side / scaleOf c) j)
+        (pick (within (x / scaleOf c) (side / scaleOf c) i) (f (j - y / scaleOf c) (i - x / scaleOf c)) old) old
     sample f l e i j p q = at-block 0 (w / scaleOf c) (h / scaleOf c) (x / scaleOf c) (y / scaleOf c) (side / scaleOf c) (side / scaleOf c) f l e i j p q
 
     at : (i j : ℕ) → i < w / scaleOf c → j < h / scaleOf c → doneOf (unitAt w (withUnits w x y side word words) (i / unitSide c) (j / unitSide c)) ≡ true

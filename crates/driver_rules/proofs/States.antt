@@ -62,11 +62,13 @@ mask-of-y mask h = (ne-eqb (mask / 2 % 2) 1 (λ e. omega (arith, e)), ne-eqb (ma
 pub units-kept : (w x y side v : ℕ) (l : List ℕ) → length (withUnits w x y side v l) ≡ length l
 units-kept w x y side v l = length-block 0 _ _ _ _ _ _ l
 
-plane-done : (a : Around) (lent : List ℕ) → BlockAsked a → LentAsked (a .component) (a .w) (a .h) lent → (kind : ℕ) (coded : Bool) (coef : List ℤ) (word : ℕ) → DoneSmall (a .component) (a .w) (a .h) (planeOf a kind lent coded coef) (withUnits (a .w) (a .x) (a .y) (a .side) word (a .words))
+plane-done : (a : Around) (lent : List ℕ) → BlockAsked a → LentAsked (a .component) (a .w) (a .h) lent → (kind : ℕ) (coded : Bool) (coef : List ℤ) (word : ℕ)
+    → DoneSmall (a .component) (a .w) (a .h) (planeOf a kind lent coded coef) (withUnits (a .w) (a .x) (a .y) (a .side) word (a .words))
 plane-done a lent k l kind coded coef word =
     rw (plane-is a kind lent coded coef)
     (done-more (a .component) (a .w) (a .h) (a .x) (a .y) (a .side) (k .size) (k .block) Small (a .plane) (a .plane) (a .words) (k .plane-long) (k .plane-long) (k .words-long)
-    (blockAt coded (predictionOf a kind lent) coef _) (blockAt coded (predictionOf a kind lent) coef _) (λ i j. recon-at-small coded (predictionOf a kind lent) coef (prediction-small a k lent l kind) _) word (k .done-small))
+    (blockAt coded (predictionOf a kind lent) coef _) (blockAt coded (predictionOf a kind lent) coef _)
+    (λ i j. recon-at-small coded (predictionOf a kind lent) coef (prediction-small a k lent l kind) _) word (k .done-small))
 
 -- ---- a leaf
 
@@ -75,7 +77,8 @@ module _ (g : Given) (x y side : ℕ) (s : State) (ga : GivenAsked g) (sa : Stat
   asked-y = record { size = ga .size; block = b; plane-long = sa .y-long; words-long = sa .words-long; done-small = sa .y-done }
 
   -- U or V, where the picture has them
-  asked-colour : (plane : List ℕ) → length plane ≡ inFormat (g .format) (planeLength Chroma (g .w) (g .h)) → DoneSmall Chroma (g .w) (g .h) plane (s .words) → g .format ≡ Colour → BlockAsked (aroundOf g Chroma x y side plane (s .words))
+  asked-colour : (plane : List ℕ) → length plane ≡ inFormat (g .format) (planeLength Chroma (g .w) (g .h)) → DoneSmall Chroma (g .w) (g .h) plane (s .words)
+      → g .format ≡ Colour → BlockAsked (aroundOf g Chroma x y side plane (s .words))
   asked-colour plane e d c = record { size = ga .size; block = b; plane-long = rw c at e; words-long = sa .words-long; done-small = d }
 
   pub asked-u : g .format ≡ Colour → BlockAsked (aroundOf g Chroma x y side (s .u) (s .words))

@@ -70,7 +70,8 @@ module _ (g : Given) where
     unfolding leavesOf
     roots-none s k = stepped-none g s k
 
-    pub roots-more : (i n : ℕ) (list : List ℕ) (s t u : State) → leavesFrom list n ≡ rootLeaves splits w h i → Stepped g (leavesOf splits w h i) s t → Stepped g (leavesFrom list n) t u → Stepped g (leavesOf splits w h (i + 1)) s u
+    pub roots-more : (i n : ℕ) (list : List ℕ) (s t u : State) → leavesFrom list n ≡ rootLeaves splits w h i → Stepped g (leavesOf splits w h i) s t
+        → Stepped g (leavesFrom list n) t u → Stepped g (leavesOf splits w h (i + 1)) s u
     unfolding leavesOf
     roots-more i n list s t u e a b =
         stepped-as g (ap (λ (l : List Leaf). leavesOf splits w h i ++ l) e ∙ ap (leavesOf splits w h) (sym (add-one i)))
@@ -90,7 +91,8 @@ module _ (r : List ℕ) where
       ap (λ (n : ℕ). passed r (leavesFrom list n) t) (add-one j) ∙ run-more (advance r) (leavesFrom list j) (leafFrom list j) t
       ∙ ap (λ (n : ℕ). past r n (passed r (leavesFrom list j) t)) (whole _ e)
 
-  pub past-root : (splits : List ℕ) (w h i n : ℕ) (list : List ℕ) (t : Place) → leavesFrom list n ≡ rootLeaves splits w h i → passed r (leavesOf splits w h (i + 1)) t ≡ passed r (leavesFrom list n) (passed r (leavesOf splits w h i) t)
+  pub past-root : (splits : List ℕ) (w h i n : ℕ) (list : List ℕ) (t : Place) → leavesFrom list n ≡ rootLeaves splits w h i
+      → passed r (leavesOf splits w h (i + 1)) t ≡ passed r (leavesFrom list n) (passed r (leavesOf splits w h i) t)
   unfolding leavesOf
   past-root splits w h i n list t e =
       ap (λ (m : ℕ). passed r (leavesOf splits w h m) t) (add-one i) ∙ run-append (advance r) (leavesOf splits w h i) (rootLeaves splits w h i) t
@@ -104,12 +106,15 @@ module _ (r : List ℕ) where
   unfolding leavesOf
   grow-roots splits w h n = refl
 
-  pub leaves-reach : (residual : ℕ) (list : List ℕ) (j n : ℕ) (t u : Place) → j < n → getD list (3 * j + 2) 0 % 4 ≡ 0 → u ≡ passed r (leavesFrom list j) t → Reaches r residual (passed r (leavesFrom list n) t) → Reaches r residual (past r (getD list (3 * j + 2) 0) u)
+  pub leaves-reach : (residual : ℕ) (list : List ℕ) (j n : ℕ) (t u : Place) → j < n → getD list (3 * j + 2) 0 % 4 ≡ 0 → u ≡ passed r (leavesFrom list j) t
+      → Reaches r residual (passed r (leavesFrom list n) t) → Reaches r residual (past r (getD list (3 * j + 2) 0) u)
   leaves-reach residual list j n t u p e q k =
       rw (q, ← past-leaf list j t e)
       (reaches-grows r (leavesFrom list) (λ (m : ℕ). leafFrom list m ∷ []) (grow-leaves list) t residual (j + 1) n (omega arith) k)
 
-  pub roots-reach : (residual : ℕ) (splits : List ℕ) (w h i m n : ℕ) (list : List ℕ) (t u : Place) → i < m → leavesFrom list n ≡ rootLeaves splits w h i → u ≡ passed r (leavesOf splits w h i) t → Reaches r residual (passed r (leavesOf splits w h m) t) → Reaches r residual (passed r (leavesFrom list n) u)
+  pub roots-reach : (residual : ℕ) (splits : List ℕ) (w h i m n : ℕ) (list : List ℕ) (t u : Place) → i < m
+      → leavesFrom list n ≡ rootLeaves splits w h i → u ≡ passed r (leavesOf splits w h i) t
+      → Reaches r residual (passed r (leavesOf splits w h m) t) → Reaches r residual (passed r (leavesFrom list n) u)
   roots-reach residual splits w h i m n list t u p e q k =
       rw (q, ← past-root splits w h i n list t e)
       (reaches-grows r (leavesOf splits w h) (rootLeaves splits w h) (grow-roots splits w h) t residual (i + 1) m (omega arith) k)
@@ -123,10 +128,12 @@ module _ (r : List ℕ) where
   passed-no-root splits w h t = refl
 
   -- past leaf j, from the parts that a loop keeps
-  pub past-one : (list : List ℕ) (j : ℕ) (t : Place) (at k at′ k′ : ℕ) → getD list (3 * j + 2) 0 % 4 ≡ 0 → record { at = at; k = k } ≡ passed r (leavesFrom list j) t → at′ ≡ endV at (maskAt r k) (getD list (3 * j + 2) 0) → k′ ≡ k + 1
+  pub past-one : (list : List ℕ) (j : ℕ) (t : Place) (at k at′ k′ : ℕ) → getD list (3 * j + 2) 0 % 4 ≡ 0
+      → record { at = at; k = k } ≡ passed r (leavesFrom list j) t → at′ ≡ endV at (maskAt r k) (getD list (3 * j + 2) 0) → k′ ≡ k + 1
       → record { at = at′; k = k′ } ≡ passed r (leavesFrom list (j + 1)) t
   past-one list j t at k at′ k′ e p q n = rw (past-leaf list j t e, ← p, q, n)
 
   -- past root i
-  pub past-listed : {w h : ℕ} {splits : List ℕ} {i : ℕ} {list : List ℕ} {n : ℕ} (t u v : Place) → Listed w h splits i list n → u ≡ passed r (leavesOf splits (w / 4) (h / 4) i) t → v ≡ passed r (leavesFrom list n) u → v ≡ passed r (leavesOf splits (w / 4) (h / 4) (i + 1)) t
+  pub past-listed : {w h : ℕ} {splits : List ℕ} {i : ℕ} {list : List ℕ} {n : ℕ} (t u v : Place) → Listed w h splits i list n → u ≡ passed r (leavesOf splits (w / 4) (h / 4) i) t
+      → v ≡ passed r (leavesFrom list n) u → v ≡ passed r (leavesOf splits (w / 4) (h / 4) (i + 1)) t
   past-listed {w} {h} {splits} {i} {list} {n} t u v d e f = f ∙ ap (passed r (leavesFrom list n)) e ∙ sym (past-root splits (w / 4) (h / 4) i n list t (d .same))

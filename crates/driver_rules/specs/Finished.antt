@@ -31,7 +31,8 @@ pub record Finished (i : Input) : Type 0 where
   pub u-small : samplesOk (end i .u) ≡ true
   pub v-small : samplesOk (end i .v) ≡ true
   -- every unit's word, mode and keep byte are those of its leaf, and it is done
-  pub units : (u v : ℕ) → u < i .given .w / 4 → v < i .given .h / 4 → Told (i .given .w) (i .given .leaves) (leavesOf (i .given .w) (i .given .h) (i .splits)) (end i .words) (end i .modes) (end i .keep) u v
+  pub units : (u v : ℕ) → u < i .given .w / 4 → v < i .given .h / 4
+      → Told (i .given .w) (i .given .leaves) (leavesOf (i .given .w) (i .given .h) (i .splits)) (end i .words) (end i .modes) (end i .keep) u v
   -- no QP is above 51: number 6 is not given for a word
   pub qps : allIn 0 (λ (word : ℕ). leb (qpOf word) 51) (end i .words) ≡ true
   -- every keep byte is 0 or 1: number 15 is not given for the map

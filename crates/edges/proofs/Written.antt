@@ -70,7 +70,8 @@ module _ (b halved : Bool) {x y side : ℕ} (l : LeafAt x y side) where
       ∙ ap₂ _++_ (each-pick edgeNumbers (ltb 0 cross) (stretch d (cross / 4) (along / 4) (side / 4)))
       (each-pick edgeNumbers (halved && eqb side 64) (stretch d (cross / 4 + 8) (along / 4) 16) ∙ rw half)))
 
-  pub leaf-numbers : (cross along : ℕ) → cross ≡ pick b y x → along ≡ pick b x y → leafEdgeNumbers b halved cross along side ≡ each edgeNumbers (each (nearEdge (passOf b)) (visitOf (passOf b) halved p))
+  pub leaf-numbers : (cross along : ℕ) → cross ≡ pick b y x → along ≡ pick b x y
+      → leafEdgeNumbers b halved cross along side ≡ each edgeNumbers (each (nearEdge (passOf b)) (visitOf (passOf b) halved p))
   leaf-numbers cross along e f = rw (e, f) (go b ∙ ap (each edgeNumbers) (sym (visit-edges (passOf b) halved p))) where
     go : (t : Bool) → leafEdgeNumbers t halved (pick t y x) (pick t x y) side ≡ each edgeNumbers (leafEdges (passOf t) halved p)
     go true = in-pass true y x (l .row) refl refl

@@ -29,7 +29,9 @@ mean-most m side s some h =
     omega (arith, quotient-below (s + side) (2 * side) (m + 1) (omega arith) (omega arith))
 
 -- a and b are the sums of the two arms, as the code takes them
-pub dc-block : (side : ℕ) (run block : List ℕ) (a b : ℕ) → componentSideOk side ≡ true → length block ≡ side * side → a ≡ sumBelow (λ (j : ℕ). getD run (0 + j) 0) side → b ≡ sumBelow (up side run) side → withRow 0 0 (side * side) (λ (j : ℕ). (a + b + side) / (2 * side)) block ≡ blockOf side (dc side run)
+pub dc-block : (side : ℕ) (run block : List ℕ) (a b : ℕ) → componentSideOk side ≡ true → length block ≡ side * side
+    → a ≡ sumBelow (λ (j : ℕ). getD run (0 + j) 0) side → b ≡ sumBelow (up side run) side
+    → withRow 0 0 (side * side) (λ (j : ℕ). (a + b + side) / (2 * side)) block ≡ blockOf side (dc side run)
 unfolding dc
 dc-block side run block a b ok long p q =
     whole-row 0 (side * side) (λ (j : ℕ). (a + b + side) / (2 * side)) block long

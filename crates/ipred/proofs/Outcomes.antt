@@ -69,7 +69,8 @@ module _ (i : Input) (seen : Bool) (is : seen ≡ samplesOk (i .run)) where
       (past-refusal (modeOk (i .mode)) _ _ _ (both-left (modeOk (i .mode)) seen e) (at-refusal (samplesOk (i .run)) _ _ (sym is ∙ both-right (modeOk (i .mode)) seen e))) refl
 
   -- k and n are what the code knows of the mode and of the side
-  pub at-mode : (k n : ℕ) (block : List ℕ) → (modeOk (i .mode) && not seen) ≡ false → i .mode ≡ k → i .side ≡ n → k ≤ 4 → block ≡ blockOf n (predicted k n (i .run)) → Gives chosen i (record { number = 0; block = block })
+  pub at-mode : (k n : ℕ) (block : List ℕ) → (modeOk (i .mode) && not seen) ≡ false → i .mode ≡ k → i .side ≡ n → k ≤ 4
+      → block ≡ blockOf n (predicted k n (i .run)) → Gives chosen i (record { number = 0; block = block })
   unfolding chosen
   at-mode k n block e q s p b =
       on-done (refused i) (done i) Done (dataCheck i) _

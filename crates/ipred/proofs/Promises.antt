@@ -53,6 +53,7 @@ module _ (side : ℕ) (run : List ℕ) (ok : componentSideOk side ≡ true) (goo
   pub prediction-ok : (mode : ℕ) → samplesOk (blockOf side (predicted mode side run)) ≡ true
   prediction-ok mode = samples-pass (blockOf side (predicted mode side run)) (sample-small mode)
 
-pub predicts : (i : Input) → componentSideOk (i .side) ≡ true → length (i .run) ≡ 4 * i .side + 1 → length (i .block) ≡ i .side * i .side → i .mode ≤ 4 → samplesOk (i .run) ≡ true → Gives outcome i (done i)
+pub predicts : (i : Input) → componentSideOk (i .side) ≡ true → length (i .run) ≡ 4 * i .side + 1 → length (i .block) ≡ i .side * i .side
+    → i .mode ≤ 4 → samplesOk (i .run) ≡ true → Gives outcome i (done i)
 unfolding outcome lengthsOk
 predicts i s a b m g = rw (s, eq-eqb _ _ a, eq-eqb _ _ b, le-leb (i .mode) 4 m, g)

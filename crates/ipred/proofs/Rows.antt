@@ -24,7 +24,8 @@ row-in {side} i h p = row-below i side side (side * side) p (le-of-eq refl)
 abbrev pub Filled : (side : ℕ) (f : ℕ → ℕ → ℕ) (block₀ block : List ℕ) (i : ℕ) → Type 0
 Filled side f block₀ block i = Rows 0 side 0 0 side f block₀ block i
 
-pub next-row-done : (side : ℕ) (f : ℕ → ℕ → ℕ) (block₀ l m : List ℕ) (i : ℕ) (g : ℕ → ℕ) → 2 ≤ side → ((j : ℕ) → j < side → g j ≡ f i j) → m ≡ withRow 0 (i * side) side g l → Filled side f block₀ l i → Filled side f block₀ m (i + 1)
+pub next-row-done : (side : ℕ) (f : ℕ → ℕ → ℕ) (block₀ l m : List ℕ) (i : ℕ) (g : ℕ → ℕ) → 2 ≤ side → ((j : ℕ) → j < side → g j ≡ f i j)
+    → m ≡ withRow 0 (i * side) side g l → Filled side f block₀ l i → Filled side f block₀ m (i + 1)
 next-row-done side f block₀ l m i g some same e u =
     rows-more 0 side 0 0 side f block₀ l m i (i * side) g (omega arith) (omega arith) (omega arith) same e u
 
@@ -44,7 +45,8 @@ module _ (side : ℕ) (run : List ℕ) (i : ℕ) where
   ul-up n (suc j) p = rw (le-ltb (i + suc j) i (omega arith), ne-eqb (i + suc j) i (λ e. omega arith)) (ap (λ (k : ℕ). getD run k 0) (omega arith))
 
   -- the two parts of row i of UL, from a, one written over the other
-  pub ul-row : (a : ℕ) (l m n : List ℕ) → i < side → m ≡ withRow 0 a i (λ (j : ℕ). getD run (i - j - 1) 0) l → n ≡ withRow 0 (a + i) (side - i) (λ (j : ℕ). getD run (2 * side + j) 0) m → n ≡ withRow 0 a side (upLeft side run i) l
+  pub ul-row : (a : ℕ) (l m n : List ℕ) → i < side → m ≡ withRow 0 a i (λ (j : ℕ). getD run (i - j - 1) 0) l
+      → n ≡ withRow 0 (a + i) (side - i) (λ (j : ℕ). getD run (2 * side + j) 0) m → n ≡ withRow 0 a side (upLeft side run i) l
   ul-row a l m n p first then =
       let e : i + (side - i) ≡ side = omega arith in
       then

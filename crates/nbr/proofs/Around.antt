@@ -126,7 +126,8 @@ module _ (c : Component) (w h x y u v a k r from word : ℕ) (e : u ≡ x / 4) (
   unfolding upArm
   up-made p q s = rw (q, s, ne-eqb (y / 4) 0 (λ z. p (f ∙ z)), e, f, g, m, n)
 
-  pub corner-made : (u ≡ 0 → ⊥) → (v ≡ 0 → ⊥) → from ≡ (r - 1) * a + (k - 1) → word ≡ (v - 1) * (w / 4) + (u - 1) → record { from = from; step = 1; word = word; next = 1; there = 1 } ≡ cornerArm c w x y
+  pub corner-made : (u ≡ 0 → ⊥) → (v ≡ 0 → ⊥) → from ≡ (r - 1) * a + (k - 1) → word ≡ (v - 1) * (w / 4) + (u - 1)
+      → record { from = from; step = 1; word = word; next = 1; there = 1 } ≡ cornerArm c w x y
   unfolding cornerArm
   corner-made p t q s = rw (q, s, ne-eqb (x / 4) 0 (λ z. p (e ∙ z)), ne-eqb (y / 4) 0 (λ z. t (f ∙ z)), e, f, g, m, n)
 

@@ -52,7 +52,8 @@ formed i run e =
 
 -- ---- the rule's checks are those of the form and then that of the samples
 
-in-turn : (a b c d : Bool) (k : Answer) → unless a (Refused Size) (unless b (Refused Length) (unless c (Refused Block) (unless d (Refused Length) k))) ≡ afterChecks Refused k (unless a (Refused Size) (unless b (Refused Length) (unless c (Refused Block) (unless d (Refused Length) Done))))
+in-turn : (a b c d : Bool) (k : Answer) → unless a (Refused Size) (unless b (Refused Length) (unless c (Refused Block) (unless d (Refused Length) k))) ≡ afterChecks Refused k
+    (unless a (Refused Size) (unless b (Refused Length) (unless c (Refused Block) (unless d (Refused Length) Done))))
 in-turn false b c d k = refl
 in-turn true false c d k = refl
 in-turn true true false d k = refl

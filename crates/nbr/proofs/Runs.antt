@@ -95,7 +95,9 @@ module _ (i : Around) (b : Beside (i .component) (i .w) (i .h) (i .x) (i .y) (i 
 
 -- ---- the same, from what the code computed: the three arms, a unit's side and the block's
 
-module _ (i : Around) (block : BlockOf (i .w) (i .h) (i .x) (i .y) (i .side)) (l c p : Arm) (u : ℕ) (el : l ≡ leftArm (i .component) (i .w) (i .h) (i .x) (i .y)) (ec : c ≡ cornerArm (i .component) (i .w) (i .x) (i .y)) (ep : p ≡ upArm (i .component) (i .w) (i .x) (i .y)) (eu : u ≡ unitSide (i .component)) where
+module _ (i : Around) (block : BlockOf (i .w) (i .h) (i .x) (i .y) (i .side)) (l c p : Arm) (u : ℕ)
+    (el : l ≡ leftArm (i .component) (i .w) (i .h) (i .x) (i .y)) (ec : c ≡ cornerArm (i .component) (i .w) (i .x) (i .y))
+    (ep : p ≡ upArm (i .component) (i .w) (i .x) (i .y)) (eu : u ≡ unitSide (i .component)) where
   abbrev of : Arm → ℕ → ℕ → ℕ
   of a n k = armAt a n (i .constrained) (i .plane) (i .words) k
 

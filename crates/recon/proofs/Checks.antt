@@ -62,7 +62,8 @@ inside Chroma w h x y side a b p q = record { some = omega arith; across = omega
 rows-below : (r w h l : ℕ) → r ≤ h → l ≡ w * h → r * w ≤ l
 rows-below r w h l p e = omega (arith, mul-le-mul-right w p, mul-comm h w)
 
-pub fitting : (c : Component) (w h x y side : ℕ) (pred : List ℕ) (coef : List ℤ) (rec : List ℕ) → planeCheck c w h x y side pred (length coef) (length rec) ≡ Done → Fitting (w / scaleOf c) (x / scaleOf c) (y / scaleOf c) (side / scaleOf c) pred coef rec
+pub fitting : (c : Component) (w h x y side : ℕ) (pred : List ℕ) (coef : List ℤ) (rec : List ℕ) → planeCheck c w h x y side pred (length coef) (length rec) ≡ Done
+    → Fitting (w / scaleOf c) (x / scaleOf c) (y / scaleOf c) (side / scaleOf c) pred coef rec
 unfolding planeCheck blockLengthsOk
 fitting c w h x y side pred coef rec e =
     let size = passes _ _ _ e in

@@ -19,7 +19,8 @@ module _ (i : Input) (k : Answer) (e : k ≡ check i) where
   unfolding outcome
   block-refused r q = on-refusal (refused i) (done i) k (check i) r e q
 
-  pub block-done : (rec : List ℕ) → k ≡ Done → length (i .rec) ≡ i .side * i .side → rec ≡ withRow 0 0 (i .side * i .side) (λ (j : ℕ). reconAt (i .coded) (i .pred) (i .coef) (0 + j)) (i .rec) → Gives outcome i (record { number = 0; rec = rec })
+  pub block-done : (rec : List ℕ) → k ≡ Done → length (i .rec) ≡ i .side * i .side
+      → rec ≡ withRow 0 0 (i .side * i .side) (λ (j : ℕ). reconAt (i .coded) (i .pred) (i .coef) (0 + j)) (i .rec) → Gives outcome i (record { number = 0; rec = rec })
   unfolding outcome
   block-done rec q long p =
       on-done (refused i) (done i) k (check i) _ e q

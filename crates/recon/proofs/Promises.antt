@@ -53,10 +53,13 @@ module _ (coded : Bool) (pred : List ℕ) (coef : List ℤ) (good : samplesOk pr
     unfolding plane
     plane-ok = samples-pass plane in-plane
 
-pub reconstructs : (i : Input) → componentSideOk (i .side) ≡ true → length (i .pred) ≡ i .side * i .side → length (i .coef) ≡ i .side * i .side → length (i .rec) ≡ i .side * i .side → samplesOk (i .pred) ≡ true → Gives outcome i (done i)
+pub reconstructs : (i : Input) → componentSideOk (i .side) ≡ true → length (i .pred) ≡ i .side * i .side → length (i .coef) ≡ i .side * i .side
+    → length (i .rec) ≡ i .side * i .side → samplesOk (i .pred) ≡ true → Gives outcome i (done i)
 unfolding outcome blockCheck lengthsOk
 reconstructs i s a b c g = rw (s, eq-eqb _ _ a, eq-eqb _ _ b, eq-eqb _ _ c, g)
 
-pub reconstructs-plane : (i : Plane.Input) → sizeOk (i .w) (i .h) ≡ true → length (i .rec) ≡ planeLength (i .component) (i .w) (i .h) → blockOk (i .w) (i .h) (i .x) (i .y) (i .side) ≡ true → let n = Plane.inComponent i (i .side) in length (i .pred) ≡ n * n → length (i .coef) ≡ n * n → samplesOk (i .pred) ≡ true → Gives Plane.outcome i (Plane.done i)
+pub reconstructs-plane : (i : Plane.Input) → sizeOk (i .w) (i .h) ≡ true → length (i .rec) ≡ planeLength (i .component) (i .w) (i .h)
+    → blockOk (i .w) (i .h) (i .x) (i .y) (i .side) ≡ true → let n = Plane.inComponent i (i .side) in
+    length (i .pred) ≡ n * n → length (i .coef) ≡ n * n → samplesOk (i .pred) ≡ true → Gives Plane.outcome i (Plane.done i)
 unfolding Plane.outcome Plane.planeCheck Plane.blockLengthsOk
 reconstructs-plane i s l p a b g = rw (s, eq-eqb _ _ l, p, eq-eqb _ _ a, eq-eqb _ _ b, g)

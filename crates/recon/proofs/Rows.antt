@@ -20,7 +20,8 @@ use Rattle.recon.specs.Plane.{Fitting}
 use Rattle.recon.specs.Recon.{reconAt}
 
 module _ (coded : Bool) (pred : List ℕ) (coef : List ℤ) (l m : List ℕ) where
-  pub row-known : (known : Bool) (at n from : ℕ) → coded ≡ known → m ≡ withRow 0 at n (λ (j : ℕ). reconAt known pred coef (from + j)) l → m ≡ withRow 0 at n (λ (j : ℕ). reconAt coded pred coef (from + j)) l
+  pub row-known : (known : Bool) (at n from : ℕ) → coded ≡ known → m ≡ withRow 0 at n (λ (j : ℕ). reconAt known pred coef (from + j)) l
+      → m ≡ withRow 0 at n (λ (j : ℕ). reconAt coded pred coef (from + j)) l
   row-known known at n from e p = p ∙ ap (λ (b : Bool). withRow 0 at n (λ (j : ℕ). reconAt b pred coef (from + j)) l) (sym e)
 
   pub row-whole : (n : ℕ) → length l ≡ n → m ≡ withRow 0 0 n (λ (j : ℕ). reconAt coded pred coef (0 + j)) l → m ≡ tabulate n (reconAt coded pred coef)

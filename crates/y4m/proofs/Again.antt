@@ -193,7 +193,13 @@ module _ (i : header.Input) (j : frame.Input) (rest : List ℕ) (e : Exported i 
     unfolding framed.checkOf framed.lengthsOk
     check-again =
         let d = drawn in
-        rw (d .sized, eq-eqb (length y) (lumaLength (j .w) (j .h)) (yl ∙ d .y-long), eq-eqb (length u) (chromaLength (j .w) (j .h)) (ul ∙ d .u-long), eq-eqb (length v) (chromaLength (j .w) (j .h)) (vl ∙ d .v-long), stream-is)
+        rw (
+          d .sized,
+          eq-eqb (length y) (lumaLength (j .w) (j .h)) (yl ∙ d .y-long),
+          eq-eqb (length u) (chromaLength (j .w) (j .h)) (ul ∙ d .u-long),
+          eq-eqb (length v) (chromaLength (j .w) (j .h)) (vl ∙ d .v-long),
+          stream-is,
+        )
         (frame-again text (j .y) (j .u) (j .v) rest (j .w) (j .h) (d .y-long) (d .u-long) (d .v-long) (d .y-good) (d .u-good) (d .v-good))
 
     read-again : import.outcome lent ≡ import.with (Read (j .w) (j .h) (i .f) (i .g) (i .a) (i .b) end) (framed.after (import.frameAt lent (length text) (j .w) (j .h)) (ReadFrame end))
@@ -209,8 +215,10 @@ module _ (i : header.Input) (j : frame.Input) (rest : List ℕ) (e : Exported i 
         (record {
           number = refl;
           y = ap (λ (s : List ℕ). yAt s (length text) (lumaLength (j .w) (j .h))) stream-is ∙ y-back text (j .y) (j .u) (j .v) rest (j .w) (j .h) (d .y-long) (d .u-long) (d .v-long);
-          u = ap (λ (s : List ℕ). uAt s (length text) (lumaLength (j .w) (j .h)) (chromaLength (j .w) (j .h))) stream-is ∙ u-back text (j .y) (j .u) (j .v) rest (j .w) (j .h) (d .y-long) (d .u-long) (d .v-long);
-          v = ap (λ (s : List ℕ). vAt s (length text) (lumaLength (j .w) (j .h)) (chromaLength (j .w) (j .h))) stream-is ∙ v-back text (j .y) (j .u) (j .v) rest (j .w) (j .h) (d .y-long) (d .u-long) (d .v-long);
+          u = ap (λ (s : List ℕ). uAt s (length text) (lumaLength (j .w) (j .h)) (chromaLength (j .w) (j .h))) stream-is
+              ∙ u-back text (j .y) (j .u) (j .v) rest (j .w) (j .h) (d .y-long) (d .u-long) (d .v-long);
+          v = ap (λ (s : List ℕ). vAt s (length text) (lumaLength (j .w) (j .h)) (chromaLength (j .w) (j .h))) stream-is
+              ∙ v-back text (j .y) (j .u) (j .v) rest (j .w) (j .h) (d .y-long) (d .u-long) (d .v-long);
           w = refl;
           h = refl;
           f = refl;

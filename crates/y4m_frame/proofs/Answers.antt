@@ -121,7 +121,8 @@ module _ (i : reading.Input) (k : FrameRead) (e : k ≡ reading.check i) where
         reading = reading.readingOf (Read n);
         y = (py ∙ ap (planeAt (i .input) (yFrom (i .at))) (r .y-long)) j;
         u = (pu ∙ ap₂ (λ (a b : ℕ). planeAt (i .input) (uFrom (i .at) a) b) (r .y-long) (r .u-long)) j;
-        v = (pv ∙ ap₂ (λ (a b : ℕ). planeAt (i .input) (vFrom (i .at) a b) (length (i .v))) (r .y-long) (r .u-long) ∙ ap (planeAt (i .input) (vFrom (i .at) (lumaLength (i .w) (i .h)) (chromaLength (i .w) (i .h)))) (r .v-long)) j;
+        v = (pv ∙ ap₂ (λ (a b : ℕ). planeAt (i .input) (vFrom (i .at) a b) (length (i .v))) (r .y-long) (r .u-long)
+            ∙ ap (planeAt (i .input) (vFrom (i .at) (lumaLength (i .w) (i .h)) (chromaLength (i .w) (i .h)))) (r .v-long)) j;
       })
       ∙ ap (reading.after i) (sym q ∙ e)
 

@@ -180,7 +180,8 @@ module _ (l : List ℕ) (p : Said) where
     go [] z = refl
     go (b ∷ k) z = absurd (omega arith)
 
-  pub word-some : (t : Told) → (length l ≡ 0 → ⊥) → t ≡ toldBy (valueOk (getD l 0 0) (take (length l - 1) (drop 1 l)) p) (saidWith (getD l 0 0) (take (length l - 1) (drop 1 l)) p) → t ≡ toldBy (wordOk l p) (tell l p)
+  pub word-some : (t : Told) → (length l ≡ 0 → ⊥) → t ≡ toldBy (valueOk (getD l 0 0) (take (length l - 1) (drop 1 l)) p)
+      (saidWith (getD l 0 0) (take (length l - 1) (drop 1 l)) p) → t ≡ toldBy (wordOk l p) (tell l p)
   word-some t e q = go l e (q ∙ ap (λ (v : List ℕ). toldBy (valueOk (getD l 0 0) v p) (saidWith (getD l 0 0) v p)) (rest-of 1 l)) where
     go : (k : List ℕ) → (length k ≡ 0 → ⊥) → t ≡ toldBy (valueOk (getD k 0 0) (drop 1 k) p) (saidWith (getD k 0 0) (drop 1 k) p) → t ≡ toldBy (wordOk k p) (tell k p)
     go [] z r = absurd (z refl)

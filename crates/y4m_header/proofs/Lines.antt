@@ -98,7 +98,8 @@ module _ (head : List ℕ) (p : Said) (at : ℕ) (g : Going head p at) where
       pub at-word : t ≡ NotTold → Broken (at + 1) ≡ wordsOf (headerFrom head)
       at-word q = go (wordOk (wordAt head at) p) refl (sym told ∙ q) ∙ ap wordsOf (sym (on .next) ∙ sym (g .same)) where
         go : (k : Bool) → wordOk (wordAt head at) p ≡ k → toldBy k (tell (wordAt head at) p) ≡ NotTold
-            → Broken (at + 1) ≡ wordsOf (unless (wordOk (wordAt head at) p) (malformed (at + 1)) (words (on .m) (at + 1 + length (wordAt head at)) (drop (at + 1 + length (wordAt head at)) head) (tell (wordAt head at) p)))
+            → Broken (at + 1) ≡ wordsOf (unless (wordOk (wordAt head at) p) (malformed (at + 1))
+            (words (on .m) (at + 1 + length (wordAt head at)) (drop (at + 1 + length (wordAt head at)) head) (tell (wordAt head at) p)))
         go true o z = absurd (let y : _≡_ {A = ℕ} 0 1 = cc in omega arith)
         go false o z = rw o
 

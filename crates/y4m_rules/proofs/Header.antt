@@ -16,7 +16,8 @@ use Rattle.laws.specs.Index.{pick}
 use Rattle.sheet_lines.specs.Lines.{sameLine, startsWith}
 use Rattle.y4m_rules.specs.Words.{magic, progressive, format, before, wordOf}
 use Rattle.y4m_rules.specs.Numbers.{number, ratio, isNumber, isRatio, valueOf, upper, lower}
-use Rattle.y4m_rules.specs.Header.{param, headerText, nothing, withW, withH, withF, withI, withA, withC, valueOk, saidWith, wordOk, tell, Header, malformed, said, ending, words, headOf, headerIn}
+use Rattle.y4m_rules.specs.Header.{param, headerText, nothing, withW, withH, withF, withI, withA, withC, valueOk, saidWith, wordOk, tell, Header, malformed, said}
+use Rattle.y4m_rules.specs.Header.{ending, words, headOf, headerIn}
 use Rattle.y4m_rules.specs.declared.Said.{Said}
 use Rattle.y4m_rules.proofs.Numbers.{Digits, Free, number-digits, number-short, number-value, number-form, ratio-upper, ratio-lower, ratio-form, before-at}
 
@@ -147,7 +148,8 @@ module _ (w h f g a b : ℕ) (ok : Numbers w h f g a b) (rest : List ℕ) where
       ∙ word-step _ _ 67 format 10 rest _ (omega arith) format-plain refl refl
       ∙ at-end n _ rest _ refl refl refl
 
-  said-back : withC (withA (upper (ratio a b)) (lower (ratio a b)) (withI (withF (upper (ratio f g)) (lower (ratio f g)) (withH (valueOf (number h)) (withW (valueOf (number w)) nothing))))) ≡ written w h f g a b
+  said-back : withC (withA (upper (ratio a b)) (lower (ratio a b))
+      (withI (withF (upper (ratio f g)) (lower (ratio f g)) (withH (valueOf (number h)) (withW (valueOf (number w)) nothing))))) ≡ written w h f g a b
   said-back =
       let ew = number-value w (ok .w-small) in
       let eh = number-value h (ok .h-small) in

@@ -7,7 +7,9 @@ use Rattle.compareframes.proofs.every.Statement.{statement}
 use Rattle.compareframes.proofs.every.Tie as tie
 
 abbrev Inv-loop : tie.InvT-loop
-Inv-loop job bytes₀ ya₀ ua₀ va₀ yb₀ ub₀ vb₀ frames₀ before₀ bytes ya ua va yb ub vb frames before = (length bytes ≡ length bytes₀) × (length ya ≡ length ya₀) × (length ua ≡ length ua₀) × (length va ≡ length va₀) × (length yb ≡ length yb₀) × (length ub ≡ length ub₀) × (length vb ≡ length vb₀)
+Inv-loop job bytes₀ ya₀ ua₀ va₀ yb₀ ub₀ vb₀ frames₀ before₀ bytes ya ua va yb ub vb frames before =
+    (length bytes ≡ length bytes₀) × (length ya ≡ length ya₀) × (length ua ≡ length ua₀) × (length va ≡ length va₀) × (length yb ≡ length yb₀)
+    × (length ub ≡ length ub₀) × (length vb ≡ length vb₀)
 
 abbrev μ-loop : tie.MeasureT-loop
 μ-loop job bytes₀ ya₀ ua₀ va₀ yb₀ ub₀ vb₀ frames₀ before₀ bytes ya ua va yb ub vb frames before = 1000000000000 - frames

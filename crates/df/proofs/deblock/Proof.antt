@@ -29,7 +29,8 @@ of s =
 
 returns : tie.Need-returns
 unfolding of
-returns c = c .before .before .before .before .before .before .before .before .deblock-by-rows .ensures ∙ without (of (c .before .before .before .before .before .before .before .before .before .before .before .before .before .before .before .before .before .before .before .before .before))
+returns c = c .before .before .before .before .before .before .before .before .deblock-by-rows .ensures
+    ∙ without (of (c .before .before .before .before .before .before .before .before .before .before .before .before .before .before .before .before .before .before .before .before .before))
 
 pub deblock-spec : {M : Type 1} → statement M
 deblock-spec =

@@ -26,7 +26,8 @@ input s =
 
 -- where the checks found nothing
 passed-at : (c : tie.After-enum-told) → Passed (input (c .before .before .before .before .before .before .before .before .before .before .before .before .before .before))
-passed-at c = all-passed (input (c .before .before .before .before .before .before .before .before .before .before .before .before .before .before)) (sym (c .before .before .checked-leaves .ensures) ∙ c .enum-told .given .1)
+passed-at c = all-passed (input (c .before .before .before .before .before .before .before .before .before .before .before .before .before .before))
+    (sym (c .before .before .checked-leaves .ensures) ∙ c .enum-told .given .1)
 
 draw-picture-requires : tie.Need-draw-picture-requires
 draw-picture-requires c κs =
@@ -47,4 +48,8 @@ pub reconstruct-spec : {M : Type 1} → statement M
 reconstruct-spec =
     tie.close
     (tie.spec (λ c κs. search needs) (λ c. search needs) (λ c. search needs) (λ c κs. search needs) draw-picture-requires returns
-    (λ c. c .before .before .before .before .before .before .before .before .before .before .before .before .draw-picture .kept .1 .1 .1 .1 .1 .1 .1 .1 .1 .1 .0) (λ c. c .before .before .before .before .before .before .before .before .before .before .before .before .draw-picture .kept .1 .1 .1 .1 .1 .1 .1 .1 .1 .1 .1 .0) (λ c. c .before .before .before .before .before .before .before .before .before .before .before .before .draw-picture .kept .1 .1 .1 .1 .1 .1 .1 .1 .1 .1 .1 .1 .0) (λ c. c .before .before .before .before .before .before .before .before .before .before .before .before .draw-picture .kept .1 .1 .1 .1 .1 .1 .1 .1 .1 .1 .1 .1 .1 .0 ∙ c .before .before .before .before .before .before .before .before .before .before .before .before .before .before .before .before .before .before .before .before .before .clear .kept .0) (λ c. c .before .before .before .before .before .before .before .before .before .before .before .before .draw-picture .kept .1 .1 .1 .1 .1 .1 .1 .1 .1 .1 .1 .1 .1 .1 .0) (λ c. c .before .before .before .before .before .before .before .before .before .before .before .before .draw-picture .kept .1 .1 .1 .1 .1 .1 .1 .1 .1 .1 .1 .1 .1 .1 .1 .0) returns-2)
+    (λ c. c .before .before .before .before .before .before .before .before .before .before .before .before .draw-picture .kept .1 .1 .1 .1 .1 .1 .1 .1 .1 .1 .0)
+    (λ c. c .before .before .before .before .before .before .before .before .before .before .before .before .draw-picture .kept .1 .1 .1 .1 .1 .1 .1 .1 .1 .1 .1 .0)
+    (λ c. c .before .before .before .before .before .before .before .before .before .before .before .before .draw-picture .kept .1 .1 .1 .1 .1 .1 .1 .1 .1 .1 .1 .1 .0)
+    (λ c. c .before .before .before .before .before .before .before .before .before .before .before .before .draw-picture .kept .1 .1 .1 .1 .1 .1 .1 .1 .1 .1 .1 .1 .1 .0
+    ∙ c .before .before .before .before .before .before .before .before .before .before .before .before .before .before .before .before .before .before .before .before .before .clear .kept .0) (λ c. c .before .before .before .before .before .before .before .before .before .before .before .before .draw-picture .kept .1 .1 .1 .1 .1 .1 .1 .1 .1 .1 .1 .1 .1 .1 .0) (λ c. c .before .before .before .before .before .before .before .before .before .before .before .before .draw-picture .kept .1 .1 .1 .1 .1 .1 .1 .1 .1 .1 .1 .1 .1 .1 .1 .0) returns-2)

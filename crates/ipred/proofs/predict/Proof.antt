@@ -29,7 +29,8 @@ lent-4 c e = subst (λ (n : ℕ). Lent n (input c .run) (input c .block)) e (sta
 good : (c : tie.Else1) → input c .mode ≤ 4 → samplesOk (input c .run) ≡ true
 good c p = good-samples (input c .mode) _ _ (c .before .samples-ok .ensures) (c .if1 .left) p
 
-arm : (c : tie.Else1) (k n : ℕ) {block : List ℕ} → input c .mode ≡ k → input c .side ≡ n → k ≤ 4 → block ≡ blockOf n (predicted k n (input c .run)) → Gives chosen (input c) (record { number = 0; block = block })
+arm : (c : tie.Else1) (k n : ℕ) {block : List ℕ} → input c .mode ≡ k → input c .side ≡ n → k ≤ 4 → block ≡ blockOf n (predicted k n (input c .run))
+    → Gives chosen (input c) (record { number = 0; block = block })
 arm c k n e s p b = at-mode _ _ (c .before .samples-ok .ensures) k n _ (c .if1 .left) e s p b
 
 -- ---- the needs
@@ -61,7 +62,8 @@ returns-2 c = no-mode _ (omega arith)
 
 returns-3 : tie.Need-returns-3
 unfolding predicted
-returns-3 c = let m = c .before .before .before .before .before in arm (m .before) 0 4 (m .match .keys1) (c .before .before .before .before .if2 .taken) (omega arith) (c .before .before .ipred-dc-b .ensures)
+returns-3 c = let m = c .before .before .before .before .before in
+    arm (m .before) 0 4 (m .match .keys1) (c .before .before .before .before .if2 .taken) (omega arith) (c .before .before .ipred-dc-b .ensures)
 
 returns-4 : tie.Need-returns-4
 unfolding predicted
@@ -69,7 +71,8 @@ returns-4 c = let m = c .before .before .before .before .before in arm (m .befor
 
 returns-5 : tie.Need-returns-5
 unfolding predicted
-returns-5 c = let m = c .before .before .before .before .before in arm (m .before) 1 4 (m .match .keys2) (c .before .before .before .before .if3 .taken) (omega arith) (c .before .before .ipred-hor-b .ensures)
+returns-5 c = let m = c .before .before .before .before .before in
+    arm (m .before) 1 4 (m .match .keys2) (c .before .before .before .before .if3 .taken) (omega arith) (c .before .before .ipred-hor-b .ensures)
 
 returns-6 : tie.Need-returns-6
 unfolding predicted
@@ -77,7 +80,8 @@ returns-6 c = let m = c .before .before .before .before .before in arm (m .befor
 
 returns-7 : tie.Need-returns-7
 unfolding predicted
-returns-7 c = let m = c .before .before .before .before .before in arm (m .before) 2 4 (m .match .keys3) (c .before .before .before .before .if4 .taken) (omega arith) (c .before .before .ipred-vert .ensures)
+returns-7 c = let m = c .before .before .before .before .before in
+    arm (m .before) 2 4 (m .match .keys3) (c .before .before .before .before .if4 .taken) (omega arith) (c .before .before .ipred-vert .ensures)
 
 returns-8 : tie.Need-returns-8
 unfolding predicted
@@ -85,7 +89,8 @@ returns-8 c = let m = c .before .before .before .before .before in arm (m .befor
 
 returns-9 : tie.Need-returns-9
 unfolding predicted
-returns-9 c = let m = c .before .before .before .before .before in arm (m .before) 3 4 (m .match .keys4) (c .before .before .before .before .if5 .taken) (omega arith) (c .before .before .ipred-ul .ensures)
+returns-9 c = let m = c .before .before .before .before .before in
+    arm (m .before) 3 4 (m .match .keys4) (c .before .before .before .before .if5 .taken) (omega arith) (c .before .before .ipred-ul .ensures)
 
 returns-10 : tie.Need-returns-10
 unfolding predicted
@@ -93,7 +98,8 @@ returns-10 c = let m = c .before .before .before .before .before in arm (m .befo
 
 returns-11 : tie.Need-returns-11
 unfolding predicted
-returns-11 c = let m = c .before .before .before .before .before in arm (m .before) 4 4 (m .match .keys5) (c .before .before .before .before .if6 .taken) (omega arith) (c .before .before .ipred-ur .ensures)
+returns-11 c = let m = c .before .before .before .before .before in
+    arm (m .before) 4 4 (m .match .keys5) (c .before .before .before .before .if6 .taken) (omega arith) (c .before .before .ipred-ur .ensures)
 
 returns-12 : tie.Need-returns-12
 unfolding predicted

@@ -24,8 +24,11 @@ loop-again : tie.Need-loop-again Inv-loop μ-loop
 loop-again c =
     let h = c .before .before in
     let a = h .before .before .before .args in
-    let i = h .loop .i in
-    (search needs, rw (next-row i (a .n)) (join-part (armAt (a .arm) (a .n) (a .constrained) (now (a .plane)) (now (a .map-scu))) _ (h .loop .all) (i * a .n) (c .join-unit .result) (a .n) (λ j p. refl) (c .join-unit .ensures) (h .loop .inv .1)))
+    let i = h .loop .i in (
+      search needs,
+      rw (next-row i (a .n)) (join-part (armAt (a .arm) (a .n) (a .constrained) (now (a .plane)) (now (a .map-scu))) _ (h .loop .all) (i * a .n)
+          (c .join-unit .result) (a .n) (λ j p. refl) (c .join-unit .ensures) (h .loop .inv .1)),
+    )
 
 returns : tie.Need-returns Inv-loop μ-loop
 returns c = let e : c .before .loop .i ≡ c .before .before .before .before .args .units = omega arith in c .before .loop .inv .1 ∙ rw e

@@ -15,11 +15,14 @@ use Rattle.recon.specs.Recon.{lengthsOk, blockCheck}
 use Rattle.recon.proofs.checked.Statement.{statement}
 use Rattle.recon.proofs.checked.Tie as tie
 
-past1 : (c : tie.Else1) (x : Answer) → let a = c .before .before .before .args in x ≡ unless (lengthsOk (a .side) (length (now (a .pred))) (a .coef) (a .rec)) (Refused Length) (unless (samplesOk (now (a .pred))) (Refused Sample) Done) → x ≡ blockCheck (a .side) (now (a .pred)) (a .coef) (a .rec)
+past1 : (c : tie.Else1) (x : Answer) → let a = c .before .before .before .args in
+    x ≡ unless (lengthsOk (a .side) (length (now (a .pred))) (a .coef) (a .rec)) (Refused Length)
+    (unless (samplesOk (now (a .pred))) (Refused Sample) Done) → x ≡ blockCheck (a .side) (now (a .pred)) (a .coef) (a .rec)
 unfolding blockCheck
 past1 c x p = goes-on _ _ _ _ x (c .before .component-side-ok .ensures) (c .if1 .left) p
 
-past2 : (c : tie.Else2) (x : Answer) → let a = c .before .before .before .before .before .args in x ≡ unless (samplesOk (now (a .pred))) (Refused Sample) Done → x ≡ blockCheck (a .side) (now (a .pred)) (a .coef) (a .rec)
+past2 : (c : tie.Else2) (x : Answer) → let a = c .before .before .before .before .before .args in
+    x ≡ unless (samplesOk (now (a .pred))) (Refused Sample) Done → x ≡ blockCheck (a .side) (now (a .pred)) (a .coef) (a .rec)
 past2 c x p = past1 (c .before .before) x (goes-on _ _ _ _ x (c .before .lengths-ok .ensures) (c .if2 .left) p)
 
 returns : tie.Need-returns

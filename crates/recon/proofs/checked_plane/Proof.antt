@@ -46,7 +46,8 @@ past2 c x p = past1 (c .before .before) x (goes-on _ _ _ _ x (c .before .plane-l
 past3 : (c : tie.Else3) (x : Answer) → x ≡ after3 (c .before .before .before .before .before .before .before) → x ≡ all (c .before .before .before .before .before .before .before)
 past3 c x p = past2 (c .before .before) x (goes-on _ _ _ _ x (c .before .block-ok .ensures) (c .if3 .left) p)
 
-past4 : (c : tie.Else4) (x : Answer) → x ≡ after4 (c .before .before .before .before .before .before .before .before .before) → x ≡ all (c .before .before .before .before .before .before .before .before .before)
+past4 : (c : tie.Else4) (x : Answer) → x ≡ after4 (c .before .before .before .before .before .before .before .before .before)
+    → x ≡ all (c .before .before .before .before .before .before .before .before .before)
 past4 c x p = past3 (c .before .before) x (goes-on _ _ _ _ x (c .before .block-lengths-ok .ensures) (c .if4 .left) p)
 
 returns : tie.Need-returns

@@ -11,7 +11,9 @@ use Rattle.recon.proofs.recon_plane.Statement.{statement}
 use Rattle.recon.proofs.recon_plane.Tie as tie
 
 -- where the checks found nothing
-fits-at : (c : tie.After-enum-told) → let a = c .before .before .before .before .before .args in Fitting (a .w / scaleOf (a .component)) (a .x .0 / scaleOf (a .component)) (a .y .0 / scaleOf (a .component)) (a .side / scaleOf (a .component)) (now (a .pred)) (now (a .coef)) (now (a .rec))
+fits-at : (c : tie.After-enum-told) → let a = c .before .before .before .before .before .args in
+    Fitting (a .w / scaleOf (a .component)) (a .x .0 / scaleOf (a .component)) (a .y .0 / scaleOf (a .component))
+    (a .side / scaleOf (a .component)) (now (a .pred)) (now (a .coef)) (now (a .rec))
 fits-at c = fitting _ _ _ _ _ _ _ _ _ (sym (c .before .before .checked-plane .ensures) ∙ c .enum-told .given .1)
 
 recon-block-requires : tie.Need-recon-block-requires
@@ -26,7 +28,8 @@ returns-2 : tie.Need-returns-2
 returns-2 c =
     let told = c .before .before .before .before .before .before .before .before in
     plane-done _ _ (told .before .before .checked-plane .ensures) _ _ _ _
-    (c .before .before .before .before .before .in-component3 .ensures) (c .before .before .before .before .before .before .before .in-component .ensures) (c .before .before .before .before .before .before .in-component2 .ensures) (c .before .before .before .before .in-component4 .ensures)
+    (c .before .before .before .before .before .in-component3 .ensures) (c .before .before .before .before .before .before .before .in-component .ensures)
+    (c .before .before .before .before .before .before .in-component2 .ensures) (c .before .before .before .before .in-component4 .ensures)
     _ (told .enum-told .given .1) (c .before .before .recon-block .ensures)
 
 pub recon-plane-spec : {M : Type 1} → statement M

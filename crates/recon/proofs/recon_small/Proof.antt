@@ -65,7 +65,8 @@ loop-again c =
     let p = row (c .before .before .before .before .before) in (
       search needs,
       rows-more _ _ _ _ _ _ _ _ _ (h .loop .r) _ _ (omega arith) (omega arith) refl
-          (λ j q. row-front (s .args .coded) (now (s .args .pred)) (now (s .args .coef)) (replicate 16 0) _ _ _ (few (s .args .n) (s .pre .1)) (omega arith) (h .before .before .recon-row .ensures)) (c .before .before .copy-row .ensures) (h .loop .inv .1),
+          (λ j q. row-front (s .args .coded) (now (s .args .pred)) (now (s .args .coef)) (replicate 16 0) _ _ _ (few (s .args .n) (s .pre .1)) (omega arith)
+          (h .before .before .recon-row .ensures)) (c .before .before .copy-row .ensures) (h .loop .inv .1),
     )
 
 same-length : tie.Need-same-length Inv-loop μ-loop

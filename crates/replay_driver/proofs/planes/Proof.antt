@@ -5,16 +5,21 @@ use Rattle.replay_driver.proofs.planes.Statement.{statement}
 use Rattle.replay_driver.proofs.planes.Tie as tie
 
 slice-aggregate-reconstructed : tie.Need-slice-aggregate-reconstructed
-slice-aggregate-reconstructed c = let p = c .before .before .before .before .before .before .before .before .before .before .before .before .before .before .before .before .before in part-long _ _ _ _ (p .slice-u16 .ensures .len) (p .slice-u16 .kept .1 .1 .0)
+slice-aggregate-reconstructed c =
+    let p = c .before .before .before .before .before .before .before .before .before .before .before .before .before .before .before .before .before in
+    part-long _ _ _ _ (p .slice-u16 .ensures .len) (p .slice-u16 .kept .1 .1 .0)
 
 slice-aggregate-reconstructed-2 : tie.Need-slice-aggregate-reconstructed-2
-slice-aggregate-reconstructed-2 c = let p = c .before .before .before .before .before .before .before .before .before .before .before .before .before .before .before in part-long _ _ _ _ (p .slice-u162 .ensures .len) (p .slice-u162 .kept .1 .1 .0)
+slice-aggregate-reconstructed-2 c = let p = c .before .before .before .before .before .before .before .before .before .before .before .before .before .before .before
+    in part-long _ _ _ _ (p .slice-u162 .ensures .len) (p .slice-u162 .kept .1 .1 .0)
 
 slice-aggregate-reconstructed-3 : tie.Need-slice-aggregate-reconstructed-3
-slice-aggregate-reconstructed-3 c = let p = c .before .before .before .before .before .before .before .before .before .before .before .before .before in part-long _ _ _ _ (p .slice-u163 .ensures .len) (p .slice-u163 .kept .1 .1 .0)
+slice-aggregate-reconstructed-3 c = let p = c .before .before .before .before .before .before .before .before .before .before .before .before .before in
+    part-long _ _ _ _ (p .slice-u163 .ensures .len) (p .slice-u163 .kept .1 .1 .0)
 
 slice-aggregate-reconstructed-4 : tie.Need-slice-aggregate-reconstructed-4
-slice-aggregate-reconstructed-4 c = let p = c .before .before .before .before .before .before .before .before .before .before .before in part-long _ _ _ _ (p .slice-u32 .ensures .len) (p .slice-u32 .kept .1 .1 .0)
+slice-aggregate-reconstructed-4 c = let p = c .before .before .before .before .before .before .before .before .before .before .before in
+    part-long _ _ _ _ (p .slice-u32 .ensures .len) (p .slice-u32 .kept .1 .1 .0)
 
 slice-aggregate-reconstructed-5 : tie.Need-slice-aggregate-reconstructed-5
 slice-aggregate-reconstructed-5 c = let p = c .before .before .before .before .before .before .before .before .before in part-long _ _ _ _ (p .slice-u8 .ensures .len) (p .slice-u8 .kept .1 .1 .0)

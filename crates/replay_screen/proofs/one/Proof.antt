@@ -5,10 +5,12 @@ use Rattle.replay_screen.proofs.one.Statement.{statement}
 use Rattle.replay_screen.proofs.one.Tie as tie
 
 slice-aggregate-called : tie.Need-slice-aggregate-called
-slice-aggregate-called c = let p = c .before .before .before .before .before .before .before .before .before .before .before .before .before in part-long _ _ _ _ (p .slice-u16 .ensures .len) (p .slice-u16 .kept .1 .1 .0)
+slice-aggregate-called c = let p = c .before .before .before .before .before .before .before .before .before .before .before .before .before in
+    part-long _ _ _ _ (p .slice-u16 .ensures .len) (p .slice-u16 .kept .1 .1 .0)
 
 slice-aggregate-called-2 : tie.Need-slice-aggregate-called-2
-slice-aggregate-called-2 c = let p = c .before .before .before .before .before .before .before .before .before .before .before in part-long _ _ _ _ (p .slice-u162 .ensures .len) (p .slice-u162 .kept .1 .1 .0)
+slice-aggregate-called-2 c = let p = c .before .before .before .before .before .before .before .before .before .before .before in
+    part-long _ _ _ _ (p .slice-u162 .ensures .len) (p .slice-u162 .kept .1 .1 .0)
 
 slice-aggregate-called-3 : tie.Need-slice-aggregate-called-3
 slice-aggregate-called-3 c = let p = c .before .before .before .before .before .before .before .before .before in part-long _ _ _ _ (p .slice-u163 .ensures .len) (p .slice-u163 .kept .1 .1 .0)

@@ -5,7 +5,8 @@ use Rattle.replay_streams.proofs.write_frame_case.Statement.{statement}
 use Rattle.replay_streams.proofs.write_frame_case.Tie as tie
 
 slice-aggregate-frame-written : tie.Need-slice-aggregate-frame-written
-slice-aggregate-frame-written c = let p = c .before .before .before .before .before .before .before .before .before .before .before in part-long _ _ _ _ (p .slice-u16 .ensures .len) (p .slice-u16 .kept .1 .1 .0)
+slice-aggregate-frame-written c = let p = c .before .before .before .before .before .before .before .before .before .before .before in
+    part-long _ _ _ _ (p .slice-u16 .ensures .len) (p .slice-u16 .kept .1 .1 .0)
 
 slice-aggregate-frame-written-2 : tie.Need-slice-aggregate-frame-written-2
 slice-aggregate-frame-written-2 c = let p = c .before .before .before .before .before .before .before .before .before in part-long _ _ _ _ (p .slice-u162 .ensures .len) (p .slice-u162 .kept .1 .1 .0)

@@ -7,7 +7,8 @@ use Rattle.wardshow.proofs.every.Statement.{statement}
 use Rattle.wardshow.proofs.every.Tie as tie
 
 abbrev Inv-loop : tie.InvT-loop
-Inv-loop file job bytes₀ y₀ u₀ v₀ out₀ frames₀ place₀ bytes y u v out frames place = (length bytes ≡ length bytes₀) × (length y ≡ length y₀) × (length u ≡ length u₀) × (length v ≡ length v₀) × (length out ≡ length out₀)
+Inv-loop file job bytes₀ y₀ u₀ v₀ out₀ frames₀ place₀ bytes y u v out frames place =
+    (length bytes ≡ length bytes₀) × (length y ≡ length y₀) × (length u ≡ length u₀) × (length v ≡ length v₀) × (length out ≡ length out₀)
 
 abbrev μ-loop : tie.MeasureT-loop
 μ-loop file job bytes₀ y₀ u₀ v₀ out₀ frames₀ place₀ bytes y u v out frames place = 1000000000000 - frames

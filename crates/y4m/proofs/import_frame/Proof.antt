@@ -9,11 +9,15 @@ returns c = no-header _ _ (c .before .before .before .read-header .ensures) _ _ 
 
 returns-2 : tie.Need-returns-2
 returns-2 c =
-    no-frame _ _ (c .before .before .before .before .before .before .before .before .before .before .before .before .before .before .before .before .read-header .ensures) _ _ _ _ _ _ _ (c .before .before .before .before .before .before .before .before .before .before .before .before .before .before .w .given .1) _ _ _ _ (c .before .before .before .before .before .before .before .before .before .read-frame .ensures) _ _ (c .before .r2 .given .1)
+    no-frame _ _ (c .before .before .before .before .before .before .before .before .before .before .before .before .before .before .before .before .read-header .ensures) _ _ _ _ _
+    _ _ (c .before .before .before .before .before .before .before .before .before .before .before .before .before .before .w .given .1) _ _ _ _
+    (c .before .before .before .before .before .before .before .before .before .read-frame .ensures) _ _ (c .before .r2 .given .1)
 
 returns-3 : tie.Need-returns-3
 returns-3 c =
-    whole _ _ (c .before .before .before .before .before .before .before .before .before .before .before .before .before .before .before .before .read-header .ensures) _ _ _ _ _ _ _ (c .before .before .before .before .before .before .before .before .before .before .before .before .before .before .w .given .1) _ _ _ _ (c .before .before .before .before .before .before .before .before .before .read-frame .ensures) _ (c .before .end .given .1)
+    whole _ _ (c .before .before .before .before .before .before .before .before .before .before .before .before .before .before .before .before .read-header .ensures) _ _ _ _ _ _
+    _ (c .before .before .before .before .before .before .before .before .before .before .before .before .before .before .w .given .1) _ _ _ _
+    (c .before .before .before .before .before .before .before .before .before .read-frame .ensures) _ (c .before .end .given .1)
 
 pub import-frame-spec : {M : Type 1} → statement M
 import-frame-spec =

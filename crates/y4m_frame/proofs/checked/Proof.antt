@@ -24,7 +24,8 @@ chroma-length-requires c κs = let z = size c in (z .wide, z .high)
 returns-2 : tie.Need-returns-2
 returns-2 c =
     let a = c .before .before .before .before .before .args in
-    at-length (a .s .now) (a .at) (a .w) (a .h) (a .y) (a .u) (a .v) _ (c .before .before .before .size-ok .ensures) (c .before .before .if1 .left) _ (c .before .chroma-length .ensures) (c .if2 .taken)
+    at-length (a .s .now) (a .at) (a .w) (a .h) (a .y) (a .u) (a .v) _ (c .before .before .before .size-ok .ensures)
+    (c .before .before .if1 .left) _ (c .before .chroma-length .ensures) (c .if2 .taken)
 
 checked-frame-requires : tie.Need-checked-frame-requires
 checked-frame-requires c κs =
@@ -35,7 +36,8 @@ checked-frame-requires c κs =
 returns-3 : tie.Need-returns-3
 returns-3 c =
     let a = c .before .before .before .before .before .before .args in
-    at-frame (a .s .now) (a .at) (a .w) (a .h) (a .y) (a .u) (a .v) _ (c .before .before .before .before .size-ok .ensures) (c .before .before .before .if1 .left) _ (c .before .before .chroma-length .ensures) (c .before .if2 .left) _ (c .checked-frame .ensures)
+    at-frame (a .s .now) (a .at) (a .w) (a .h) (a .y) (a .u) (a .v) _ (c .before .before .before .before .size-ok .ensures) (c .before .before .before .if1 .left) _
+    (c .before .before .chroma-length .ensures) (c .before .if2 .left) _ (c .checked-frame .ensures)
 
 pub checked-spec : {M : Type 1} → statement M
 checked-spec =

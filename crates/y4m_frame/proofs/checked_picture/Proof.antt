@@ -61,25 +61,35 @@ lengths-ok-requires c κs =
 returns-2 : tie.Need-returns-2
 returns-2 c =
     let a = c .before .before .before .before .before .before .before .args in
-    at-length (a .format) (a .w) (a .h) (now (a .y)) (now (a .u)) (now (a .v)) (a .out) _ (c .before .before .before .size-ok .ensures) (c .before .before .if1 .left) _ (c .before .lengths-ok .ensures) (c .if2 .taken)
+    at-length (a .format) (a .w) (a .h) (now (a .y)) (now (a .u)) (now (a .v)) (a .out) _ (c .before .before .before .size-ok .ensures)
+    (c .before .before .if1 .left) _ (c .before .lengths-ok .ensures) (c .if2 .taken)
 
 returns-3 : tie.Need-returns-3
 returns-3 c =
     let a = c .before .before .before .before .before .before .before .before .before .args in
-    at-colour (a .format) (a .w) (a .h) (now (a .y)) (now (a .u)) (now (a .v)) (a .out) _ (c .before .before .before .before .before .size-ok .ensures) (c .before .before .before .before .if1 .left) _ (c .before .before .before .lengths-ok .ensures) (c .before .before .if2 .left)
+    at-colour (a .format) (a .w) (a .h) (now (a .y)) (now (a .u)) (now (a .v)) (a .out) _ (c .before .before .before .before .before .size-ok .ensures)
+    (c .before .before .before .before .if1 .left) _ (c .before .before .before .lengths-ok .ensures) (c .before .before .if2 .left)
     _ (c .before .colour-ok .ensures) (c .if3 .taken)
 
 returns-4 : tie.Need-returns-4
 returns-4 c =
     let a = c .before .before .before .before .before .before .before .before .before .before .before .before .before .args in
-    at-sample (a .format) (a .w) (a .h) (now (a .y)) (now (a .u)) (now (a .v)) (a .out) _ (c .before .before .before .before .before .before .before .before .before .size-ok .ensures) (c .before .before .before .before .before .before .before .before .if1 .left) _ (c .before .before .before .before .before .before .before .lengths-ok .ensures) (c .before .before .before .before .before .before .if2 .left)
-    _ (c .before .before .before .before .before .colour-ok .ensures) (c .before .before .before .before .if3 .left) _ _ _ (c .before .before .before .samples-ok .ensures) (c .before .before .samples-ok2 .ensures) (c .before .samples-ok3 .ensures) (c .if4 .taken)
+    at-sample (a .format) (a .w) (a .h) (now (a .y)) (now (a .u)) (now (a .v)) (a .out) _
+    (c .before .before .before .before .before .before .before .before .before .size-ok .ensures)
+    (c .before .before .before .before .before .before .before .before .if1 .left) _
+    (c .before .before .before .before .before .before .before .lengths-ok .ensures) (c .before .before .before .before .before .before .if2 .left)
+    _ (c .before .before .before .before .before .colour-ok .ensures) (c .before .before .before .before .if3 .left) _ _ _ (c .before .before .before .samples-ok .ensures)
+    (c .before .before .samples-ok2 .ensures) (c .before .samples-ok3 .ensures) (c .if4 .taken)
 
 returns-5 : tie.Need-returns-5
 returns-5 c =
     let a = c .before .before .before .before .before .before .before .before .before .before .before .before .before .args in
-    at-done (a .format) (a .w) (a .h) (now (a .y)) (now (a .u)) (now (a .v)) (a .out) _ (c .before .before .before .before .before .before .before .before .before .size-ok .ensures) (c .before .before .before .before .before .before .before .before .if1 .left) _ (c .before .before .before .before .before .before .before .lengths-ok .ensures) (c .before .before .before .before .before .before .if2 .left)
-    _ (c .before .before .before .before .before .colour-ok .ensures) (c .before .before .before .before .if3 .left) _ _ _ (c .before .before .before .samples-ok .ensures) (c .before .before .samples-ok2 .ensures) (c .before .samples-ok3 .ensures) (c .if4 .left)
+    at-done (a .format) (a .w) (a .h) (now (a .y)) (now (a .u)) (now (a .v)) (a .out) _
+    (c .before .before .before .before .before .before .before .before .before .size-ok .ensures)
+    (c .before .before .before .before .before .before .before .before .if1 .left) _
+    (c .before .before .before .before .before .before .before .lengths-ok .ensures) (c .before .before .before .before .before .before .if2 .left)
+    _ (c .before .before .before .before .before .colour-ok .ensures) (c .before .before .before .before .if3 .left) _ _ _ (c .before .before .before .samples-ok .ensures)
+    (c .before .before .samples-ok2 .ensures) (c .before .samples-ok3 .ensures) (c .if4 .left)
 
 pub checked-picture-spec : {M : Type 1} → statement M
 checked-picture-spec =

@@ -9,7 +9,8 @@ use Rattle.y4m_frame.proofs.read_frame.Statement.{statement}
 use Rattle.y4m_frame.proofs.read_frame.Tie as tie
 
 -- where the checks found nothing
-found : (c : tie.After-next) → let a = c .before .before .before .before .before .before .before .args in Readable (now (a .s)) (a .at) (length (now (a .y))) (length (now (a .u))) (length (now (a .v))) (a .w) (a .h)
+found : (c : tie.After-next) → let a = c .before .before .before .before .before .before .before .args in
+    Readable (now (a .s)) (a .at) (length (now (a .y))) (length (now (a .u))) (length (now (a .v))) (a .w) (a .h)
 found c = let a = c .before .before .before .before .before .before .before .args in readable (now (a .s)) (a .at) (a .w) (a .h) _ _ _ _ (sym (c .before .before .checked .ensures) ∙ c .next .given .1)
 
 add-luma : tie.Need-add-luma
@@ -35,7 +36,10 @@ returns c = read-refused _ _ (c .before .before .before .checked .ensures) _ _ (
 
 returns-2 : tie.Need-returns-2
 returns-2 c =
-    read-done _ _ (c .before .before .before .before .before .before .before .before .before .before .before .before .before .before .before .checked .ensures) _ _ _ _ (c .before .before .before .before .before .before .before .before .before .before .before .before .before .next .given .1) (c .before .before .before .before .before .before .before .before .before .before .read-plane .ensures) (c .before .before .before .before .before .before .read-plane2 .ensures) (c .before .before .read-plane3 .ensures)
+    read-done _ _ (c .before .before .before .before .before .before .before .before .before .before .before .before .before .before .before .checked .ensures) _ _ _ _
+    (c .before .before .before .before .before .before .before .before .before .before .before .before .before .next .given .1)
+    (c .before .before .before .before .before .before .before .before .before .before .read-plane .ensures)
+    (c .before .before .before .before .before .before .read-plane2 .ensures) (c .before .before .read-plane3 .ensures)
 
 pub read-frame-spec : {M : Type 1} → statement M
 read-frame-spec =

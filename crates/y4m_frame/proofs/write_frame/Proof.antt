@@ -10,8 +10,10 @@ use Rattle.y4m_frame.proofs.write_frame.Statement.{statement}
 use Rattle.y4m_frame.proofs.write_frame.Tie as tie
 
 -- where the checks found nothing
-found : (c : tie.After-enum-told) → let a = c .before .before .before .before .before .before .before .args in Writable (a .w) (a .h) (length (now (a .y))) (length (now (a .u))) (length (now (a .v))) (length (now (a .out)))
-found c = let a = c .before .before .before .before .before .before .before .args in writable (a .format) (a .w) (a .h) (now (a .y)) (now (a .u)) (now (a .v)) _ (sym (c .before .before .checked-picture .ensures) ∙ c .enum-told .given .1)
+found : (c : tie.After-enum-told) → let a = c .before .before .before .before .before .before .before .args in
+    Writable (a .w) (a .h) (length (now (a .y))) (length (now (a .u))) (length (now (a .v))) (length (now (a .out)))
+found c = let a = c .before .before .before .before .before .before .before .args in
+    writable (a .format) (a .w) (a .h) (now (a .y)) (now (a .u)) (now (a .v)) _ (sym (c .before .before .checked-picture .ensures) ∙ c .enum-told .given .1)
 
 put-line-requires : tie.Need-put-line-requires
 put-line-requires c κs = omega (arith, found (c .before) .out-long)
@@ -23,7 +25,16 @@ put-plane-requires-2 : tie.Need-put-plane-requires-2
 put-plane-requires-2 c κs =
     let l = c .before .before .before .before .before .before .before .put-line in
     let y = c .before .before .before .put-plane in
-    omega (arith, found (c .before .before .before .before .before .before .before .before .before) .out-long, l .ensures .count, l .kept .0, y .ensures .count, y .kept .0, bytes-long (now (c .before .before .before .before .before .before .before .before .before .before .before .before .before .before .before .before .args .y)))
+    omega (
+      arith,
+      found (c .before .before .before .before .before .before .before .before .before) .out-long,
+      l .ensures .count,
+      l .kept .0,
+      y .ensures .count,
+      y .kept .0,
+      bytes-long
+          (now (c .before .before .before .before .before .before .before .before .before .before .before .before .before .before .before .before .args .y)),
+    )
 
 put-plane-requires-3 : tie.Need-put-plane-requires-3
 put-plane-requires-3 c κs =
@@ -31,7 +42,18 @@ put-plane-requires-3 c κs =
     let y = c .before .before .before .before .before .before .before .put-plane in
     let u = c .before .before .before .put-plane2 in
     let a = c .before .before .before .before .before .before .before .before .before .before .before .before .before .before .before .before .before .before .before .before .args in
-    omega (arith, found (c .before .before .before .before .before .before .before .before .before .before .before .before .before) .out-long, l .ensures .count, l .kept .0, y .ensures .count, y .kept .0, u .ensures .count, u .kept .0, bytes-long (now (a .y)), bytes-long (now (a .u)))
+    omega (
+      arith,
+      found (c .before .before .before .before .before .before .before .before .before .before .before .before .before) .out-long,
+      l .ensures .count,
+      l .kept .0,
+      y .ensures .count,
+      y .kept .0,
+      u .ensures .count,
+      u .kept .0,
+      bytes-long (now (a .y)),
+      bytes-long (now (a .u)),
+    )
 
 returns : tie.Need-returns
 returns c = write-refused _ _ (c .before .before .before .checked-picture .ensures) _ (c .before .r .given .1)

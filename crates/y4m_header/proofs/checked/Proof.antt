@@ -34,19 +34,22 @@ returns : tie.Need-returns
 returns c = let a = c .before .before .args in at-size (a .format) (a .w) (a .h) (a .f) (a .g) (a .a) (a .b) (a .out) _ (c .before .size-ok .ensures) (c .if1 .taken)
 
 returns-2 : tie.Need-returns-2
-returns-2 c = let a = c .before .before .before .args in at-length (a .format) (a .w) (a .h) (a .f) (a .g) (a .a) (a .b) (a .out) _ (c .before .before .size-ok .ensures) (c .before .if1 .left) (c .if2 .taken)
+returns-2 c = let a = c .before .before .before .args in
+    at-length (a .format) (a .w) (a .h) (a .f) (a .g) (a .a) (a .b) (a .out) _ (c .before .before .size-ok .ensures) (c .before .if1 .left) (c .if2 .taken)
 
 returns-3 : tie.Need-returns-3
 returns-3 c =
     let s = c .before .before .before in
     let a = s .before .before .args in
-    at-numbers (a .format) (a .w) (a .h) (a .f) (a .g) (a .a) (a .b) (a .out) _ (s .before .size-ok .ensures) (s .if1 .left) (c .before .before .if2 .left) _ (c .before .numbers-ok .ensures) (c .if3 .taken)
+    at-numbers (a .format) (a .w) (a .h) (a .f) (a .g) (a .a) (a .b) (a .out) _ (s .before .size-ok .ensures) (s .if1 .left)
+    (c .before .before .if2 .left) _ (c .before .numbers-ok .ensures) (c .if3 .taken)
 
 returns-4 : tie.Need-returns-4
 returns-4 c =
     let s = c .before .before .before in
     let a = s .before .before .args in
-    at-done (a .format) (a .w) (a .h) (a .f) (a .g) (a .a) (a .b) (a .out) _ (s .before .size-ok .ensures) (s .if1 .left) (c .before .before .if2 .left) _ (c .before .numbers-ok .ensures) (c .if3 .left)
+    at-done (a .format) (a .w) (a .h) (a .f) (a .g) (a .a) (a .b) (a .out) _ (s .before .size-ok .ensures) (s .if1 .left)
+    (c .before .before .if2 .left) _ (c .before .numbers-ok .ensures) (c .if3 .left)
 
 pub checked-spec : {M : Type 1} → statement M
 checked-spec = tie.close (tie.spec (λ c κs. search needs) returns returns-2 (λ c κs. search needs) returns-3 returns-4)

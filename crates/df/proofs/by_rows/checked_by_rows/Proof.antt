@@ -47,30 +47,41 @@ rows-length-ok-requires c κs =
 returns-2 : tie.Need-returns-2
 unfolding of
 returns-2 c =
-    no-length (of (c .before .before .before .before .before .before .before .before .before .before .before .before)) _ _ (c .before .before .before .size-ok .ensures) (c .before .before .if1 .left) (c .before .rows-length-ok .ensures) (c .if2 .taken)
+    no-length (of (c .before .before .before .before .before .before .before .before .before .before .before .before)) _ _ (c .before .before .before .size-ok .ensures)
+    (c .before .before .if1 .left) (c .before .rows-length-ok .ensures) (c .if2 .taken)
 
 returns-3 : tie.Need-returns-3
 unfolding of
 returns-3 c =
-    no-picture (of (c .before .before .before .before .before .before .before .before .before .before .before .before .before .before .before .before)) _ _ (c .before .before .before .before .before .before .before .size-ok .ensures) (c .before .before .before .before .before .before .if1 .left) (c .before .before .before .before .before .rows-length-ok .ensures) (c .before .before .before .before .if2 .left)
+    no-picture (of (c .before .before .before .before .before .before .before .before .before .before .before .before .before .before .before .before)) _ _
+    (c .before .before .before .before .before .before .before .size-ok .ensures) (c .before .before .before .before .before .before .if1 .left)
+    (c .before .before .before .before .before .rows-length-ok .ensures) (c .before .before .before .before .if2 .left)
     _ _ (c .before .before .before .checked .ensures) (c .before .found .given .1)
 
 returns-4 : tie.Need-returns-4
 unfolding of
 returns-4 c =
-    none-lent (of (c .before .before .before .before .before .before .before .before .before .before .before .before .before .before .before .before)) _ _ (c .before .before .before .before .before .before .before .size-ok .ensures) (c .before .before .before .before .before .before .if1 .left) (c .before .before .before .before .before .rows-length-ok .ensures) (c .before .before .before .before .if2 .left)
+    none-lent (of (c .before .before .before .before .before .before .before .before .before .before .before .before .before .before .before .before)) _ _
+    (c .before .before .before .before .before .before .before .size-ok .ensures) (c .before .before .before .before .before .before .if1 .left)
+    (c .before .before .before .before .before .rows-length-ok .ensures) (c .before .before .before .before .if2 .left)
     _ (c .before .before .before .checked .ensures) (c .before .enum-told .given .1) (c .if3 .taken)
 
 returns-5 : tie.Need-returns-5
 unfolding of
 returns-5 c =
-    wrong-map (of (c .before .before .before .before .before .before .before .before .before .before .before .before .before .before .before .before .before .before)) _ _ (c .before .before .before .before .before .before .before .before .before .size-ok .ensures) (c .before .before .before .before .before .before .before .before .if1 .left) (c .before .before .before .before .before .before .before .rows-length-ok .ensures) (c .before .before .before .before .before .before .if2 .left)
+    wrong-map (of (c .before .before .before .before .before .before .before .before .before .before .before .before .before .before .before .before .before .before)) _
+    _ (c .before .before .before .before .before .before .before .before .before .size-ok .ensures)
+    (c .before .before .before .before .before .before .before .before .if1 .left)
+    (c .before .before .before .before .before .before .before .rows-length-ok .ensures) (c .before .before .before .before .before .before .if2 .left)
     _ (c .before .before .before .before .before .checked .ensures) (c .before .before .before .enum-told .given .1) _ (c .before .before .if3 .left) (c .before .rows-right .ensures) (c .if4 .taken)
 
 returns-6 : tie.Need-returns-6
 unfolding of
 returns-6 c =
-    right-map (of (c .before .before .before .before .before .before .before .before .before .before .before .before .before .before .before .before .before .before)) _ _ (c .before .before .before .before .before .before .before .before .before .size-ok .ensures) (c .before .before .before .before .before .before .before .before .if1 .left) (c .before .before .before .before .before .before .before .rows-length-ok .ensures) (c .before .before .before .before .before .before .if2 .left)
+    right-map (of (c .before .before .before .before .before .before .before .before .before .before .before .before .before .before .before .before .before .before)) _
+    _ (c .before .before .before .before .before .before .before .before .before .size-ok .ensures)
+    (c .before .before .before .before .before .before .before .before .if1 .left)
+    (c .before .before .before .before .before .before .before .rows-length-ok .ensures) (c .before .before .before .before .before .before .if2 .left)
     _ (c .before .before .before .before .before .checked .ensures) (c .before .before .before .enum-told .given .1) _ (c .before .rows-right .ensures) (c .if4 .left)
 
 pub checked-by-rows-spec : {M : Type 1} → statement M

@@ -58,7 +58,9 @@ unfolding of
 returns-2 c =
     let i = of (c .before .before .before .before .before .before .before .before .before .before .before .before .before .before .before .before .before .before .before .before .before .before .before .before .before .before .before .before .before .before .before) in
     let e = fine (c .before .before .before .before .before .before .before .before .before .before .before .before .before .before .before .before) in
-    deblock-done (i .given) (picture-fine i e) _ _ _ _ _ _ _ (c .before .before .before .before .before .before .before .before .before .before .before .before .before .before .before .entries-by .ensures) (both-zero _ _ _ (c .before .before .before .before .before .before .before .before .passes-by .ensures))
+    deblock-done (i .given) (picture-fine i e) _ _ _ _ _ _ _
+    (c .before .before .before .before .before .before .before .before .before .before .before .before .before .before .before .entries-by .ensures)
+    (both-zero _ _ _ (c .before .before .before .before .before .before .before .before .passes-by .ensures))
     ∙ same-outcome i e
 
 pub deblock-by-rows-spec : {M : Type 1} → statement M

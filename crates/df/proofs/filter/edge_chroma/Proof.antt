@@ -31,7 +31,8 @@ returns c =
     let w = a .size .columns in
     let p = placeOf d (2 * w) (2 * (a .cross / 4)) (2 * (a .along / 4)) in
     let t = and-true (eqb (c .before .before .strength-at .result) 0) (eqb (c .before .strength-at2 .result) 0) (c .if1 .taken) in (
-      edge-by Chroma d w (a .cross / 4) (a .along / 4) _ _ _ (maskBy Chroma (a .marks)) p _ _ refl (c .before .before .strength-at .ensures) refl (untouched _ _ _ _ _ _ (a .u .now) (eqb-true _ _ (t .0))),
+      edge-by Chroma d w (a .cross / 4) (a .along / 4) _ _ _ (maskBy Chroma (a .marks)) p _ _ refl (c .before .before .strength-at .ensures) refl
+          (untouched _ _ _ _ _ _ (a .u .now) (eqb-true _ _ (t .0))),
       edge-by Chroma d w (a .cross / 4) (a .along / 4) _ _ _ (maskBy Chroma (a .marks)) p _ _ refl (c .before .strength-at2 .ensures) refl (untouched _ _ _ _ _ _ (a .v .now) (eqb-true _ _ (t .1))),
     )
 
@@ -43,14 +44,16 @@ place-requires c κs =
     (omega arith, omega arith, omega arith, omega arith)
 
 -- the windows' place, by the unit
-is-place : (c : tie.After-place) → let a = c .before .before .before .before .before .before .before .before .args in c .place .result ≡ placeOf (passOf (a .pass)) (2 * a .size .columns) (2 * (a .cross / 4)) (2 * (a .along / 4))
+is-place : (c : tie.After-place) → let a = c .before .before .before .before .before .before .before .before .args in
+    c .place .result ≡ placeOf (passOf (a .pass)) (2 * a .size .columns) (2 * (a .cross / 4)) (2 * (a .along / 4))
 is-place c =
     let s = c .before .before .before .before .before .before .before .before in
     let k = at-spot s in
     c .place .ensures ∙ (λ i. placeOf (passOf (s .args .pass)) (2 * s .args .size .columns) (k .chroma-x i) (k .chroma-z i))
 
 -- the lines lie in the planes
-lies : (c : tie.After-place) → Lying (c .place .result) 2 (c .before .before .before .before .before .before .before .before .args .u .now) × Lying (c .place .result) 2 (c .before .before .before .before .before .before .before .before .args .v .now)
+lies : (c : tie.After-place) → Lying (c .place .result) 2 (c .before .before .before .before .before .before .before .before .args .u .now)
+    × Lying (c .place .result) 2 (c .before .before .before .before .before .before .before .before .args .v .now)
 lies c =
     let s = c .before .before .before .before .before .before .before .before in
     let a = s .args in
@@ -65,7 +68,8 @@ lies c =
     let in-plane = inside 2 w h (omega arith) d x z (k .inner) (k .across) (k .along) in
     let u : Inside (c .place .result) 1 (a .u .now) = subst (λ (p : Place). Inside p 1 (a .u .now)) (sym (is-place c)) (omega (arith, f .long)) in
     let v : Inside (c .place .result) 1 (a .v .now) = subst (λ (p : Place). Inside p 1 (a .v .now)) (sym (is-place c)) (omega (arith, g .long)) in
-    let two : Apart (c .place .result .step) (c .place .result .next) 2 = subst (λ (p : Place). Apart (p .step) (p .next) 2) (sym (is-place c)) (apart-pass 2 w h (omega arith) d x z (k .inner) (k .across) (k .along)) in
+    let two : Apart (c .place .result .step) (c .place .result .next) 2 = subst (λ (p : Place). Apart (p .step) (p .next) 2) (sym (is-place c))
+    (apart-pass 2 w h (omega arith) d x z (k .inner) (k .across) (k .along)) in
     (record { inside = u; apart = two; all = f .all }, record { inside = v; apart = two; all = g .all })
 
 -- and where the next line is the next sample, side by side
@@ -83,8 +87,10 @@ returns-2 c =
     let a = c .before .before .before .before .before .before .before .before .before .before .before .before .before .before .before .before .before .args in
     let r = c .before .before .before .before .chroma .ensures in
     let m = ap (maskBy Chroma) (sym (c .before .before .before .before .before .before .before .before .if2 .taken)) in (
-      edge-by Chroma (passOf (a .pass)) _ _ _ _ _ _ _ _ _ _ (is-place (c .before .before .before .before .before .before .before .before .before)) (c .before .before .before .before .before .before .before .before .before .before .before .before .before .strength-at .ensures) m (r .0),
-      edge-by Chroma (passOf (a .pass)) _ _ _ _ _ _ _ _ _ _ (is-place (c .before .before .before .before .before .before .before .before .before)) (c .before .before .before .before .before .before .before .before .before .before .before .before .strength-at2 .ensures) m (r .1),
+      edge-by Chroma (passOf (a .pass)) _ _ _ _ _ _ _ _ _ _ (is-place (c .before .before .before .before .before .before .before .before .before))
+          (c .before .before .before .before .before .before .before .before .before .before .before .before .before .strength-at .ensures) m (r .0),
+      edge-by Chroma (passOf (a .pass)) _ _ _ _ _ _ _ _ _ _ (is-place (c .before .before .before .before .before .before .before .before .before))
+          (c .before .before .before .before .before .before .before .before .before .before .before .before .strength-at2 .ensures) m (r .1),
     )
 
 kept-lines-requires : tie.Need-kept-lines-requires
@@ -97,12 +103,16 @@ returns-3 : tie.Need-returns-3
 returns-3 c =
     let a = c .before .before .before .before .before .before .before .before .before .before .before .before .before .before .before .before .before .before .args in
     let m = c .before .before .before .before .before .before .before .before .mask-by .ensures in (
-      edge-by Chroma (passOf (a .pass)) _ _ _ _ _ _ _ _ _ _ (is-place (c .before .before .before .before .before .before .before .before .before .before)) (c .before .before .before .before .before .before .before .before .before .before .before .before .before .before .strength-at .ensures) m (c .before .before .before .before .before .before .kept-lines .ensures),
-      edge-by Chroma (passOf (a .pass)) _ _ _ _ _ _ _ _ _ _ (is-place (c .before .before .before .before .before .before .before .before .before .before)) (c .before .before .before .before .before .before .before .before .before .before .before .before .before .strength-at2 .ensures) m (c .before .before .kept-lines2 .ensures),
+      edge-by Chroma (passOf (a .pass)) _ _ _ _ _ _ _ _ _ _ (is-place (c .before .before .before .before .before .before .before .before .before .before))
+          (c .before .before .before .before .before .before .before .before .before .before .before .before .before .before .strength-at .ensures) m
+          (c .before .before .before .before .before .before .kept-lines .ensures),
+      edge-by Chroma (passOf (a .pass)) _ _ _ _ _ _ _ _ _ _ (is-place (c .before .before .before .before .before .before .before .before .before .before))
+          (c .before .before .before .before .before .before .before .before .before .before .before .before .before .strength-at2 .ensures) m (c .before .before .kept-lines2 .ensures),
     )
 
 pub edge-chroma-spec : {M : Type 1} → statement M
 edge-chroma-spec =
     tie.close
-    (tie.spec (λ c. search needs) (λ c κs. search needs) (λ c. search needs) (λ c κs. search needs) returns (λ c. search needs) place-requires chroma-requires (λ c. search needs) (λ c. search needs) returns-2
+    (tie.spec (λ c. search needs) (λ c κs. search needs) (λ c. search needs) (λ c κs. search needs) returns
+    (λ c. search needs) place-requires chroma-requires (λ c. search needs) (λ c. search needs) returns-2
     (λ c κs. search needs) kept-lines-requires kept-lines-requires-2 (λ c. search needs) (λ c. search needs) returns-3)

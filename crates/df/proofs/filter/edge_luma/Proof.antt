@@ -28,7 +28,8 @@ returns c =
     let a = c .before .before .before .before .args in
     let d = passOf (a .pass) in
     let w = a .size .columns in
-    edge-by Luma d w (a .cross / 4) (a .along / 4) _ _ _ (maskBy Luma (a .marks)) (placeOf d (4 * w) (4 * (a .cross / 4)) (4 * (a .along / 4))) _ _ refl (c .before .strength-at .ensures) refl (untouched _ _ _ _ _ _ (a .y .now) (c .if1 .taken))
+    edge-by Luma d w (a .cross / 4) (a .along / 4) _ _ _ (maskBy Luma (a .marks)) (placeOf d (4 * w) (4 * (a .cross / 4)) (4 * (a .along / 4))) _ _ refl
+    (c .before .strength-at .ensures) refl (untouched _ _ _ _ _ _ (a .y .now) (c .if1 .taken))
 
 place-requires : tie.Need-place-requires
 place-requires c κs =
@@ -38,7 +39,8 @@ place-requires c κs =
     (omega arith, omega arith, k .few-x, k .few-z)
 
 -- the window's place, by the unit
-is-place : (c : tie.After-place) → let a = c .before .before .before .before .before .before .args in c .place .result ≡ placeOf (passOf (a .pass)) (4 * a .size .columns) (4 * (a .cross / 4)) (4 * (a .along / 4))
+is-place : (c : tie.After-place) → let a = c .before .before .before .before .before .before .args in
+    c .place .result ≡ placeOf (passOf (a .pass)) (4 * a .size .columns) (4 * (a .cross / 4)) (4 * (a .along / 4))
 is-place c =
     let s = c .before .before .before .before .before .before in
     let k = at-spot s in
@@ -58,7 +60,8 @@ lies c =
     let z = a .along / 4 in
     let in-plane = inside 4 w h (omega arith) d x z (k .inner) (k .across) (k .along) in
     let y : Inside (c .place .result) 3 (a .y .now) = subst (λ (p : Place). Inside p 3 (a .y .now)) (sym (is-place c)) (omega (arith, f .long)) in
-    let four : Apart (c .place .result .step) (c .place .result .next) 4 = subst (λ (p : Place). Apart (p .step) (p .next) 4) (sym (is-place c)) (apart-pass 4 w h (omega arith) d x z (k .inner) (k .across) (k .along)) in
+    let four : Apart (c .place .result .step) (c .place .result .next) 4 = subst (λ (p : Place). Apart (p .step) (p .next) 4) (sym (is-place c))
+    (apart-pass 4 w h (omega arith) d x z (k .inner) (k .across) (k .along)) in
     record { inside = y; apart = four; all = f .all }
 
 -- and where the next line is the next sample, side by side
@@ -74,7 +77,9 @@ luma-requires c κs = (beside (c .before .before .before), lies (c .before .befo
 returns-2 : tie.Need-returns-2
 returns-2 c =
     let a = c .before .before .before .before .before .before .before .before .before .before .before .before .args in
-    edge-by Luma (passOf (a .pass)) _ _ _ _ _ _ _ _ _ _ (is-place (c .before .before .before .before .before .before)) (c .before .before .before .before .before .before .before .before .before .strength-at .ensures) (ap (maskBy Luma) (sym (c .before .before .before .before .before .if2 .taken))) (c .before .before .luma .ensures)
+    edge-by Luma (passOf (a .pass)) _ _ _ _ _ _ _ _ _ _ (is-place (c .before .before .before .before .before .before))
+    (c .before .before .before .before .before .before .before .before .before .strength-at .ensures)
+    (ap (maskBy Luma) (sym (c .before .before .before .before .before .if2 .taken))) (c .before .before .luma .ensures)
 
 kept-lines-requires : tie.Need-kept-lines-requires
 kept-lines-requires c κs = (omega arith, lies (c .before .before .before))
@@ -82,7 +87,9 @@ kept-lines-requires c κs = (omega arith, lies (c .before .before .before))
 returns-3 : tie.Need-returns-3
 returns-3 c =
     let a = c .before .before .before .before .before .before .before .before .before .before .before .before .args in
-    edge-by Luma (passOf (a .pass)) _ _ _ _ _ _ _ _ _ _ (is-place (c .before .before .before .before .before .before)) (c .before .before .before .before .before .before .before .before .before .strength-at .ensures) (c .before .before .before .mask-by .ensures) (c .before .before .kept-lines .ensures)
+    edge-by Luma (passOf (a .pass)) _ _ _ _ _ _ _ _ _ _ (is-place (c .before .before .before .before .before .before))
+    (c .before .before .before .before .before .before .before .before .before .strength-at .ensures)
+    (c .before .before .before .mask-by .ensures) (c .before .before .kept-lines .ensures)
 
 pub edge-luma-spec : {M : Type 1} → statement M
 edge-luma-spec =

@@ -21,7 +21,13 @@ abbrev μ-loop : tie.MeasureT-loop
 μ-loop pass size u₀ v₀ entries list places marks n i₀ u v i = n - i
 
 loop-holds : tie.Need-loop-holds Inv-loop μ-loop
-loop-holds c = (omega arith, refl, refl, plan-none _ 208 Chroma (passOf (c .before .before .before .before .before .before .args .pass)) _ _ _ _ _, plan-none _ 416 Chroma (passOf (c .before .before .before .before .before .before .args .pass)) _ _ _ _ _)
+loop-holds c = (
+  omega arith,
+  refl,
+  refl,
+  plan-none _ 208 Chroma (passOf (c .before .before .before .before .before .before .args .pass)) _ _ _ _ _,
+  plan-none _ 416 Chroma (passOf (c .before .before .before .before .before .before .args .pass)) _ _ _ _ _,
+)
 
 edge-chroma-requires : tie.Need-edge-chroma-requires Inv-loop μ-loop
 edge-chroma-requires c κs =
@@ -30,7 +36,9 @@ edge-chroma-requires c κs =
     let t = c .before .before .before .before .before .before .before .before .loop-test .taken in (
       plan-stays _ 208 Chroma (passOf (s .args .pass)) _ _ _ _ (l .i) _ _ (l .inv .3) (s .pre .0),
       plan-stays _ 416 Chroma (passOf (s .args .pass)) _ _ _ _ (l .i) _ _ (l .inv .4) (s .pre .1),
-      at-given (passOf (s .args .pass)) (c .before .before .before .before .before .before .number-at .ensures) (c .before .before .before .before .before .number-at2 .ensures) (c .before .before .before .before .cross-of .ensures) (c .before .before .before .along-of .ensures) (s .pre .2 .units (l .i) (omega arith)),
+      at-given (passOf (s .args .pass)) (c .before .before .before .before .before .before .number-at .ensures)
+          (c .before .before .before .before .before .number-at2 .ensures) (c .before .before .before .before .cross-of .ensures)
+          (c .before .before .before .along-of .ensures) (s .pre .2 .units (l .i) (omega arith)),
       s .pre .2 .few (l .i) (omega arith),
       s .pre .3,
     )
@@ -44,10 +52,16 @@ loop-again c =
       k .1 .1 .0 ∙ l .inv .1,
       k .1 .1 .1 .0 ∙ l .inv .2,
       plan-more _ 208 Chroma (passOf (s .args .pass)) _ _ _ _ (l .i) _ _ _ _ _ (l .inv .3) refl
-          (edge-given (passOf (s .args .pass)) (c .before .before .before .before .before .before .before .before .before .before .before .number-at .ensures) (c .before .before .before .before .before .before .before .before .before .before .number-at2 .ensures) (c .before .before .before .before .before .before .before .before .before .cross-of .ensures) (c .before .before .before .before .before .before .before .before .along-of .ensures))
+          (edge-given (passOf (s .args .pass)) (c .before .before .before .before .before .before .before .before .before .before .before .number-at .ensures)
+          (c .before .before .before .before .before .before .before .before .before .before .number-at2 .ensures)
+          (c .before .before .before .before .before .before .before .before .before .cross-of .ensures)
+          (c .before .before .before .before .before .before .before .before .along-of .ensures))
           (c .before .before .before .before .edge-chroma .ensures .0),
       plan-more _ 416 Chroma (passOf (s .args .pass)) _ _ _ _ (l .i) _ _ _ _ _ (l .inv .4) refl
-          (edge-given (passOf (s .args .pass)) (c .before .before .before .before .before .before .before .before .before .before .before .number-at .ensures) (c .before .before .before .before .before .before .before .before .before .before .number-at2 .ensures) (c .before .before .before .before .before .before .before .before .before .cross-of .ensures) (c .before .before .before .before .before .before .before .before .along-of .ensures))
+          (edge-given (passOf (s .args .pass)) (c .before .before .before .before .before .before .before .before .before .before .before .number-at .ensures)
+          (c .before .before .before .before .before .before .before .before .before .before .number-at2 .ensures)
+          (c .before .before .before .before .before .before .before .before .before .cross-of .ensures)
+          (c .before .before .before .before .before .before .before .before .along-of .ensures))
           (c .before .before .before .before .edge-chroma .ensures .1),
     )
 
@@ -82,7 +96,12 @@ add-number-at : tie.Need-add-number-at Inv-loop μ-loop
 add-number-at c = omega (arith, c .before .before .before .before .before .before .before .before .before .before .pre .2 .long, c .before .before .loop-test .taken)
 
 shared-slice-read-edge-chroma : tie.Need-shared-slice-read-edge-chroma Inv-loop μ-loop
-shared-slice-read-edge-chroma c = omega (arith, c .before .before .before .before .before .before .before .before .before .before .before .before .before .before .before .before .pre .2 .fits-marks, c .before .before .before .before .before .before .before .before .loop-test .taken)
+shared-slice-read-edge-chroma c =
+    omega (
+      arith,
+      c .before .before .before .before .before .before .before .before .before .before .before .before .before .before .before .before .pre .2 .fits-marks,
+      c .before .before .before .before .before .before .before .before .loop-test .taken,
+    )
 
 add-i : tie.Need-add-i Inv-loop μ-loop
 add-i c = omega (arith, c .before .before .before .before .before .before .before .before .before .before .before .before .before .loop-test .taken)
@@ -93,5 +112,6 @@ loop-less c = omega (arith, c .before .before .before .before .before .before .b
 pub filter-chroma-spec : {M : Type 1} → statement M
 filter-chroma-spec =
     tie.close
-    (tie.spec Inv-loop μ-loop loop-holds shared-slice-read-k cast-k mul-number-at number-at-requires mul-number-at-2 add-number-at number-at-requires-2 (λ c κs. search needs) (λ c κs. search needs) shared-slice-read-edge-chroma edge-chroma-requires
+    (tie.spec Inv-loop μ-loop loop-holds shared-slice-read-k cast-k mul-number-at number-at-requires mul-number-at-2 add-number-at number-at-requires-2
+    (λ c κs. search needs) (λ c κs. search needs) shared-slice-read-edge-chroma edge-chroma-requires
     add-i loop-less loop-again (λ c. c .before .loop .inv .1) (λ c. c .before .loop .inv .2) returns)

@@ -29,7 +29,8 @@ edge-luma-requires c κs =
     let l = c .before .before .before .before .before .before .before .before .loop in
     let t = c .before .before .before .before .before .before .before .loop-test .taken in (
       plan-stays _ 0 Luma (passOf (s .args .pass)) _ _ _ _ (l .i) _ _ (l .inv .2) (s .pre .0),
-      at-given (passOf (s .args .pass)) (c .before .before .before .before .before .number-at .ensures) (c .before .before .before .before .number-at2 .ensures) (c .before .before .before .cross-of .ensures) (c .before .before .along-of .ensures) (s .pre .1 .units (l .i) (omega arith)),
+      at-given (passOf (s .args .pass)) (c .before .before .before .before .before .number-at .ensures) (c .before .before .before .before .number-at2 .ensures)
+          (c .before .before .before .cross-of .ensures) (c .before .before .along-of .ensures) (s .pre .1 .units (l .i) (omega arith)),
       s .pre .1 .few (l .i) (omega arith),
       s .pre .2,
     )
@@ -42,7 +43,9 @@ loop-again c =
       omega (arith, c .before .before .before .before .before .before .before .before .before .before .loop-test .taken),
       k .1 .1 .0 ∙ l .inv .1,
       plan-more _ 0 Luma (passOf (s .args .pass)) _ _ _ _ (l .i) _ _ _ _ _ (l .inv .2) (sym (zero-add _))
-          (edge-given (passOf (s .args .pass)) (c .before .before .before .before .before .before .before .before .number-at .ensures) (c .before .before .before .before .before .before .before .number-at2 .ensures) (c .before .before .before .before .before .before .cross-of .ensures) (c .before .before .before .before .before .along-of .ensures))
+          (edge-given (passOf (s .args .pass)) (c .before .before .before .before .before .before .before .before .number-at .ensures)
+          (c .before .before .before .before .before .before .before .number-at2 .ensures) (c .before .before .before .before .before .before .cross-of .ensures)
+          (c .before .before .before .before .before .along-of .ensures))
           (c .before .before .edge-luma .ensures),
     )
 
@@ -75,7 +78,12 @@ add-number-at : tie.Need-add-number-at Inv-loop μ-loop
 add-number-at c = omega (arith, c .before .before .before .before .before .before .before .before .before .pre .1 .long, c .before .before .loop-test .taken)
 
 shared-slice-read-edge-luma : tie.Need-shared-slice-read-edge-luma Inv-loop μ-loop
-shared-slice-read-edge-luma c = omega (arith, c .before .before .before .before .before .before .before .before .before .before .before .before .before .before .pre .1 .fits-marks, c .before .before .before .before .before .before .before .loop-test .taken)
+shared-slice-read-edge-luma c =
+    omega (
+      arith,
+      c .before .before .before .before .before .before .before .before .before .before .before .before .before .before .pre .1 .fits-marks,
+      c .before .before .before .before .before .before .before .loop-test .taken,
+    )
 
 add-i : tie.Need-add-i Inv-loop μ-loop
 add-i c = omega (arith, c .before .before .before .before .before .before .before .before .before .before .loop-test .taken)
@@ -86,5 +94,6 @@ loop-less c = omega (arith, c .before .before .before .before .before .before .b
 pub filter-luma-spec : {M : Type 1} → statement M
 filter-luma-spec =
     tie.close
-    (tie.spec Inv-loop μ-loop loop-holds shared-slice-read-k cast-k mul-number-at number-at-requires mul-number-at-2 add-number-at number-at-requires-2 (λ c κs. search needs) (λ c κs. search needs) shared-slice-read-edge-luma edge-luma-requires
+    (tie.spec Inv-loop μ-loop loop-holds shared-slice-read-k cast-k mul-number-at number-at-requires mul-number-at-2 add-number-at number-at-requires-2
+    (λ c κs. search needs) (λ c κs. search needs) shared-slice-read-edge-luma edge-luma-requires
     add-i loop-less loop-again (λ c. c .before .loop .inv .1) returns)

@@ -49,7 +49,12 @@ loop-holds : tie.Need-loop-holds Inv-loop μ-loop
 loop-holds c = (omega arith, refl, refl, refl, refl, refl, refl, roots-none _ _ (passOf (c .before .before .before .before .before .before .before .before .args .pass)) _ _ _ _ _ _)
 
 root-edges-requires : tie.Need-root-edges-requires Inv-loop μ-loop
-root-edges-requires c κs = (c .before .before .before .before .before .before .before .before .before .before .before .pre .1, c .before .loop-test .taken, c .before .before .loop .inv .4, c .before .before .before .before .before .before .before .before .before .before .before .pre .0 .high)
+root-edges-requires c κs = (
+  c .before .before .before .before .before .before .before .before .before .before .before .pre .1,
+  c .before .loop-test .taken,
+  c .before .before .loop .inv .4,
+  c .before .before .before .before .before .before .before .before .before .before .before .pre .0 .high,
+)
 
 plan-requires : tie.Need-plan-requires Inv-loop μ-loop
 plan-requires c κs =
@@ -66,8 +71,10 @@ plan-requires c κs =
 
 -- the picture, at a turn
 current : (c : tie.At-loop Inv-loop μ-loop) → let a = c .before .before .before .before .before .before .before .before .before .args in
-    LentPlanes (a .format) (a .w / 4) (a .top + a .h / 4) (record { motion = a .motion .now; refs = a .refs .now; keep = a .keep .now }) (a .entries .now) (record { y = c .loop .y; u = c .loop .u; v = c .loop .v }) (a .words .now)
-current c = let s = c .before .before .before .before .before .before .before .before .before in roots-frame (maps s) _ (passOf (s .args .pass)) _ _ _ _ _ (c .loop .i) _ _ _ (c .loop .inv .7) (s .pre .0)
+    LentPlanes (a .format) (a .w / 4) (a .top + a .h / 4) (record { motion = a .motion .now; refs = a .refs .now; keep = a .keep .now }) (a .entries .now)
+    (record { y = c .loop .y; u = c .loop .u; v = c .loop .v }) (a .words .now)
+current c = let s = c .before .before .before .before .before .before .before .before .before in
+    roots-frame (maps s) _ (passOf (s .args .pass)) _ _ _ _ _ (c .loop .i) _ _ _ (c .loop .inv .7) (s .pre .0)
 
 filter-luma-requires : tie.Need-filter-luma-requires Inv-loop μ-loop
 filter-luma-requires c κs =
@@ -77,8 +84,18 @@ filter-luma-requires c κs =
       luma-plane (current (c .before .before .before .before .before .before .before .before .before .before .before .before .before .before)),
       record {
         long = omega (arith, r .long, r .few);
-        fits = omega (arith, r .few, c .before .before .before .before .before .before .before .before .before .before .before .before .before .before .loop .inv .5, p .kept .1 .1 .1 .1 .1 .1 .1 .1 .1 .0);
-        fits-marks = omega (arith, r .few, c .before .before .before .before .before .before .before .before .before .before .before .before .before .before .loop .inv .6, p .kept .1 .1 .1 .1 .1 .1 .1 .1 .1 .1 .0);
+        fits = omega (
+          arith,
+          r .few,
+          c .before .before .before .before .before .before .before .before .before .before .before .before .before .before .loop .inv .5,
+          p .kept .1 .1 .1 .1 .1 .1 .1 .1 .1 .0,
+        );
+        fits-marks = omega (
+          arith,
+          r .few,
+          c .before .before .before .before .before .before .before .before .before .before .before .before .before .before .loop .inv .6,
+          p .kept .1 .1 .1 .1 .1 .1 .1 .1 .1 .1 .0,
+        );
         units = r .units;
         few = λ k g. plan-few (maps s) (passOf (s .args .pass)) _ _ _ _ _ (p .ensures) (s .pre .0 .qps) k g;
       },
@@ -94,8 +111,18 @@ filter-colour-requires c κs =
       v-plane (current (c .before .before .before .before .before .before .before .before .before .before .before .before .before .before .before .before .before .before .before .before .before .before)),
       record {
         long = omega (arith, r .long, r .few);
-        fits = omega (arith, r .few, c .before .before .before .before .before .before .before .before .before .before .before .before .before .before .before .before .before .before .before .before .before .before .loop .inv .5, p .kept .1 .1 .1 .1 .1 .1 .1 .1 .1 .0);
-        fits-marks = omega (arith, r .few, c .before .before .before .before .before .before .before .before .before .before .before .before .before .before .before .before .before .before .before .before .before .before .loop .inv .6, p .kept .1 .1 .1 .1 .1 .1 .1 .1 .1 .1 .0);
+        fits = omega (
+          arith,
+          r .few,
+          c .before .before .before .before .before .before .before .before .before .before .before .before .before .before .before .before .before .before .before .before .before .before .loop .inv .5,
+          p .kept .1 .1 .1 .1 .1 .1 .1 .1 .1 .0,
+        );
+        fits-marks = omega (
+          arith,
+          r .few,
+          c .before .before .before .before .before .before .before .before .before .before .before .before .before .before .before .before .before .before .before .before .before .before .loop .inv .6,
+          p .kept .1 .1 .1 .1 .1 .1 .1 .1 .1 .1 .0,
+        );
         units = r .units;
         few = λ k g. plan-few (maps s) (passOf (s .args .pass)) _ _ _ _ _ (p .ensures) (s .pre .0 .qps) k g;
       },
@@ -103,13 +130,26 @@ filter-colour-requires c κs =
     )
 
 add-count : tie.Need-add-count Inv-loop μ-loop
-add-count c = omega (arith, few (c .before .before .before .before .before .before .before .before .before .before .before .before .before .before .before .before .before .before .before .before .before .before .before .before .before .before .before .before .before .before .before .before .before .before .before .before), c .before .before .before .before .before .before .before .before .before .before .before .before .before .before .before .before .before .before .before .before .before .before .before .before .before .before .before .loop .inv .7 .few, c .before .before .before .before .before .before .before .before .before .before .before .before .before .before .before .before .before .before .before .before .before .before .before .before .before .before .before .loop .inv .0, c .before .before .before .before .before .before .before .before .before .before .before .before .before .before .before .before .before .before .before .before .before .before .before .before .root-edges .ensures .few)
+add-count c = omega (
+  arith,
+  few (c .before .before .before .before .before .before .before .before .before .before .before .before .before .before .before .before .before .before .before .before .before .before .before .before .before .before .before .before .before .before .before .before .before .before .before .before),
+  c .before .before .before .before .before .before .before .before .before .before .before .before .before .before .before .before .before .before .before .before .before .before .before .before .before .before .before .loop .inv .7 .few,
+  c .before .before .before .before .before .before .before .before .before .before .before .before .before .before .before .before .before .before .before .before .before .before .before .before .before .before .before .loop .inv .0,
+  c .before .before .before .before .before .before .before .before .before .before .before .before .before .before .before .before .before .before .before .before .before .before .before .before .root-edges .ensures .few,
+)
 
 add-i : tie.Need-add-i Inv-loop μ-loop
-add-i c = omega (arith, few (c .before .before .before .before .before .before .before .before .before .before .before .before .before .before .before .before .before .before .before .before .before .before .before .before .before .before .before .before .before .before .before .before .before .before .before .before), c .before .before .before .before .before .before .before .before .before .before .before .before .before .before .before .before .before .before .before .before .before .before .before .before .before .before .loop-test .taken)
+add-i c = omega (
+  arith,
+  few (c .before .before .before .before .before .before .before .before .before .before .before .before .before .before .before .before .before .before .before .before .before .before .before .before .before .before .before .before .before .before .before .before .before .before .before .before),
+  c .before .before .before .before .before .before .before .before .before .before .before .before .before .before .before .before .before .before .before .before .before .before .before .before .before .before .loop-test .taken,
+)
 
 loop-less : tie.Need-loop-less Inv-loop μ-loop
-loop-less c = omega (arith, c .before .before .before .before .before .before .before .before .before .before .before .before .before .before .before .before .before .before .before .before .before .before .before .before .before .before .loop-test .taken)
+loop-less c = omega (
+  arith,
+  c .before .before .before .before .before .before .before .before .before .before .before .before .before .before .before .before .before .before .before .before .before .before .before .before .before .before .loop-test .taken,
+)
 
 loop-again : tie.Need-loop-again Inv-loop μ-loop
 loop-again c =
@@ -127,7 +167,8 @@ loop-again c =
       r .long,
       p .kept .1 .1 .1 .1 .1 .1 .1 .1 .1 .0 ∙ l .inv .5,
       p .kept .1 .1 .1 .1 .1 .1 .1 .1 .1 .1 .0 ∙ l .inv .6,
-      roots-more _ _ (passOf (s .args .pass)) _ _ _ _ _ (l .i) _ _ _ _ _ _ _ _ _ _ (r .few) (r .same) (s .pre .0 .marks) (p .ensures) (l .inv .7) (c .before .before .before .before .before .before .before .before .before .before .before .before .filter-luma .ensures) (f .0) (f .1),
+      roots-more _ _ (passOf (s .args .pass)) _ _ _ _ _ (l .i) _ _ _ _ _ _ _ _ _ _ (r .few) (r .same) (s .pre .0 .marks) (p .ensures) (l .inv .7)
+          (c .before .before .before .before .before .before .before .before .before .before .before .before .filter-luma .ensures) (f .0) (f .1),
     )
 
 returns : tie.Need-returns Inv-loop μ-loop
@@ -139,5 +180,7 @@ returns c =
 pub deblock-pass-spec : {M : Type 1} → statement M
 deblock-pass-spec =
     tie.close
-    (tie.spec Inv-loop μ-loop add-roots add-roots-2 add-roots-3 mul-roots loop-holds (λ c. search needs) root-edges-requires (λ c. search needs) (λ c. search needs) (λ c. search needs) plan-requires (λ c. search needs) (λ c. search needs) (λ c. search needs) filter-luma-requires
-    (λ c. search needs) (λ c. search needs) (λ c. search needs) filter-colour-requires add-count add-i loop-less loop-again (λ c. c .before .loop .inv .1) (λ c. c .before .loop .inv .2) (λ c. c .before .loop .inv .3) returns)
+    (tie.spec Inv-loop μ-loop add-roots add-roots-2 add-roots-3 mul-roots loop-holds (λ c. search needs) root-edges-requires (λ c. search needs) (λ c. search needs)
+    (λ c. search needs) plan-requires (λ c. search needs) (λ c. search needs) (λ c. search needs) filter-luma-requires
+    (λ c. search needs) (λ c. search needs) (λ c. search needs) filter-colour-requires add-count add-i loop-less loop-again (λ c. c .before .loop .inv .1)
+    (λ c. c .before .loop .inv .2) (λ c. c .before .loop .inv .3) returns)

@@ -41,7 +41,8 @@ number-at-requires-2 c κs = omega (arith, c .before .before .before .before .be
 -- the edge of a turn
 turn : (c : tie.After-number-at2 Inv-loop μ-loop) → let a = c .before .before .before .before .before .before .before .before .before .before .args in
     Known (passOf (a .pass)) (a .columns) (a .words .now) (record { motion = a .motion .now; refs = a .refs .now; keep = a .keep .now }) (c .before .number-at .result) (c .number-at2 .result)
-turn c = known-given (c .before .number-at .ensures) (c .number-at2 .ensures) (c .before .before .before .before .before .before .before .before .before .before .pre .edges (c .before .before .before .loop .k) (c .before .before .loop-test .taken))
+turn c = known-given (c .before .number-at .ensures) (c .number-at2 .ensures)
+    (c .before .before .before .before .before .before .before .before .before .before .pre .edges (c .before .before .before .loop .k) (c .before .before .loop-test .taken))
 
 units-at-requires : tie.Need-units-at-requires Inv-loop μ-loop
 units-at-requires c κs = let k = turn c in (c .before .before .before .before .before .before .before .before .before .before .pre .wide, k .few-x, k .few-y, k .before)
@@ -52,7 +53,8 @@ place-at-requires c κs =
     let k = turn (c .before) in (
       subst (Unit (a .words .now) (a .motion .now) (a .refs .now)) (sym (c .units-at .ensures .0)) (k .q),
       subst (Unit (a .words .now) (a .motion .now) (a .refs .now)) (sym (c .units-at .ensures .1)) (k .p),
-      says-given (passOf (a .pass)) (a .columns) (a .words .now) (a .motion .now) (a .refs .now) (a .rows .now) (c .before .before .before .before .before .before .before .before .before .before .before .pre .right) (k .side) (c .units-at .ensures .0) (c .units-at .ensures .1),
+      says-given (passOf (a .pass)) (a .columns) (a .words .now) (a .motion .now) (a .refs .now) (a .rows .now)
+          (c .before .before .before .before .before .before .before .before .before .before .before .pre .right) (k .side) (c .units-at .ensures .0) (c .units-at .ensures .1),
     )
 
 marks-at-requires : tie.Need-marks-at-requires Inv-loop μ-loop
@@ -64,10 +66,20 @@ marks-at-requires c κs =
     )
 
 slice-write-places : tie.Need-slice-write-places Inv-loop μ-loop
-slice-write-places c = omega (arith, c .before .before .before .before .before .before .before .before .before .before .before .before .pre .fits, c .before .before .before .before .loop-test .taken, c .before .before .before .before .before .loop .inv .1 .long)
+slice-write-places c = omega (
+  arith,
+  c .before .before .before .before .before .before .before .before .before .before .before .before .pre .fits,
+  c .before .before .before .before .loop-test .taken,
+  c .before .before .before .before .before .loop .inv .1 .long,
+)
 
 slice-write-marks : tie.Need-slice-write-marks Inv-loop μ-loop
-slice-write-marks c = omega (arith, c .before .before .before .before .before .before .before .before .before .before .before .before .before .pre .fits-marks, c .before .before .before .before .before .loop-test .taken, c .before .before .before .before .before .before .loop .inv .2 .long)
+slice-write-marks c = omega (
+  arith,
+  c .before .before .before .before .before .before .before .before .before .before .before .before .before .pre .fits-marks,
+  c .before .before .before .before .before .loop-test .taken,
+  c .before .before .before .before .before .before .loop .inv .2 .long,
+)
 
 add-k : tie.Need-add-k Inv-loop μ-loop
 add-k c = omega (arith, c .before .before .before .before .before .loop-test .taken)
@@ -101,5 +113,6 @@ returns c =
 pub plan-spec : {M : Type 1} → statement M
 plan-spec =
     tie.close
-    (tie.spec Inv-loop μ-loop (λ c. (omega arith, upto-none _ _ _, upto-none _ _ _)) mul-number-at number-at-requires mul-number-at-2 add-number-at number-at-requires-2 units-at-requires place-at-requires slice-write-places
+    (tie.spec Inv-loop μ-loop (λ c. (omega arith, upto-none _ _ _, upto-none _ _ _)) mul-number-at number-at-requires mul-number-at-2 add-number-at
+    number-at-requires-2 units-at-requires place-at-requires slice-write-places
     marks-at-requires slice-write-marks add-k loop-less loop-again (λ c. c .before .loop .inv .1 .long) (λ c. c .before .loop .inv .2 .long) returns)

@@ -24,10 +24,13 @@ add-q : tie.Need-add-q
 add-q c = omega (arith, product (c .before .before), c .before .pel2scu2 .ensures, c .before .before .before .before .pre .1)
 
 -- Q and P
-is-q : (c : tie.After-struct-known2) → let a = c .before .before .before .before .args in c .before .before .before .pel2scu .result .0 * a .columns + c .before .pel2scu2 .result .0 ≡ unitQ (a .columns) (edge (a .x .0 / 4) (a .y .0 / 4))
+is-q : (c : tie.After-struct-known2) → let a = c .before .before .before .before .args in
+    c .before .before .before .pel2scu .result .0 * a .columns + c .before .pel2scu2 .result .0 ≡ unitQ (a .columns) (edge (a .x .0 / 4) (a .y .0 / 4))
 is-q c = λ i. c .before .before .before .pel2scu .ensures i * c .before .before .before .before .args .columns + c .before .pel2scu2 .ensures i
 
-is-p : (c : tie.After-step-across) → let a = c .before .before .before .before .before .args in (c .before .before .before .before .pel2scu .result .0 * a .columns + c .before .before .pel2scu2 .result .0) - c .step-across .result ≡ unitP (passOf (a .pass)) (a .columns) (edge (a .x .0 / 4) (a .y .0 / 4))
+is-p : (c : tie.After-step-across) → let a = c .before .before .before .before .before .args in
+    (c .before .before .before .before .pel2scu .result .0 * a .columns + c .before .before .pel2scu2 .result .0) - c .step-across .result ≡ unitP
+    (passOf (a .pass)) (a .columns) (edge (a .x .0 / 4) (a .y .0 / 4))
 is-p c = λ i. is-q (c .before) i - c .step-across .ensures .0 i
 
 sub-p : tie.Need-sub-p

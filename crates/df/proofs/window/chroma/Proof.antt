@@ -43,10 +43,13 @@ returns c =
     let k = c .before .before .before .before .before .before .before .before .before .before .before .before .before .before .before .before .before .before .before .before .mask-of2 .ensures in
     let r = c .before .before .before .before .before .before .before .before .before .before .lanes in
     let tu = c .before .before .before .before .before .before .before .before .before .before .before .before .before .before .before .before .copy-rows .ensures in
-    chroma-done (a .p) (a .su) (a .sv) _ _ _ (r .result) (a .u .now) (a .v .now) _ _ (c .before .before .before .before .before .before .before .before .before .before .before .before .before .before .before .before .before .before .before .before .before .before .before .before .pre .1) (c .before .before .before .before .before .before .before .before .before .before .before .before .before .before .before .before .before .before .before .before .before .before .before .before .pre .2)
+    chroma-done (a .p) (a .su) (a .sv) _ _ _ (r .result) (a .u .now) (a .v .now) _ _
+    (c .before .before .before .before .before .before .before .before .before .before .before .before .before .before .before .before .before .before .before .before .before .before .before .before .pre .1) (c .before .before .before .before .before .before .before .before .before .before .before .before .before .before .before .before .before .before .before .before .before .before .before .before .pre .2)
     (gathered _ (a .p) (a .u .now) _ _ 0 2 m (b .beside) (lit≤ tt) refl tu)
-    (gathered _ (a .p) (a .v .now) _ _ 2 2 m (b .beside) (lit≤ tt) (ap length tu ∙ lines-long _ _ 8 1 0 2 _) (c .before .before .before .before .before .before .before .before .before .before .before .before .copy-rows2 .ensures)) (r .ensures)
-    (c .before .before .before .before .before .before .before .copy-rows3 .ensures ∙ (λ i. putLines (k i) (λ (j : ℕ). laneOf (r .result) (0 + j)) (a .p .step) (sym (b .beside) i) (a .p .at) 2 (a .u .now)))
+    (gathered _ (a .p) (a .v .now) _ _ 2 2 m (b .beside) (lit≤ tt) (ap length tu ∙ lines-long _ _ 8 1 0 2 _)
+    (c .before .before .before .before .before .before .before .before .before .before .before .before .copy-rows2 .ensures)) (r .ensures)
+    (c .before .before .before .before .before .before .before .copy-rows3 .ensures
+    ∙ (λ i. putLines (k i) (λ (j : ℕ). laneOf (r .result) (0 + j)) (a .p .step) (sym (b .beside) i) (a .p .at) 2 (a .u .now)))
     (c .before .before .copy-rows4 .ensures ∙ (λ i. putLines (k i) (λ (j : ℕ). laneOf (r .result) (2 + j)) (a .p .step) (sym (b .beside) i) (a .p .at) 2 (a .v .now)))
 
 returns-2 : tie.Need-returns-2
@@ -54,7 +57,11 @@ returns-2 c =
     let a = c .before .before .before .before .before .before .before .before .before .before .before .before .before .before .before .before .before .before .before .before .args in
     let k = c .before .before .before .before .before .before .before .before .before .before .before .before .before .before .before .before .mask-of2 .ensures in
     let r = c .before .before .before .before .before .before .before .before .before .before .lanes2 in
-    chroma-done (a .p) (a .su) (a .sv) _ _ _ (r .result) (a .u .now) (a .v .now) _ _ (c .before .before .before .before .before .before .before .before .before .before .before .before .before .before .before .before .before .before .before .before .pre .1) (c .before .before .before .before .before .before .before .before .before .before .before .before .before .before .before .before .before .before .before .before .pre .2) (c .before .before .before .before .before .before .before .before .before .before .before .before .before .gather .ensures) (c .before .before .before .before .before .before .before .before .before .before .before .gather2 .ensures) (r .ensures)
+    chroma-done (a .p) (a .su) (a .sv) _ _ _ (r .result) (a .u .now) (a .v .now) _ _
+    (c .before .before .before .before .before .before .before .before .before .before .before .before .before .before .before .before .before .before .before .before .pre .1)
+    (c .before .before .before .before .before .before .before .before .before .before .before .before .before .before .before .before .before .before .before .before .pre .2)
+    (c .before .before .before .before .before .before .before .before .before .before .before .before .before .gather .ensures)
+    (c .before .before .before .before .before .before .before .before .before .before .before .gather2 .ensures) (r .ensures)
     (c .before .before .before .before .before .before .before .scatter .ensures ∙ (λ i. putLines (k i) (λ (j : ℕ). laneOf (r .result) (0 + j)) (a .p .step) (a .p .next) (a .p .at) 2 (a .u .now)))
     (c .before .before .scatter2 .ensures ∙ (λ i. putLines (k i) (λ (j : ℕ). laneOf (r .result) (2 + j)) (a .p .step) (a .p .next) (a .p .at) 2 (a .v .now)))
 

@@ -9,7 +9,8 @@ returns c =
     let r = c .before .before .before .before .before .before .before .before .before .before .before .before .before .before in
     let s = r .before .before .before .before in
     rows-copied (s .args .mask) (s .args .to) (s .args .apart) (s .args .from) (s .args .step) (s .args .n) (s .args .s .now) (s .args .r .now) _ _ _ _ (s .pre .0)
-    (r .copy-row-if .ensures) (c .before .before .before .before .before .before .before .before .before .before .copy-row-if2 .ensures) (c .before .before .before .before .before .before .copy-row-if3 .ensures) (c .before .before .copy-row-if4 .ensures)
+    (r .copy-row-if .ensures) (c .before .before .before .before .before .before .before .before .before .before .copy-row-if2 .ensures)
+    (c .before .before .before .before .before .before .copy-row-if3 .ensures) (c .before .before .copy-row-if4 .ensures)
 
 pub copy-rows-spec : {M : Type 1} → statement M
 copy-rows-spec =

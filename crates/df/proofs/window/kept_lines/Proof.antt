@@ -15,7 +15,9 @@ returns : tie.Need-returns
 returns c =
     let a = c .before .before .before .before .before .before .before .before .before .args in
     let r = c .before .before .before .before .before .lanes in
-    kept-done (a .mask) (a .p) (a .st) (a .n) _ _ (r .result) (a .s .now) _ (c .before .before .before .before .before .before .before .before .before .pre .0) (c .before .before .before .before .before .before .before .before .before .pre .1) (c .before .before .before .before .before .before .gather .ensures) (r .ensures) (c .before .before .scatter .ensures)
+    kept-done (a .mask) (a .p) (a .st) (a .n) _ _ (r .result) (a .s .now) _ (c .before .before .before .before .before .before .before .before .before .pre .0)
+    (c .before .before .before .before .before .before .before .before .before .pre .1)
+    (c .before .before .before .before .before .before .gather .ensures) (r .ensures) (c .before .before .scatter .ensures)
 
 pub kept-lines-spec : {M : Type 1} → statement M
 kept-lines-spec = tie.close (tie.spec gather-requires (λ c κs. search needs) scatter-requires (λ c. search needs) returns)

@@ -25,7 +25,8 @@ copy-rows-requires-2 c κs =
 returns : tie.Need-returns
 returns c =
     let a = c .before .before .before .before .before .before .before .before .before .before .before .before .before .args in
-    let b = c .before .before .before .before .before .before .before .before .before .before .before .before .before .pre .0 (c .before .before .before .before .before .before .before .before .before .before .if1 .taken) in
+    let b = c .before .before .before .before .before .before .before .before .before .before .before .before .before .pre .0
+    (c .before .before .before .before .before .before .before .before .before .before .if1 .taken) in
     let m = c .before .before .before .before .before .before .before .before .before .before .before .mask-of .ensures in
     let r = c .before .before .before .before .before .lanes in
     luma-done (a .p) (a .st) _ _ (r .result) (a .y .now) _ (c .before .before .before .before .before .before .before .before .before .before .before .before .before .pre .1)
@@ -37,7 +38,8 @@ returns-2 c =
     let a = c .before .before .before .before .before .before .before .before .before .before .before .args in
     let m = c .before .before .before .before .before .before .before .before .before .mask-of .ensures in
     let r = c .before .before .before .before .before .lanes2 in
-    luma-done (a .p) (a .st) _ _ (r .result) (a .y .now) _ (c .before .before .before .before .before .before .before .before .before .before .before .pre .1) (c .before .before .before .before .before .before .gather .ensures) (r .ensures)
+    luma-done (a .p) (a .st) _ _ (r .result) (a .y .now) _ (c .before .before .before .before .before .before .before .before .before .before .before .pre .1)
+    (c .before .before .before .before .before .before .gather .ensures) (r .ensures)
     (c .before .before .scatter .ensures ∙ (λ i. putLines (m i) (λ (k : ℕ). laneOf (r .result) (0 + k)) (a .p .step) (a .p .next) (a .p .at) 4 (a .y .now)))
 
 gather-requires : tie.Need-gather-requires

@@ -7,7 +7,10 @@ use Rattle.df.proofs.window.put_line.Tie as tie
 returns : tie.Need-returns
 returns c =
     let a = c .before .before .before .before .before .before .before .before .before .before .before .before .before .before .before .before .before .args in
-    line-put (a .mask) (a .step) (a .at) (a .q) (a .s .now) _ _ _ _ (c .before .before .before .before .before .before .before .before .before .before .before .before .before .before .put-if .ensures) (c .before .before .before .before .before .before .before .before .before .before .put-if2 .ensures) (c .before .before .before .before .before .before .put-if3 .ensures) (c .before .before .put-if4 .ensures)
+    line-put (a .mask) (a .step) (a .at) (a .q) (a .s .now) _ _ _ _
+    (c .before .before .before .before .before .before .before .before .before .before .before .before .before .before .put-if .ensures)
+    (c .before .before .before .before .before .before .before .before .before .before .put-if2 .ensures)
+    (c .before .before .before .before .before .before .put-if3 .ensures) (c .before .before .put-if4 .ensures)
 
 pub put-line-spec : {M : Type 1} → statement M
 put-line-spec =

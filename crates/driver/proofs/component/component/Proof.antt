@@ -29,14 +29,20 @@ coded : (c : tie.Else1) → c .before .before .before .before .before .before .b
 coded c = not-false _ (c .if1 .left)
 
 -- where it is, they are left in the list
-left : (c : tie.Else1) → c .before .before .before .before .before .before .before .args .at + count (c .before .before .before .before .before .before .before) ≤ length (c .before .before .before .before .before .before .before .args .residual .now)
+left : (c : tie.Else1) → c .before .before .before .before .before .before .before .args .at + count (c .before .before .before .before .before .before .before) ≤ length
+    (c .before .before .before .before .before .before .before .args .residual .now)
 left c = rw (coded c) at (c .before .before .before .before .before .before .before .pre .0 .2)
 
 draw-uncoded-requires : tie.Need-draw-uncoded-requires
-draw-uncoded-requires c κs = let s = c .before .before .before .before .before .before .before .before .before .before in ((s .pre .0 .0, s .pre .0 .1, counted (c .before .before .before .before)), s .pre .1)
+draw-uncoded-requires c κs = let s = c .before .before .before .before .before .before .before .before .before .before in
+    ((s .pre .0 .0, s .pre .0 .1, counted (c .before .before .before .before)), s .pre .1)
 
 returns : tie.Need-returns
-returns c = (c .before .before .before .before .before .before .draw-uncoded .ensures ∙ rw (uncoded (c .before .before .before .before .before .before .before .before .before .before)) (plane-uncoded _ _ _ _ _), rw (uncoded (c .before .before .before .before .before .before .before .before .before .before)) (omega arith))
+returns c = (
+  c .before .before .before .before .before .before .draw-uncoded .ensures
+      ∙ rw (uncoded (c .before .before .before .before .before .before .before .before .before .before)) (plane-uncoded _ _ _ _ _),
+  rw (uncoded (c .before .before .before .before .before .before .before .before .before .before)) (omega arith),
+)
 
 draw-requires : tie.Need-draw-requires
 draw-requires c κs =
@@ -47,8 +53,11 @@ returns-2 : tie.Need-returns-2
 returns-2 c =
     let s = c .before .before .before .before .before .before .before .before .before .before .before .before .before .before .before .before .before .before in
     let m = c .before .before .before .before .before .before .before .before .before .before .before .before in
-    let e : s .args .at + m .in-component .result * m .in-component .result - s .args .at ≡ count s = omega (arith, counted m) in
-    (c .before .before .before .before .before .before .draw .ensures ∙ rw (e, coded (c .before .before .before .before .before .before .before .before .before .before .before)), rw (coded (c .before .before .before .before .before .before .before .before .before .before .before)) (ap (λ (n : ℕ). s .args .at + n) (counted m)))
+    let e : s .args .at + m .in-component .result * m .in-component .result - s .args .at ≡ count s = omega (arith, counted m) in (
+      c .before .before .before .before .before .before .draw .ensures
+          ∙ rw (e, coded (c .before .before .before .before .before .before .before .before .before .before .before)),
+      rw (coded (c .before .before .before .before .before .before .before .before .before .before .before)) (ap (λ (n : ℕ). s .args .at + n) (counted m)),
+    )
 
 mul-long : tie.Need-mul-long
 mul-long c = omega (arith, counted c, few (c .before .before .before .before .before .before))

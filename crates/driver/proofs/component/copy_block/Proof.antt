@@ -48,5 +48,6 @@ returns c =
 pub copy-block-spec : {M : Type 1} → statement M
 copy-block-spec =
     tie.close
-    (tie.spec Inv-loop μ-loop loop-holds (λ c. omega (arith, in-block (c .before))) (λ c. omega arith) (λ c. omega (arith, in-plane (c .before))) (λ c. omega (arith, in-plane (c .before))) copy-row-requires
+    (tie.spec Inv-loop μ-loop loop-holds (λ c. omega (arith, in-block (c .before))) (λ c. omega arith) (λ c. omega (arith, in-plane (c .before)))
+    (λ c. omega (arith, in-plane (c .before))) copy-row-requires
     (λ c. search needs) (λ c. search needs) loop-again (λ c. c .before .loop .inv .1 .long) returns)

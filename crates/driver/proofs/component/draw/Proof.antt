@@ -13,7 +13,8 @@ fits c = let s = c .before .before .before .before .before in omega (arith, s .p
 returns : tie.Need-returns
 returns c =
     let s = c .before .before .before .before .before .before .before .before .before .before .before .before .before .before .before .before .before .before .before .before .before in
-    drawn-from _ (s .pre .0 .0) _ (s .pre .0 .1) (s .args .kind) _ _ _ _ _ (s .pre .0 .2) (c .before .before .before .before .before .before .before .before .before .before .before .prediction .ensures) (c .before .before .before .before .recon-plane .ensures)
+    drawn-from _ (s .pre .0 .0) _ (s .pre .0 .1) (s .args .kind) _ _ _ _ _ (s .pre .0 .2)
+    (c .before .before .before .before .before .before .before .before .before .before .before .prediction .ensures) (c .before .before .before .before .recon-plane .ensures)
 
 pub draw-spec : {M : Type 1} → statement M
 draw-spec =

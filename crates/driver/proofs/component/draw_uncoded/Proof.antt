@@ -23,14 +23,18 @@ prediction-requires c κs =
 
 lay-requires : tie.Need-lay-requires
 lay-requires c κs =
-    let s = c .before .before .before .before .before .before .before .before .before .before .before .before .before .before .before .before in
-    (record { size = s .pre .0 .0 .size; block = s .pre .0 .0 .block }, s .pre .0 .0 .plane-long, ap length (c .before .before .before .before .before .before .prediction .ensures) ∙ prediction-long _ _ (s .args .kind))
+    let s = c .before .before .before .before .before .before .before .before .before .before .before .before .before .before .before .before in (
+      record { size = s .pre .0 .0 .size; block = s .pre .0 .0 .block },
+      s .pre .0 .0 .plane-long,
+      ap length (c .before .before .before .before .before .before .prediction .ensures) ∙ prediction-long _ _ (s .args .kind),
+    )
 
 returns : tie.Need-returns
 unfolding planeOf
 returns c =
     let s = c .before .before .before .before .before .before .before .before .before .before .before .before .before .before .before .before .before .before .before .before .before in
-    c .before .before .before .before .lay .ensures ∙ ap (λ (p : List ℕ). laidOf (s .args .block) p (now (s .args .plane))) (c .before .before .before .before .before .before .before .before .before .before .before .prediction .ensures)
+    c .before .before .before .before .lay .ensures ∙ ap (λ (p : List ℕ). laidOf (s .args .block) p (now (s .args .plane)))
+    (c .before .before .before .before .before .before .before .before .before .before .before .prediction .ensures)
 
 pub draw-uncoded-spec : {M : Type 1} → statement M
 draw-uncoded-spec =

@@ -46,5 +46,6 @@ returns c = rows-all _ _ _ _ _ _ _ _ (c .before .loop .r) _ (omega arith) (c .be
 pub lay-rows-spec : {M : Type 1} → statement M
 lay-rows-spec =
     tie.close
-    (tie.spec Inv-loop μ-loop loop-holds (λ c. omega arith) (λ c. omega (arith, in-plane (c .before))) (λ c. omega (arith, in-plane (c .before))) (λ c. omega (arith, in-block (c .before))) copy-row-requires
+    (tie.spec Inv-loop μ-loop loop-holds (λ c. omega arith) (λ c. omega (arith, in-plane (c .before))) (λ c. omega (arith, in-plane (c .before)))
+    (λ c. omega (arith, in-block (c .before))) copy-row-requires
     (λ c. search needs) (λ c. search needs) loop-again (λ c. c .before .loop .inv .1 .long) returns)

@@ -22,7 +22,9 @@ returns : tie.Need-returns
 returns c =
     let s = c .before .before .before .before .before .before .before .before .before .before .before .before .before .before .before .before .before in
     let m = c .before .before .before .before .before .before .before .before .before .before .before .before in
-    predicted-from _ (s .pre .0) _ _ (s .pre .1) (m .in-component .ensures) _ _ _ _ _ _ (simp length-take (omega (arith, s .pre .3, short m, m .in-component .ensures))) (s .pre .2) (c .before .before .before .before .before .before .before .before .before .get-nbr .ensures) (c .before .before .before .before .ipred-b .ensures)
+    predicted-from _ (s .pre .0) _ _ (s .pre .1) (m .in-component .ensures) _ _ _ _ _ _
+    (simp length-take (omega (arith, s .pre .3, short m, m .in-component .ensures))) (s .pre .2)
+    (c .before .before .before .before .before .before .before .before .before .get-nbr .ensures) (c .before .before .before .before .ipred-b .ensures)
     ∙ rw (m .in-component .ensures)
 
 pub predict-spec : {M : Type 1} → statement M

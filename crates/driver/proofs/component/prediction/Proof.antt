@@ -13,11 +13,13 @@ copy-lent-requires c κs =
 
 returns : tie.Need-returns
 unfolding predictionOf
-returns c = rw (le-leb (c .before .before .before .before .before .before .before .before .before .before .before .before .before .args .kind) 4 (omega (arith, c .before .before .before .before .before .before .before .if1 .taken))) (c .before .before .before .before .predict .ensures)
+returns c = rw (le-leb (c .before .before .before .before .before .before .before .before .before .before .before .before .before .args .kind) 4
+    (omega (arith, c .before .before .before .before .before .before .before .if1 .taken))) (c .before .before .before .before .predict .ensures)
 
 returns-2 : tie.Need-returns-2
 unfolding predictionOf
-returns-2 c = rw (lt-leb (c .before .before .before .before .before .before .before .before .before .before .args .kind) 4 (omega (arith, c .before .before .before .before .if1 .left))) (c .before .before .copy-lent .ensures)
+returns-2 c = rw (lt-leb (c .before .before .before .before .before .before .before .before .before .before .args .kind) 4
+    (omega (arith, c .before .before .before .before .if1 .left))) (c .before .before .copy-lent .ensures)
 
 pub prediction-spec : {M : Type 1} → statement M
 prediction-spec =

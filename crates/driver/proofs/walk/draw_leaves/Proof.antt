@@ -18,7 +18,8 @@ use Rattle.driver.proofs.walk.draw_leaves.Tie as tie
 
 abbrev Inv-loop : tie.InvT-loop
 Inv-loop w h format constrained list x z n leaves k pred-y pred-u pred-v residual at y₀ u₀ v₀ words₀ modes₀ keep₀ run₀ room₀ end₀ j₀ y u v words modes keep run room end j =
-    (j ≤ n) × Stepped (givenOf w h format constrained leaves residual pred-y pred-u pred-v) (leavesFrom (unpacked x z list) j) (stateOf y₀ u₀ v₀ words₀ modes₀ keep₀ at k) (stateOf y u v words modes keep end (k + j))
+    (j ≤ n) × Stepped (givenOf w h format constrained leaves residual pred-y pred-u pred-v) (leavesFrom (unpacked x z list) j)
+    (stateOf y₀ u₀ v₀ words₀ modes₀ keep₀ at k) (stateOf y u v words modes keep end (k + j))
 
 abbrev μ-loop : tie.MeasureT-loop
 μ-loop w h format constrained list x z n leaves k pred-y pred-u pred-v residual at y₀ u₀ v₀ words₀ modes₀ keep₀ run₀ room₀ end₀ j₀ y u v words modes keep run room end j = n - j
@@ -31,11 +32,17 @@ loop-holds : tie.Need-loop-holds Inv-loop μ-loop
 loop-holds c = let s = c .before .before .before .before .before .before .before .before .before .before .before in (omega arith, leaves-start (list s) (s .args .k) (s .pre .1 .0))
 
 -- where leaf j stands among those of the root
-in-list : (c : tie.In-loop Inv-loop μ-loop) → (c .before .loop .j < 256) × (length (c .before .before .before .before .before .before .before .before .before .before .before .before .before .args .list .now) ≡ 256) × (c .before .before .before .before .before .before .before .before .before .before .before .before .before .args .x ≤ 4096) × (c .before .before .before .before .before .before .before .before .before .before .before .before .before .args .z ≤ 4096)
-in-list c = let b = c .before .before .before .before .before .before .before .before .before .before .before .before .before .pre .1 .1 in (omega (arith, b .0 .few, c .loop-test .taken), b .1, b .2, b .3)
+in-list : (c : tie.In-loop Inv-loop μ-loop) → (c .before .loop .j < 256)
+    × (length (c .before .before .before .before .before .before .before .before .before .before .before .before .before .args .list .now) ≡ 256)
+    × (c .before .before .before .before .before .before .before .before .before .before .before .before .before .args .x ≤ 4096)
+    × (c .before .before .before .before .before .before .before .before .before .before .before .before .before .args .z ≤ 4096)
+in-list c = let b = c .before .before .before .before .before .before .before .before .before .before .before .before .before .pre .1 .1 in
+    (omega (arith, b .0 .few, c .loop-test .taken), b .1, b .2, b .3)
 
 -- the lists reach past it
-reached : (c : tie.In-loop Inv-loop μ-loop) → let s = c .before .before .before .before .before .before .before .before .before .before .before .before .before in let l = c .before .loop in Reaches (s .args .leaves .now) (length (s .args .residual .now)) (past (s .args .leaves .now) (getD (list s) (3 * l .j + 2) 0) (placeOf (l .end) (s .args .k + l .j)))
+reached : (c : tie.In-loop Inv-loop μ-loop) → let s = c .before .before .before .before .before .before .before .before .before .before .before .before .before in
+    let l = c .before .loop in Reaches (s .args .leaves .now) (length (s .args .residual .now))
+    (past (s .args .leaves .now) (getD (list s) (3 * l .j + 2) 0) (placeOf (l .end) (s .args .k + l .j)))
 reached c =
     let s = c .before .before .before .before .before .before .before .before .before .before .before .before .before in
     let l = c .before .loop in
@@ -43,29 +50,41 @@ reached c =
     (sides (s .pre .1 .1 .0) .units _ (c .loop-test .taken)) (leaves-asked (list s) (s .args .k) (l .j) (l .inv .1)) (s .pre .1 .1 .4)
 
 -- it is a block of the picture
-block : (c : tie.After-leaf-at Inv-loop μ-loop) → let r = c .leaf-at .result in blockOk (c .before .before .before .before .before .before .before .before .before .before .before .before .before .before .args .w) (c .before .before .before .before .before .before .before .before .before .before .before .before .before .before .args .h) (r .x .0) (r .z .0) (r .side) ≡ true
-block c = let e = c .leaf-at .ensures in rw (e .0, e .1, e .2) (c .before .before .before .before .before .before .before .before .before .before .before .before .before .before .pre .1 .1 .0 .blocks _ (c .before .loop-test .taken))
+block : (c : tie.After-leaf-at Inv-loop μ-loop) → let r = c .leaf-at .result in
+    blockOk (c .before .before .before .before .before .before .before .before .before .before .before .before .before .before .args .w)
+    (c .before .before .before .before .before .before .before .before .before .before .before .before .before .before .args .h) (r .x .0) (r .z .0) (r .side) ≡ true
+block c = let e = c .leaf-at .ensures in rw (e .0, e .1, e .2)
+    (c .before .before .before .before .before .before .before .before .before .before .before .before .before .before .pre .1 .1 .0 .blocks _ (c .before .loop-test .taken))
 
 leaf-planes-requires : tie.Need-leaf-planes-requires Inv-loop μ-loop
 leaf-planes-requires c κs =
-    let s = c .before .before .before .before .before .before .before .before .before .before .before .before .before .before .before .before .before .before .before .before .before in
-    (planes-asked _ _ _ _ (s .pre .0) (c .before .before .before .before .before .before .before .before .before .loop .inv .1 .asked) (block (c .before .before .before .before .before .before .before)) (rw (c .before .before .before .before .before .before .record-at .ensures .2) (s .pre .0 .masks _)), rw (c .before .before .before .before .before .before .record-at .ensures .2, c .before .before .before .before .before .before .before .leaf-at .ensures .2) (reached (c .before .before .before .before .before .before .before .before) .residuals))
+    let s = c .before .before .before .before .before .before .before .before .before .before .before .before .before .before .before .before .before .before .before .before .before in (
+      planes-asked _ _ _ _ (s .pre .0) (c .before .before .before .before .before .before .before .before .before .loop .inv .1 .asked)
+          (block (c .before .before .before .before .before .before .before)) (rw (c .before .before .before .before .before .before .record-at .ensures .2) (s .pre .0 .masks _)),
+      rw (c .before .before .before .before .before .before .record-at .ensures .2, c .before .before .before .before .before .before .before .leaf-at .ensures .2)
+          (reached (c .before .before .before .before .before .before .before .before) .residuals),
+    )
 
 tell-requires : tie.Need-tell-requires Inv-loop μ-loop
 tell-requires c κs =
     let a = c .before .before .before .before .before .before .before .before .before .before .before .before .before .before .before .before .before .before .before .loop .inv .1 .asked in
-    told _ _ _ _ _ _ _ _ (c .before .before .before .before .before .before .before .before .before .before .before .before .before .before .before .before .before .before .before .before .before .before .before .before .before .before .before .before .before .before .before .pre .0 .size) (block (c .before .before .before .before .before .before .before .before .before .before .before .before .before .before .before .before .before)) (a .words-long) (a .modes-long) (a .keep-long)
+    told _ _ _ _ _ _ _ _
+    (c .before .before .before .before .before .before .before .before .before .before .before .before .before .before .before .before .before .before .before .before .before .before .before .before .before .before .before .before .before .before .before .pre .0 .size) (block (c .before .before .before .before .before .before .before .before .before .before .before .before .before .before .before .before .before)) (a .words-long) (a .modes-long) (a .keep-long)
 
 loop-again : tie.Need-loop-again Inv-loop μ-loop
 loop-again c =
     let s = c .before .before .before .before .before .before .before .before .before .before .before .before .before .before .before .before .before .before .before .before .before .before .before .before .before .before .before .before .before .before .before .before .before .before .before .before .before .before in
     let l = c .before .before .before .before .before .before .before .before .before .before .before .before .before .before .before .before .before .before .before .before .before .before .before .before .before .before .loop in (
       omega (arith, c .before .before .before .before .before .before .before .before .before .before .before .before .before .before .before .before .before .before .before .before .before .before .before .before .before .loop-test .taken),
-      leaves-next (givenOf (s .args .w) (s .args .h) (s .args .format) (s .args .constrained) (s .args .leaves .now) (s .args .residual .now) (s .args .pred-y .now) (s .args .pred-u .now) (s .args .pred-v .now)) (list s) (s .args .k) (l .j) (s .pre .0) (block (c .before .before .before .before .before .before .before .before .before .before .before .before .before .before .before .before .before .before .before .before .before .before .before .before)) (c .before .before .before .before .before .before .before .before .before .before .before .before .before .before .before .before .before .before .before .before .before .before .before .before .leaf-at .ensures) (c .before .before .before .before .before .before .before .before .before .before .before .before .before .before .before .before .before .before .before .before .before .before .before .record-at .ensures) (c .before .before .before .before .before .before .before .before .before .before .before .before .before .before .before .before .leaf-planes .ensures) (c .before .before .before .before .before .before .tell .ensures) (l .inv .1),
+      leaves-next (givenOf (s .args .w) (s .args .h) (s .args .format) (s .args .constrained) (s .args .leaves .now) (s .args .residual .now) (s .args .pred-y .now)
+          (s .args .pred-u .now) (s .args .pred-v .now)) (list s) (s .args .k) (l .j) (s .pre .0)
+          (block (c .before .before .before .before .before .before .before .before .before .before .before .before .before .before .before .before .before .before .before .before .before .before .before .before)) (c .before .before .before .before .before .before .before .before .before .before .before .before .before .before .before .before .before .before .before .before .before .before .before .before .leaf-at .ensures) (c .before .before .before .before .before .before .before .before .before .before .before .before .before .before .before .before .before .before .before .before .before .before .before .record-at .ensures) (c .before .before .before .before .before .before .before .before .before .before .before .before .before .before .before .before .leaf-planes .ensures) (c .before .before .before .before .before .before .tell .ensures) (l .inv .1),
     )
 
 -- at the end
-lengths : (c : tie.After-loop Inv-loop μ-loop) → let s = c .before .before .before .before .before .before .before .before .before .before .before .before .before in let l = c .before .loop in Kept (stateOf (s .args .y .now) (s .args .u .now) (s .args .v .now) (s .args .map-scu .now) (s .args .modes .now) (s .args .keep .now) (s .args .at) (s .args .k)) (stateOf (l .y) (l .u) (l .v) (l .map-scu) (l .modes) (l .keep) (l .end) (s .args .k + l .j))
+lengths : (c : tie.After-loop Inv-loop μ-loop) → let s = c .before .before .before .before .before .before .before .before .before .before .before .before .before in
+    let l = c .before .loop in Kept (stateOf (s .args .y .now) (s .args .u .now) (s .args .v .now) (s .args .map-scu .now) (s .args .modes .now) (s .args .keep .now) (s .args .at)
+    (s .args .k)) (stateOf (l .y) (l .u) (l .v) (l .map-scu) (l .modes) (l .keep) (l .end) (s .args .k + l .j))
 lengths c = kept _ _ _ (c .before .before .before .before .before .before .before .before .before .before .before .before .before .pre .1 .0) (c .before .loop .inv .1 .asked)
 
 returns : tie.Need-returns Inv-loop μ-loop
@@ -75,13 +94,24 @@ returns c =
     rw (← e) (l .inv .1)
 
 add-j : tie.Need-add-j Inv-loop μ-loop
-add-j c = omega (arith, c .before .before .before .before .before .before .before .before .before .before .before .before .before .before .before .before .before .before .before .before .before .before .before .before .before .loop-test .taken, c .before .before .before .before .before .before .before .before .before .before .before .before .before .before .before .before .before .before .before .before .before .before .before .before .before .before .before .before .before .before .before .before .before .before .before .before .before .before .pre .1 .1 .0 .few)
+add-j c = omega (
+  arith,
+  c .before .before .before .before .before .before .before .before .before .before .before .before .before .before .before .before .before .before .before .before .before .before .before .before .before .loop-test .taken,
+  c .before .before .before .before .before .before .before .before .before .before .before .before .before .before .before .before .before .before .before .before .before .before .before .before .before .before .before .before .before .before .before .before .before .before .before .before .before .before .pre .1 .1 .0 .few,
+)
 
 loop-less : tie.Need-loop-less Inv-loop μ-loop
-loop-less c = omega (arith, c .before .before .before .before .before .before .before .before .before .before .before .before .before .before .before .before .before .before .before .before .before .before .before .before .before .loop-test .taken)
+loop-less c = omega (
+  arith,
+  c .before .before .before .before .before .before .before .before .before .before .before .before .before .before .before .before .before .before .before .before .before .before .before .before .before .loop-test .taken,
+)
 
 add-record-at : tie.Need-add-record-at Inv-loop μ-loop
-add-record-at c = omega (arith, reached (c .before) .records, c .before .before .before .before .before .before .before .before .before .before .before .before .before .before .good .1 .1 .1 .1 .1 .1 .1 .1 .0)
+add-record-at c = omega (
+  arith,
+  reached (c .before) .records,
+  c .before .before .before .before .before .before .before .before .before .before .before .before .before .before .good .1 .1 .1 .1 .1 .1 .1 .1 .0,
+)
 
 pub draw-leaves-spec : {M : Type 1} → statement M
 draw-leaves-spec =

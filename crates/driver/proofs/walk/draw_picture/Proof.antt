@@ -43,14 +43,19 @@ loop-holds c =
     (omega arith, refl, roots-none _ (s .args .splits .now) (s .args .w / 4) (s .args .h / 4) _ (s .pre .1 .0), omega arith)
 
 packed-leaves-requires : tie.Need-packed-leaves-requires Inv-loop μ-loop
-packed-leaves-requires c κs = (c .before .before .before .before .before .before .before .before .before .before .before .before .before .before .before .pre .1 .1 .0, c .before .before .loop-test .taken, c .before .before .before .loop .inv .1)
+packed-leaves-requires c κs = (
+  c .before .before .before .before .before .before .before .before .before .before .before .before .before .before .before .pre .1 .1 .0,
+  c .before .before .loop-test .taken,
+  c .before .before .before .loop .inv .1,
+)
 
 draw-leaves-requires : tie.Need-draw-leaves-requires Inv-loop μ-loop
 draw-leaves-requires c κs =
     let s = c .before .before .before .before .before .before .before .before .before .before .before .before .before .before .before .before .before .before .before .before .before .before .before .before .before .before in
     let l = c .before .before .before .before .before .before .before .before .before .before .before .before .before .before .loop in
     let d = c .before .before .before .before .before .before .before .before .before .before .packed-leaves .ensures .0 in
-    let early : l .i < roots (s .args .w / 4) (s .args .h / 4) = omega (arith, c .before .before .before .before .before .before .before .before .before .before .before .before .before .loop-test .taken, roots-units (size s)) in (
+    let early : l .i < roots (s .args .w / 4) (s .args .h / 4) = omega
+    (arith, c .before .before .before .before .before .before .before .before .before .before .before .before .before .loop-test .taken, roots-units (size s)) in (
       s .pre .0,
       (
         l .inv .2 .asked,
@@ -72,12 +77,15 @@ loop-again c =
     let d = c .before .before .before .before .before .before .before .before .before .before .before .before .before .before .before .before .before .before .before .before .before .before .before .packed-leaves .ensures .0 in (
       omega (arith, c .before .before .before .before .before .before .before .before .before .before .before .before .before .before .before .before .before .before .before .before .before .before .before .before .before .before .loop-test .taken),
       c .before .before .before .before .before .before .before .before .before .before .before .before .before .before .before .before .before .before .before .before .before .before .before .packed-leaves .ensures .1,
-      roots-more _ (s .args .splits .now) (s .args .w / 4) (s .args .h / 4) (l .i) _ _ _ _ _ (d .same) (l .inv .2) (c .before .before .before .before .before .before .before .before .before .before .before .before .draw-leaves .ensures),
+      roots-more _ (s .args .splits .now) (s .args .w / 4) (s .args .h / 4) (l .i) _ _ _ _ _ (d .same) (l .inv .2)
+          (c .before .before .before .before .before .before .before .before .before .before .before .before .draw-leaves .ensures),
       omega (arith, l .inv .3, d .blocks .few),
     )
 
 -- at the end
-lengths : (c : tie.After-loop Inv-loop μ-loop) → let s = c .before .before .before .before .before .before .before .before .before .before .before .before .before in let l = c .before .loop in Kept (stateOf (s .args .y .now) (s .args .u .now) (s .args .v .now) (s .args .map-scu .now) (s .args .modes .now) (s .args .keep .now) 0 0) (stateOf (l .y) (l .u) (l .v) (l .map-scu) (l .modes) (l .keep) (l .at) (l .k))
+lengths : (c : tie.After-loop Inv-loop μ-loop) → let s = c .before .before .before .before .before .before .before .before .before .before .before .before .before in
+    let l = c .before .loop in Kept (stateOf (s .args .y .now) (s .args .u .now) (s .args .v .now) (s .args .map-scu .now) (s .args .modes .now) (s .args .keep .now) 0 0)
+    (stateOf (l .y) (l .u) (l .v) (l .map-scu) (l .modes) (l .keep) (l .at) (l .k))
 lengths c = kept _ _ _ (c .before .before .before .before .before .before .before .before .before .before .before .before .before .pre .1 .0) (c .before .loop .inv .2 .asked)
 
 returns : tie.Need-returns Inv-loop μ-loop
@@ -100,19 +108,35 @@ add-k : tie.Need-add-k Inv-loop μ-loop
 add-k c = let l = c .before .before .before .before .before .before .before .before .before .before .before .before .before .before .before .before .before .before .before .before .before .before .before .before .before .before .before .loop in omega (arith, l .inv .3, l .inv .0, c .before .before .before .before .before .before .before .before .before .before .before .before .before .before .before .before .before .before .before .before .before .before .before .packed-leaves .ensures .0 .blocks .few, few (c .before .before .before .before .before .before .before .before .before .before .before .before .before .before .before .before .before .before .before .before .before .before .before .before .before .before .before .before .before .before .before .before .before .before .before .before .before .before .before))
 
 add-i : tie.Need-add-i Inv-loop μ-loop
-add-i c = omega (arith, c .before .before .before .before .before .before .before .before .before .before .before .before .before .before .before .before .before .before .before .before .before .before .before .before .before .before .loop-test .taken, few (c .before .before .before .before .before .before .before .before .before .before .before .before .before .before .before .before .before .before .before .before .before .before .before .before .before .before .before .before .before .before .before .before .before .before .before .before .before .before .before))
+add-i c = omega (
+  arith,
+  c .before .before .before .before .before .before .before .before .before .before .before .before .before .before .before .before .before .before .before .before .before .before .before .before .before .before .loop-test .taken,
+  few (c .before .before .before .before .before .before .before .before .before .before .before .before .before .before .before .before .before .before .before .before .before .before .before .before .before .before .before .before .before .before .before .before .before .before .before .before .before .before .before),
+)
 
 loop-less : tie.Need-loop-less Inv-loop μ-loop
-loop-less c = omega (arith, c .before .before .before .before .before .before .before .before .before .before .before .before .before .before .before .before .before .before .before .before .before .before .before .before .before .before .loop-test .taken)
+loop-less c = omega (
+  arith,
+  c .before .before .before .before .before .before .before .before .before .before .before .before .before .before .before .before .before .before .before .before .before .before .before .before .before .before .loop-test .taken,
+)
 
 rem-x : tie.Need-rem-x Inv-loop μ-loop
 rem-x c = omega (arith, size (c .before .before .before .before .before .before .before .before .before .before .before .before .before) .some-wide)
 
 mul-x : tie.Need-mul-x Inv-loop μ-loop
-mul-x c = omega (arith, column (c .before .before .before .before .before .before .before .before .before .before .before .before .before) (c .before .loop .i) (c .loop-test .taken), size (c .before .before .before .before .before .before .before .before .before .before .before .before .before) .wide)
+mul-x c = omega (
+  arith,
+  column (c .before .before .before .before .before .before .before .before .before .before .before .before .before)
+      (c .before .loop .i) (c .loop-test .taken),
+  size (c .before .before .before .before .before .before .before .before .before .before .before .before .before) .wide,
+)
 
 mul-z : tie.Need-mul-z Inv-loop μ-loop
-mul-z c = omega (arith, row (c .before .before .before .before .before .before .before .before .before .before .before .before .before) (c .before .loop .i) (c .loop-test .taken), size (c .before .before .before .before .before .before .before .before .before .before .before .before .before) .high)
+mul-z c = omega (
+  arith,
+  row (c .before .before .before .before .before .before .before .before .before .before .before .before .before) (c .before .loop .i) (c .loop-test .taken),
+  size (c .before .before .before .before .before .before .before .before .before .before .before .before .before) .high,
+)
 
 div-z : tie.Need-div-z Inv-loop μ-loop
 div-z c = omega (arith, size (c .before .before .before .before .before .before .before .before .before .before .before .before .before) .some-wide)
@@ -121,4 +145,5 @@ pub draw-picture-spec : {M : Type 1} → statement M
 draw-picture-spec =
     tie.close
     (tie.spec Inv-loop μ-loop add-across add-roots mul-roots loop-holds rem-x mul-x div-z mul-z (λ c. search needs) packed-leaves-requires (λ c. search needs) draw-leaves-requires
-    add-k add-i loop-less loop-again (λ c. lengths c .y-kept) (λ c. lengths c .u-kept) (λ c. lengths c .v-kept) (λ c. lengths c .words-kept) (λ c. lengths c .modes-kept) (λ c. lengths c .keep-kept) returns)
+    add-k add-i loop-less loop-again (λ c. lengths c .y-kept) (λ c. lengths c .u-kept) (λ c. lengths c .v-kept) (λ c. lengths c .words-kept)
+    (λ c. lengths c .modes-kept) (λ c. lengths c .keep-kept) returns)

@@ -20,5 +20,6 @@ returns c =
 pub leaf-at-spec : {M : Type 1} → statement M
 leaf-at-spec =
     tie.close
-    (tie.spec (λ c. omega (arith, c .pre .1, c .pre .0)) (λ c. omega (arith, c .before .pre .1, c .before .pre .0)) (λ c. omega (arith, few c)) (λ c. omega (arith, few c)) (λ c. omega (arith, few c, c .before .pre .2)) (λ c. omega (arith, few c)) (λ c. omega (arith, few c, c .before .pre .3)) (λ c. omega (arith, few c))
+    (tie.spec (λ c. omega (arith, c .pre .1, c .pre .0)) (λ c. omega (arith, c .before .pre .1, c .before .pre .0)) (λ c. omega (arith, few c))
+    (λ c. omega (arith, few c)) (λ c. omega (arith, few c, c .before .pre .2)) (λ c. omega (arith, few c)) (λ c. omega (arith, few c, c .before .pre .3)) (λ c. omega (arith, few c))
     returns)

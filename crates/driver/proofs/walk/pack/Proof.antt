@@ -70,8 +70,11 @@ loop-less : tie.Need-loop-less Inv-loop μ-loop
 loop-less c = omega (arith, c .before .before .before .before .loop-test .taken)
 
 loop-again : tie.Need-loop-again Inv-loop μ-loop
-loop-again c =
-    (omega (arith, c .before .before .before .before .loop-test .taken), packed-more _ _ (c .before .before .before .before .before .loop .j) _ (in-list (c .before .before .before .before) .0) (c .packed-leaf .ensures) (c .before .before .before .before .before .loop .inv .1))
+loop-again c = (
+  omega (arith, c .before .before .before .before .loop-test .taken),
+  packed-more _ _ (c .before .before .before .before .before .loop .j) _
+      (in-list (c .before .before .before .before) .0) (c .packed-leaf .ensures) (c .before .before .before .before .before .loop .inv .1),
+)
 
 same-length : tie.Need-same-length Inv-loop μ-loop
 same-length c = omega (arith, c .before .loop .inv .1 .long, c .before .before .before .before .pre .1)
@@ -85,5 +88,6 @@ returns c =
 pub pack-spec : {M : Type 1} → statement M
 pack-spec =
     tie.close
-    (tie.spec Inv-loop μ-loop loop-holds mul-packed-leaf mul-packed-leaf-2 read mul-packed-leaf-3 add-packed-leaf mul-packed-leaf-4 read-2 mul-packed-leaf-5 add-packed-leaf-2 mul-packed-leaf-6 read-3 packed-leaf-requires
+    (tie.spec Inv-loop μ-loop loop-holds mul-packed-leaf mul-packed-leaf-2 read mul-packed-leaf-3 add-packed-leaf mul-packed-leaf-4 read-2 mul-packed-leaf-5
+    add-packed-leaf-2 mul-packed-leaf-6 read-3 packed-leaf-requires
     mul-leaves write add-j loop-less loop-again same-length returns)

@@ -8,15 +8,23 @@ use Rattle.driver.proofs.walk.pack_root.Statement.{statement}
 use Rattle.driver.proofs.walk.pack_root.Tie as tie
 
 root-leaves-requires : tie.Need-root-leaves-requires
-root-leaves-requires c κs = (c .before .before .before .before .before .pre .0, c .before .before .before .before .before .pre .1, simp length-take (omega (arith, c .before .before .before .before .before .pre .2)))
+root-leaves-requires c κs = (
+  c .before .before .before .before .before .pre .0,
+  c .before .before .before .before .before .pre .1,
+  simp length-take (omega (arith, c .before .before .before .before .before .pre .2)),
+)
 
 pack-requires : tie.Need-pack-requires
 pack-requires c κs = (sides (c .before .before .before .before .root-leaves .ensures .blocks), c .before .before .before .before .before .before .before .before .before .before .pre .3)
 
 returns : tie.Need-returns
 returns c =
-    let p = c .before .before .before .before .pack .ensures in
-    (listed-packed (c .before .before .before .before .before .before .before .before .before .before .before .before .before .before .before .pre .0) (c .before .before .before .before .before .before .before .before .before .before .before .before .before .before .before .pre .1) (c .before .before .before .before .before .before .before .before .before .root-leaves .ensures) p, p .long)
+    let p = c .before .before .before .before .pack .ensures in (
+      listed-packed (c .before .before .before .before .before .before .before .before .before .before .before .before .before .before .before .pre .0)
+          (c .before .before .before .before .before .before .before .before .before .before .before .before .before .before .before .pre .1)
+          (c .before .before .before .before .before .before .before .before .before .root-leaves .ensures) p,
+      p .long,
+    )
 
 fits : tie.Need-part-list-end
 fits c = omega (arith, c .before .before .before .pre .2)

@@ -33,5 +33,7 @@ returns c =
 pub tell-row-spec : {M : Type 1} → statement M
 tell-row-spec =
     tie.close
-    (tie.spec Inv-loop μ-loop loop-holds (λ c. omega arith) (λ c. omega (arith, c .before .loop .inv .1 .long)) (λ c. omega (arith, c .before .loop .inv .1 .long)) (λ c. omega arith) (λ c. omega (arith, c .before .loop .inv .2 .long))
-    (λ c. omega arith) (λ c. omega (arith, c .before .loop .inv .3 .long)) (λ c. omega arith) (λ c. omega arith) loop-again (λ c. c .before .loop .inv .1 .long) (λ c. c .before .loop .inv .2 .long) (λ c. c .before .loop .inv .3 .long) returns)
+    (tie.spec Inv-loop μ-loop loop-holds (λ c. omega arith) (λ c. omega (arith, c .before .loop .inv .1 .long)) (λ c. omega (arith, c .before .loop .inv .1 .long))
+    (λ c. omega arith) (λ c. omega (arith, c .before .loop .inv .2 .long))
+    (λ c. omega arith) (λ c. omega (arith, c .before .loop .inv .3 .long)) (λ c. omega arith) (λ c. omega arith) loop-again (λ c. c .before .loop .inv .1 .long)
+    (λ c. c .before .loop .inv .2 .long) (λ c. c .before .loop .inv .3 .long) returns)

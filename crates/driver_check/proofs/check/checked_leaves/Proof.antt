@@ -20,7 +20,8 @@ size : (c : tie.Else1) → sizeOk (c .before .before .before .before .before .be
 size c = sym (c .before .size-ok .ensures) ∙ not-false _ (c .if1 .left)
 
 -- the walk's answer
-walked : (c : tie.After-check) → let a = c .before .before .before .before .before .before .before .before .before .before .before .before .args in c .check .result ≡ pictureWalk (a .splits .now) (a .w / 4) (a .h / 4) .answer
+walked : (c : tie.After-check) → let a = c .before .before .before .before .before .before .before .before .before .before .before .before .args in
+    c .check .result ≡ pictureWalk (a .splits .now) (a .w / 4) (a .h / 4) .answer
 walked c =
     let read = read-told _ _ _ _ _ _ _ (sym (c .before .before .before .before .read-ok .ensures) ∙ not-false _ (c .before .before .before .if2 .left)) in
     check-is _ _ (c .check .ensures) ∙ walk-answer _ _ _ (size (c .before .before .before .before .before)) (read .splits-long)
@@ -66,5 +67,6 @@ returns-5 c =
 pub checked-leaves-spec : {M : Type 1} → statement M
 checked-leaves-spec =
     tie.close
-    (tie.spec (λ c κs. search needs) returns (λ c κs. sized _ _ (size c)) returns-2 (λ c κs. sized _ _ (size (c .before .before))) returns-3 (λ c κs. search needs) (λ c. search needs) (λ c. search needs)
+    (tie.spec (λ c κs. search needs) returns (λ c κs. sized _ _ (size c)) returns-2 (λ c κs. sized _ _ (size (c .before .before))) returns-3
+    (λ c κs. search needs) (λ c. search needs) (λ c. search needs)
     data-checked-requires returns-4 returns-5)

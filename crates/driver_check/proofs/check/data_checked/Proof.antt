@@ -11,10 +11,13 @@ use Rattle.driver_rules.proofs.Checks.{dataRow, data-row, records-long}
 use Rattle.driver_check.proofs.check.data_checked.Statement.{statement}
 use Rattle.driver_check.proofs.check.data_checked.Tie as tie
 
-row : (c : tie.After-past-picture) → let a = c .before .before .before .before .before .before .args in dataRow (a .format) (a .leaves .now) (a .residual) (c .past-picture .result .at) (c .past-picture .result .k) (a .pred-y .now) (a .pred-u .now) (a .pred-v .now) ≡ dataCheck (a .format) (a .leaves .now) (a .residual) (a .pred-y .now) (a .pred-u .now) (a .pred-v .now) (leavesOf (a .w) (a .h) (a .splits .now))
+row : (c : tie.After-past-picture) → let a = c .before .before .before .before .before .before .args in
+    dataRow (a .format) (a .leaves .now) (a .residual) (c .past-picture .result .at) (c .past-picture .result .k) (a .pred-y .now) (a .pred-u .now)
+    (a .pred-v .now) ≡ dataCheck (a .format) (a .leaves .now) (a .residual) (a .pred-y .now) (a .pred-u .now) (a .pred-v .now) (leavesOf (a .w) (a .h) (a .splits .now))
 row c =
     let a = c .before .before .before .before .before .before .args in
-    data-row (a .format) (a .leaves .now) (a .residual) (c .past-picture .result .at) (c .past-picture .result .k) (a .pred-y .now) (a .pred-u .now) (a .pred-v .now) (leavesOf (a .w) (a .h) (a .splits .now)) (c .past-picture .ensures .0)
+    data-row (a .format) (a .leaves .now) (a .residual) (c .past-picture .result .at) (c .past-picture .result .k) (a .pred-y .now) (a .pred-u .now)
+    (a .pred-v .now) (leavesOf (a .w) (a .h) (a .splits .now)) (c .past-picture .ensures .0)
 
 -- as many records as leaves
 long : (c : tie.Else1) → length (c .before .before .before .before .before .before .before .before .args .leaves .now) ≡ 4 * c .before .before .past-picture .result .k
@@ -51,5 +54,6 @@ returns-5 c =
 pub data-checked-spec : {M : Type 1} → statement M
 data-checked-spec =
     tie.close
-    (tie.spec (λ c κs. search needs) (λ c κs. c .past-picture .ensures .1) returns (λ c κs. (omega (arith, long c), omega arith)) returns-2 (λ c κs. (omega (arith, long (c .before .before)), omega arith)) returns-3
+    (tie.spec (λ c κs. search needs) (λ c κs. c .past-picture .ensures .1) returns (λ c κs. (omega (arith, long c), omega arith)) returns-2
+    (λ c κs. (omega (arith, long (c .before .before)), omega arith)) returns-3
     (λ c κs. search needs) returns-4 returns-5)

@@ -38,7 +38,8 @@ loop-again c =
     let l = c .before .before .before .before .loop in
     let e = rw (c .before .mask-at .ensures) at (c .leaf-end .ensures .0) in (
       omega arith,
-      past-one (s .args .leaves .now) (s .args .list .now) (l .j) (placeOf (s .args .from .at) (s .args .from .k)) (l .at) (s .args .from .k + l .j) _ _ (s .pre .0 .units _ (c .before .before .before .loop-test .taken)) (l .inv .1) e (omega arith),
+      past-one (s .args .leaves .now) (s .args .list .now) (l .j) (placeOf (s .args .from .at) (s .args .from .k)) (l .at) (s .args .from .k + l .j) _ _
+          (s .pre .0 .units _ (c .before .before .before .loop-test .taken)) (l .inv .1) e (omega arith),
       omega (arith, c .leaf-end .ensures .1, l .inv .2),
     )
 
@@ -51,5 +52,7 @@ returns c =
 pub past-leaves-spec : {M : Type 1} → statement M
 past-leaves-spec =
     tie.close
-    (tie.spec Inv-loop μ-loop loop-holds (λ c. omega (arith, in-list c)) (λ c. omega (arith, in-list c)) (λ c. omega (arith, in-list c)) (λ c. omega (arith, in-list (c .before))) (λ c. omega (arith, in-list (c .before), c .shared-slice-known3 .given (3 * c .before .before .loop .j + 2))) (λ c. omega (arith, small (c .before))) (λ c κs. small (c .before)) leaf-end-requires
+    (tie.spec Inv-loop μ-loop loop-holds (λ c. omega (arith, in-list c)) (λ c. omega (arith, in-list c)) (λ c. omega (arith, in-list c))
+    (λ c. omega (arith, in-list (c .before))) (λ c. omega (arith, in-list (c .before), c .shared-slice-known3 .given (3 * c .before .before .loop .j + 2)))
+    (λ c. omega (arith, small (c .before))) (λ c κs. small (c .before)) leaf-end-requires
     (λ c. omega arith) (λ c. omega arith) loop-again (λ c. omega (arith, c .before .before .before .before .pre .0 .few, c .before .before .before .before .pre .1)) returns)

@@ -33,8 +33,11 @@ root-leaves-requires c κs = (c .before .before .before .before .before .pre, c 
 
 past-leaves-requires : tie.Need-past-leaves-requires Inv-loop μ-loop
 past-leaves-requires c κs =
-    let l = c .before .before .before .before .before .loop .inv in
-    (sides (c .before .before .root-leaves .ensures .blocks), omega (arith, l .3, few (c .before .before .before .before .before .before .before .before), c .before .before .before .before .loop-test .taken), l .4)
+    let l = c .before .before .before .before .before .loop .inv in (
+      sides (c .before .before .root-leaves .ensures .blocks),
+      omega (arith, l .3, few (c .before .before .before .before .before .before .before .before), c .before .before .before .before .loop-test .taken),
+      l .4,
+    )
 
 loop-again : tie.Need-loop-again Inv-loop μ-loop
 loop-again c =
@@ -43,7 +46,8 @@ loop-again c =
     let p = c .past-leaves .ensures in (
       omega (arith, c .before .before .before .before .before .loop-test .taken),
       r .blocks .long,
-      past-listed (c .before .before .before .before .before .before .before .before .before .args .leaves .now) first (placeOf (l .place .at) (l .place .k)) (placeOf (c .past-leaves .result .at) (c .past-leaves .result .k)) r (l .inv .2) (p .0),
+      past-listed (c .before .before .before .before .before .before .before .before .before .args .leaves .now) first (placeOf (l .place .at) (l .place .k))
+          (placeOf (c .past-leaves .result .at) (c .past-leaves .result .k)) r (l .inv .2) (p .0),
       omega (arith, p .1, r .blocks .few, l .inv .3),
       p .2,
     )
@@ -58,5 +62,7 @@ returns c =
 pub past-picture-spec : {M : Type 1} → statement M
 past-picture-spec =
     tie.close
-    (tie.spec Inv-loop μ-loop (λ c. omega (arith, size (c .before .before) .wide)) (λ c. omega (arith, size (c .before .before) .high)) (λ c. omega (arith, few (c .before .before))) loop-holds (λ c. search needs) root-leaves-requires (λ c. search needs) past-leaves-requires
-    (λ c. omega (arith, few (c .before .before .before .before .before .before .before .before .before), c .before .before .before .before .before .loop-test .taken)) (λ c. omega (arith, c .before .before .before .before .before .loop-test .taken)) loop-again returns)
+    (tie.spec Inv-loop μ-loop (λ c. omega (arith, size (c .before .before) .wide)) (λ c. omega (arith, size (c .before .before) .high))
+    (λ c. omega (arith, few (c .before .before))) loop-holds (λ c. search needs) root-leaves-requires (λ c. search needs) past-leaves-requires
+    (λ c. omega (arith, few (c .before .before .before .before .before .before .before .before .before), c .before .before .before .before .before .loop-test .taken))
+    (λ c. omega (arith, c .before .before .before .before .before .loop-test .taken)) loop-again returns)

@@ -21,4 +21,5 @@ returns c = rw (c .colour-length .ensures)
 pub read-ok-spec : {M : Type 1} → statement M
 read-ok-spec =
     tie.close
-    (tie.spec (λ c. omega (arith, c .pre .wide)) (λ c. omega (arith, c .pre .high)) (λ c. omega (arith, few c)) (λ c. omega (arith, luma c)) (λ c κs. search needs) (λ c. omega (arith, few (c .before))) returns)
+    (tie.spec (λ c. omega (arith, c .pre .wide)) (λ c. omega (arith, c .pre .high)) (λ c. omega (arith, few c)) (λ c. omega (arith, luma c))
+    (λ c κs. search needs) (λ c. omega (arith, few (c .before))) returns)

@@ -21,15 +21,19 @@ row s = root-row (size s) (s .args .i) (s .pre .1)
 returns : tie.Need-returns
 returns c =
     let s = c .before .before .before .before .before .before .before .before .before in
-    listed (root-told _ _ _ (s .pre .0 .size) (s .pre .0 .long) (s .pre .0 .walked) (s .args .i) (s .pre .1) _ _ _ (s .pre .2) (c .before .before .before .before .before .leaves .ensures) _ (c .before .n .given .1))
+    listed (root-told _ _ _ (s .pre .0 .size) (s .pre .0 .long) (s .pre .0 .walked) (s .args .i) (s .pre .1) _ _ _ (s .pre .2)
+    (c .before .before .before .before .before .leaves .ensures) _ (c .before .n .given .1))
 
 returns-2 : tie.Need-returns-2
 returns-2 c =
     let s = c .before .before .before .before .before .before .before .before in
-    absurd (root-met _ _ _ (s .pre .0 .size) (s .pre .0 .long) (s .pre .0 .walked) (s .args .i) (s .pre .1) _ _ _ (s .pre .2) (c .before .before .before .before .leaves .ensures) _ (c .enum-told .given .1))
+    absurd (root-met _ _ _ (s .pre .0 .size) (s .pre .0 .long) (s .pre .0 .walked) (s .args .i) (s .pre .1) _ _ _ (s .pre .2)
+    (c .before .before .before .before .leaves .ensures) _ (c .enum-told .given .1))
 
 pub root-leaves-spec : {M : Type 1} → statement M
 root-leaves-spec =
     tie.close
-    (tie.spec (λ c. omega (arith, size (c .before .before) .wide)) (λ c. omega (arith, size (c .before .before) .some-wide)) (λ c. omega (arith, column (c .before .before), size (c .before .before) .wide)) (λ c. omega (arith, size (c .before .before) .some-wide)) (λ c. omega (arith, row (c .before .before), size (c .before .before) .high)) (λ c κs. search needs)
+    (tie.spec (λ c. omega (arith, size (c .before .before) .wide)) (λ c. omega (arith, size (c .before .before) .some-wide))
+    (λ c. omega (arith, column (c .before .before), size (c .before .before) .wide)) (λ c. omega (arith, size (c .before .before) .some-wide))
+    (λ c. omega (arith, row (c .before .before), size (c .before .before) .high)) (λ c κs. search needs)
     (λ c. search needs) (λ c. search needs) (λ c. search needs) returns (λ c. search needs) returns-2)

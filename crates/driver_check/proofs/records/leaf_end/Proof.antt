@@ -15,7 +15,14 @@ returns c =
 
 returns-2 : tie.Need-returns-2
 returns-2 c = (
-  rw (c .before .before .before .before .before .residual-count .ensures .0, c .before .before .residual-count2 .ensures .0, c .residual-count3 .ensures .0, c .before .before .before .before .before .before .coded-y .ensures, c .before .before .before .coded-u .ensures, c .before .coded-v .ensures),
+  rw (
+    c .before .before .before .before .before .residual-count .ensures .0,
+    c .before .before .residual-count2 .ensures .0,
+    c .residual-count3 .ensures .0,
+    c .before .before .before .before .before .before .coded-y .ensures,
+    c .before .before .before .coded-u .ensures,
+    c .before .coded-v .ensures,
+  ),
   omega (arith, c .before .before .before .before .before .residual-count .ensures .1, c .before .before .residual-count2 .ensures .1, c .residual-count3 .ensures .1),
 )
 

@@ -8,7 +8,8 @@ use Rattle.finish.proofs.stream.one_frame.Tie as tie
 same-length-5 : tie.Need-same-length-5
 same-length-5 c =
     let s = c .before .before .before .before .before .before .before .before .before .before in
-    s .put-finished .kept .1 .1 .1 .1 .0 ∙ s .before .before .before .before .before .before .before .before .before .before .before .before .before .before .before .before .next-frame .kept .1 .1 .1 .0
+    s .put-finished .kept .1 .1 .1 .1 .0
+    ∙ s .before .before .before .before .before .before .before .before .before .before .before .before .before .before .before .before .next-frame .kept .1 .1 .1 .0
 
 pub one-frame-spec : {M : Type 1} → statement M
 one-frame-spec =

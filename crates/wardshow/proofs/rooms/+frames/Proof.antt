@@ -28,7 +28,8 @@ abbrev frames-below : ℕ → In 0 frames-kinds.ps
 frames-below t = and 0 frames-kinds.ps (falls 0 frames-kinds.ps _<_ μ-frames t) frames.Pre
 
 pub +frames-spec : {M : Type 1} → statement M
-+frames-spec = close μ-frames λ t. frames-lts.spec (in-large-reads.Asked, in-large-reads.Learnt, in-small-reads.Asked, in-small-reads.Learnt, frames-below t, frames.Post, line-reads.Asked, line-reads.Learnt)
++frames-spec = close μ-frames λ t. frames-lts.spec
+    (in-large-reads.Asked, in-large-reads.Learnt, in-small-reads.Asked, in-small-reads.Learnt, frames-below t, frames.Post, line-reads.Asked, line-reads.Learnt)
     (frames-at t)
     frames.Post
     (λ c. search needs)

@@ -21,13 +21,17 @@ loop-holds : tie.Need-loop-holds Inv-loop μ-loop
 loop-holds c = let a = c .args in ap (λ (k : ℕ). matches (a .short) (a .key .now) (drop k (a .s .now))) (sym (add-zero (a .at)))
 
 returns : tie.Need-returns Inv-loop μ-loop
-returns c = let l = c .before .before .loop in let a = c .before .before .before .args in sym (l .inv ∙ match-out (a .short) (a .key .now) (a .s .now) (l .i) (a .at + l .i) (omega arith) (omega arith))
+returns c = let l = c .before .before .loop in
+    let a = c .before .before .before .args in sym (l .inv ∙ match-out (a .short) (a .key .now) (a .s .now) (l .i) (a .at + l .i) (omega arith) (omega arith))
 
 returns-2 : tie.Need-returns-2 Inv-loop μ-loop
-returns-2 c = let l = c .before .before .before .loop in let a = c .before .before .before .before .args in sym (l .inv ∙ match-out (a .short) (a .key .now) (a .s .now) (l .i) (a .at + l .i) (omega arith) (omega arith))
+returns-2 c = let l = c .before .before .before .loop in
+    let a = c .before .before .before .before .args in sym (l .inv ∙ match-out (a .short) (a .key .now) (a .s .now) (l .i) (a .at + l .i) (omega arith) (omega arith))
 
 returns-3 : tie.Need-returns-3 Inv-loop μ-loop
-returns-3 c = let l = c .before .before .before .before .before .before .loop in let a = c .before .before .before .before .before .before .before .args in sym (l .inv ∙ match-other (a .short) (a .key .now) (a .s .now) (l .i) (a .at + l .i) (omega arith) (omega arith) (c .if3 .taken))
+returns-3 c = let l = c .before .before .before .before .before .before .loop in
+    let a = c .before .before .before .before .before .before .before .args in
+    sym (l .inv ∙ match-other (a .short) (a .key .now) (a .s .now) (l .i) (a .at + l .i) (omega arith) (omega arith) (c .if3 .taken))
 
 loop-again : tie.Need-loop-again Inv-loop μ-loop
 loop-again c =

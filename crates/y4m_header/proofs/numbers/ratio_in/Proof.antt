@@ -21,12 +21,14 @@ returns-2 c =
 returns-3 : tie.Need-returns-3
 returns-3 c =
     let t = c .before .before .before .before .before .before .before in
-    ratio-lower-no _ _ (t .before .before .before .count-before .ensures) _ (t .term-in .ensures) _ (c .before .before .before .before .before .n .given .1) _ (c .before .before .term-in2 .ensures) (c .enum-told2 .given .1)
+    ratio-lower-no _ _ (t .before .before .before .count-before .ensures) _ (t .term-in .ensures) _
+    (c .before .before .before .before .before .n .given .1) _ (c .before .before .term-in2 .ensures) (c .enum-told2 .given .1)
 
 returns-4 : tie.Need-returns-4
 returns-4 c =
     let t = c .before .before .before .before .before .before .before .before in
-    ratio-both _ _ (t .before .before .before .count-before .ensures) _ (t .term-in .ensures) _ (c .before .before .before .before .before .before .n .given .1) _ (c .before .before .before .term-in2 .ensures) _ (c .before .m .given .1) (omega arith)
+    ratio-both _ _ (t .before .before .before .count-before .ensures) _ (t .term-in .ensures) _ (c .before .before .before .before .before .before .n .given .1) _
+    (c .before .before .before .term-in2 .ensures) _ (c .before .m .given .1) (omega arith)
 
 pub ratio-in-spec : {M : Type 1} → statement M
 ratio-in-spec =

@@ -28,4 +28,5 @@ returns c = let l = c .before .loop in put-as (take-all (l .i) _ (omega arith)) 
 
 pub put-bytes-spec : {M : Type 1} → statement M
 put-bytes-spec =
-    tie.close (tie.spec Inv-loop μ-loop loop-holds (λ c. search needs) (λ c. search needs) (λ c. omega arith) (λ c. search needs) (λ c. search needs) loop-again (λ c. search needs) (λ c. c .before .loop .inv .1) returns)
+    tie.close (tie.spec Inv-loop μ-loop loop-holds (λ c. search needs) (λ c. search needs) (λ c. omega arith) (λ c. search needs)
+    (λ c. search needs) loop-again (λ c. search needs) (λ c. c .before .loop .inv .1) returns)

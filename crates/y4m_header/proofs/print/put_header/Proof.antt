@@ -10,7 +10,8 @@ returns c =
     let a = c .before .before .before .before .before .before .before .before .before .before .before .before .before .before .before .before .before .before .before .before .before .before .before .before .before .before .before .before .args in
     put-as (header-text (a .w) (a .h) (a .f) (a .g) (a .a) (a .b))
     (put-then (c .before .before .before .before .before .before .before .before .before .before .before .before .before .before .before .before .before .before .before .before .before .before .before .before .before .put-sides .ensures .0) (put-then (c .before .before .before .before .before .before .before .before .before .before .before .before .before .before .before .before .before .before .before .before .put-bytes .ensures) (put-then (c .before .before .before .before .before .before .before .before .before .before .before .before .before .before .before .before .put-ratio .ensures .0)
-    (put-then (c .before .before .before .before .before .before .before .before .before .before .before .put-bytes2 .ensures) (put-then (c .before .before .before .before .before .before .before .put-ratio2 .ensures .0) (c .before .before .put-bytes3 .ensures))))))
+    (put-then (c .before .before .before .before .before .before .before .before .before .before .before .put-bytes2 .ensures)
+    (put-then (c .before .before .before .before .before .before .before .put-ratio2 .ensures .0) (c .before .before .put-bytes3 .ensures))))))
 
 pub put-header-spec : {M : Type 1} → statement M
 put-header-spec =

@@ -22,10 +22,12 @@ slice-aggregate-head : tie.Need-slice-aggregate-head
 slice-aggregate-head c = sym (head-long (c .before))
 
 slice-aggregate-same : tie.Need-slice-aggregate-same
-slice-aggregate-same c = sym (length-take-le _ _ (omega (arith, c .before .count-before .ensures, before-short 32 10 (take (c .before .before .before .head-length .result) (c .before .before .before .before .before .args .s .now)))))
+slice-aggregate-same c = sym (length-take-le _ _
+    (omega (arith, c .before .count-before .ensures, before-short 32 10 (take (c .before .before .before .head-length .result) (c .before .before .before .before .before .args .s .now)))))
 
 -- the first word is what was compared
-first : (c : tie.After-same) → let head = take (c .before .before .before .before .before .head-length .result) (c .before .before .before .before .before .before .before .args .s .now) in c .same .result ≡ sameLine magic (wordOf head)
+first : (c : tie.After-same) → let head = take (c .before .before .before .before .before .head-length .result)
+    (c .before .before .before .before .before .before .before .args .s .now) in c .same .result ≡ sameLine magic (wordOf head)
 first c =
     let head = take (c .before .before .before .before .before .head-length .result) (c .before .before .before .before .before .before .before .args .s .now) in
     c .same .ensures ∙ ap (sameLine magic) (ap (λ (k : _). take k head) (c .before .before .before .count-before .ensures) ∙ before-take 32 10 head)
@@ -33,7 +35,8 @@ first c =
 returns : tie.Need-returns
 returns c = no-magic _ _ (head-is _ _ (c .before .before .before .before .before .before .head-length .ensures)) (sym (first (c .before)) ∙ not-true _ (c .if1 .taken))
 
-magic-there : (c : tie.Else1) → let head = take (c .before .before .before .before .before .before .head-length .result) (c .before .before .before .before .before .before .before .before .args .s .now) in sameLine magic (wordOf head) ≡ true
+magic-there : (c : tie.Else1) → let head = take (c .before .before .before .before .before .before .head-length .result)
+    (c .before .before .before .before .before .before .before .before .args .s .now) in sameLine magic (wordOf head) ≡ true
 magic-there c = sym (first (c .before)) ∙ not-false _ (c .if1 .left)
 
 words-in-requires : tie.Need-words-in-requires

@@ -16,7 +16,8 @@ abbrev μ-loop : tie.MeasureT-loop
 μ-loop head said₀ at₀ said at = length head - at
 
 -- the word ends within the bytes
-fits : (c : tie.After-count-before Inv-loop μ-loop) → c .before .before .before .before .loop .at + 1 + c .count-before .result ≤ length (c .before .before .before .before .before .before .before .args .head .now)
+fits : (c : tie.After-count-before Inv-loop μ-loop) → c .before .before .before .before .loop .at + 1 + c .count-before .result ≤ length
+    (c .before .before .before .before .before .before .before .args .head .now)
 fits c =
     let l = c .before .before .before .before .loop in
     omega (arith, c .count-before .ensures, before-fits 32 10 (c .before .before .before .before .before .before .before .args .head .now) (l .at + 1) (omega arith))
@@ -39,7 +40,8 @@ part-told-word-end c = fits c
 returns-3 : tie.Need-returns-3 Inv-loop μ-loop
 returns-3 c =
     let l = c .before .before .before .before .before .before .before .before .loop in
-    at-word _ _ _ (l .inv) (omega arith) (c .before .before .before .before .before .if1 .left) _ (c .before .before .before .before .count-before .ensures) _ (c .before .before .told-word .ensures) (c .enum-told .given .1)
+    at-word _ _ _ (l .inv) (omega arith) (c .before .before .before .before .before .if1 .left) _
+    (c .before .before .before .before .count-before .ensures) _ (c .before .before .told-word .ensures) (c .enum-told .given .1)
 
 loop-less : tie.Need-loop-less Inv-loop μ-loop
 loop-less c = let f = fits (c .before .before .before .before .before) in omega arith
@@ -47,7 +49,8 @@ loop-less c = let f = fits (c .before .before .before .before .before) in omega 
 loop-again : tie.Need-loop-again Inv-loop μ-loop
 loop-again c =
     let l = c .before .before .before .before .before .before .before .before .before .loop in
-    step _ _ _ (l .inv) (omega arith) (c .before .before .before .before .before .before .if1 .left) _ (c .before .before .before .before .before .count-before .ensures) _ (c .before .before .before .told-word .ensures) _ (c .before .next .given .1)
+    step _ _ _ (l .inv) (omega arith) (c .before .before .before .before .before .before .if1 .left) _
+    (c .before .before .before .before .before .count-before .ensures) _ (c .before .before .before .told-word .ensures) _ (c .before .next .given .1)
 
 returns-4 : tie.Need-returns-4 Inv-loop μ-loop
 returns-4 c = let l = c .before .loop in at-end _ _ _ (l .inv) (omega arith)

@@ -43,7 +43,8 @@ inputOf s =
 
 returns : tie.Need-returns
 unfolding inputOf
-returns c = band-refused (inputOf (c .before .before .before .before .before .before .before .before .before .before .before .before .before .before .before)) _ (c .before .before .before .checked-band .ensures) _ (c .before .found .given .1)
+returns c = band-refused (inputOf (c .before .before .before .before .before .before .before .before .before .before .before .before .before .before .before)) _
+    (c .before .before .before .checked-band .ensures) _ (c .before .found .given .1)
 
 abbrev start : tie.After-enum-told → tie.Start
 start c = c .before .before .before .before .before .before .before .before .before .before .before .before .before .before
