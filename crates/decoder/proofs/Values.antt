@@ -73,6 +73,8 @@ use Rattle.decoder.proofs.band_rows.Kinds as band-rows-kinds
 use Rattle.decoder.proofs.band_rows.Reads as band-rows-reads
 use Rattle.decoder.proofs.in_format.Kinds as in-format-kinds
 use Rattle.decoder.proofs.in_format.Reads as in-format-reads
+use Rattle.decoder.proofs.roots_along.Kinds as roots-along-kinds
+use Rattle.decoder.proofs.roots_along.Reads as roots-along-reads
 use Rattle.decoder.proofs.rows_above.Kinds as rows-above-kinds
 use Rattle.decoder.proofs.rows_above.Reads as rows-above-reads
 use Rattle.decoder.proofs.mask_of.Kinds as mask-of-kinds
@@ -173,6 +175,9 @@ band-rows-once κs a r r′ x x′ p q = p ∙ sym q
 
 pub in-format-once : Sole 0 in-format-kinds.ps in-format-kinds.r in-format-reads.Post (λ κs r x. r)
 in-format-once κs a r r′ x x′ p q = p ∙ sym q
+
+pub roots-along-once : Sole 0 roots-along-kinds.ps roots-along-kinds.r roots-along-reads.Post (λ κs r x. r)
+roots-along-once κs a r r′ x x′ p q = p ∙ sym q
 
 pub rows-above-once : Sole 0 rows-above-kinds.ps rows-above-kinds.r rows-above-reads.Post (λ κs r x. r)
 rows-above-once κs a r r′ x x′ p q = p ∙ sym q

@@ -49,6 +49,7 @@ pub use def::in_format;
 pub use def::leaf_word;
 pub use def::pel2scu;
 pub use def::refusal_number;
+pub use def::roots_along;
 pub use def::set_cod;
 pub use def::size_ok;
 pub use def::unit_ok;

@@ -6,7 +6,7 @@ ghost use Rattle.def.specs.Answers.{answerNumber};
 ghost use Rattle.def.specs.Blocks.{blockSideOk, componentSideOk, blockOk, unitOk};
 ghost use Rattle.def.specs.Components.{scaleOf};
 ghost use Rattle.def.specs.Formats.{inFormat};
-ghost use Rattle.def.specs.Picture.{sizeOk};
+ghost use Rattle.def.specs.Picture.{sizeOk, rootsAlong};
 ghost use Rattle.def.specs.Refusals.{numberOf};
 ghost use Rattle.def.specs.Word.{intraOf, qpOf, codedOf, doneOf, withDone, withoutDone, bit, leafWord};
 
@@ -125,6 +125,13 @@ pub fn size_ok(w: usize, h: usize) -> bool
     ensures { λ r. ⌜ r ≡ sizeOk w h ⌝ }
 {
     (4 <= w) & (w <= 4096) & (w % 4 == 0) & (4 <= h) & (h <= 4096) & (h % 4 == 0)
+}
+
+// How many root blocks lie along a side of n samples: those of 64, and one for what is left. No side wraps.
+pub fn roots_along(n: usize) -> usize
+    ensures { λ r. ⌜ r ≡ rootsAlong n ⌝ }
+{
+    n / 64 + (n % 64 + 63) / 64
 }
 
 // Whether a side is one of a block's in luma: 4, 8, 16, 32 or 64.
