@@ -39,6 +39,7 @@ use Rattle.split.specs.CheckCall as check
 use Rattle.split.specs.LeavesCall as leaves
 use Rattle.split.specs.ListCall as list
 use Rattle.split.specs.RootCall as root-list
+use Rattle.split.specs.RootLeavesCall as root-leaves
 use Rattle.split.specs.Walk.{onward, inTurn, leafWalk, byByte, walk}
 use Rattle.bits.specs.Bits.{bitAt}
 use Rattle.marks.specs.ListCall as marked
@@ -125,6 +126,7 @@ given =
     ∷ recon.outcome (record { coded = true; side = 2; pred = replicate 4 0; coef = replicate 4 (pos 0); rec = replicate 4 0 }) .number
     ∷ plane.outcome (record { component = Luma; w = 4; h = 4; x = 0; y = 0; side = 4; coded = true; pred = replicate 16 0; coef = replicate 16 (pos 0); rec = replicate 16 0 }) .number
     ∷ leaves.outcome (record { w = 4; h = 4; splits = cut; x = 0; y = 0; out = replicate 768 0 }) .reading .number
+    ∷ root-leaves.outcome (record { w = 4; h = 4; splits = cut; root = 0; out = replicate 768 0 }) .reading .number
     ∷ check.outcome (record { w = 4; h = 4; splits = cut }) .number
     ∷ rank.outcome (record { x = 15; y = 15 }) .reading .number
     ∷ list.outcome (record { w = 4; h = 4; splits = cut; limit = 5; vertical = 0 ∷ 0 ∷ []; horizontal = 0 ∷ 0 ∷ [] }) .reading .number
@@ -137,7 +139,7 @@ given =
     ∷ deblock.outcome (withoutColour picture) .reading .number
     ∷ []
 
-pub accepted : given ≡ replicate 19 0
+pub accepted : given ≡ replicate 20 0
 unfolding derived.outcome points-check.check points-check.lengthsOk points-check.pointsOk points-check.pivotsOk points-check.pivotOk inOf outOf avail.intraOutcome
     avail.interOutcome avail.checkOf ranks.numberOutcome ranks.check ranks.lengthsOk ranks.modesOk gather.outcome gather.checkOf gather.lengthsOk gather.samplesOk gather.runAt
     gather.nearAt predict.outcome predict.lengthsOk recon.outcome recon.blockCheck recon.lengthsOk plane.outcome plane.planeCheck plane.blockLengthsOk leaves.outcome leaves.checkOf

@@ -63,6 +63,7 @@ use Rattle.split.specs.LeavesCall as leaves
 use Rattle.split.specs.ListCall as list
 use Rattle.split.specs.Picture.{leavesOf}
 use Rattle.split.specs.RootCall as root-list
+use Rattle.split.specs.RootLeavesCall as root-leaves
 use Rattle.split.specs.Walk.{onward, inTurn, leafWalk, byByte, walk}
 use Rattle.split.proofs.Apart.{leaves-apart, list-apart}
 use Rattle.df_check.specs.BandCheck as band-checks
@@ -127,6 +128,8 @@ use Rattle.decoder.proofs.reconstruct.Kinds as reconstruct-kinds
 use Rattle.decoder.proofs.reconstruct.Reads as reconstruct-reads
 use Rattle.decoder.proofs.leaves.Kinds as leaves-kinds
 use Rattle.decoder.proofs.leaves.Reads as leaves-reads
+use Rattle.decoder.proofs.root_leaves.Kinds as root-leaves-kinds
+use Rattle.decoder.proofs.root_leaves.Reads as root-leaves-reads
 use Rattle.decoder.proofs.check.Kinds as check-kinds
 use Rattle.decoder.proofs.check.Reads as check-reads
 use Rattle.decoder.proofs.visiting_rank.Kinds as visiting-rank-kinds
@@ -395,6 +398,9 @@ recon-plane-refusals =
 pub leaves-once : Sole 2 leaves-kinds.ps leaves-kinds.r leaves-reads.Post (λ κs r x. ended r (now (x .1 .1 .1 .1 .1 .0) ∷ []))
 leaves-once κs a r r′ x x′ p q = settled leaves.outcome (λ o. o .reading) (λ o. o .out ∷ []) p q (leaves-apart r r′)
 
+pub root-leaves-once : Sole 2 root-leaves-kinds.ps root-leaves-kinds.r root-leaves-reads.Post (λ κs r x. ended r (now (x .1 .1 .1 .1 .0) ∷ []))
+root-leaves-once κs a r r′ x x′ p q = settled root-leaves.outcome (λ o. o .reading) (λ o. o .out ∷ []) p q (leaves-apart r r′)
+
 pub check-once : Sole 1 check-kinds.ps check-kinds.r check-reads.Post (λ κs r x. r)
 check-once κs a r r′ x x′ p q = told check.outcome (λ o. o .number) p q (answer-apart r r′)
 
@@ -428,6 +434,18 @@ leaves-refusals =
           (rung (leaves.rootOk (i .w) (i .h) (i .x) (i .y)) Block _
           (root-stops (i .splits) (i .w / 4) (i .h / 4) (leaves.rootIndex (i .w) (i .x) (i .y))))));
       shown = walked 5 torn 1 ∷ walked 4 torn 1 ∷ walked 4 (root 2) 1 ∷ walked 4 (root 2) 0 ∷ walked 4 (root 0) 0 ∷ [];
+      given = refl;
+    }
+
+abbrev numbered : ℕ → List ℕ → ℕ → root-leaves.Input
+numbered h splits i = record { w = 4; h = h; splits = splits; root = i; out = replicate 768 0 }
+
+pub root-leaves-refusals : Refuses root-leaves.outcome (λ o. o .reading .number) (Size ∷ Length ∷ Block ∷ Split ∷ Leaf ∷ [])
+unfolding leaves.outcome leaves.checkOf leaves.lengthsOk leaves.rootOk sizeOk walk byByte inTurn onward leafWalk
+root-leaves-refusals =
+    record {
+      only = λ i. leaves-refusals .only (root-leaves.placed i);
+      shown = numbered 5 torn 1 ∷ numbered 4 torn 1 ∷ numbered 4 (root 2) 1 ∷ numbered 4 (root 2) 0 ∷ numbered 4 (root 0) 0 ∷ [];
       given = refl;
     }
 

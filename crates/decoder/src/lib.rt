@@ -8,7 +8,7 @@
 //     5 five modes      ipred_b
 //     6 residual        recon, recon_plane
 //     7 driver          reconstruct; checked_leaves, coded_y, coded_u, coded_v, mode_of, word_of
-//     8 walk            leaves, check, visiting_rank, list_edges, root_list; list_marks, take_marks, mark_place, mark_byte, root_count
+//     8 walk            leaves, check, visiting_rank, list_edges; root_leaves, root_list, list_marks, take_marks, mark_place, mark_byte, root_count
 //       deblocking      deblock; Bands::first, deblock_band; checked, checked_band, band_rows, rows_above, entries, mask_of, line, lanes, motion_row
 //       edge rows       fill_rows, set_motion, set_flag, deblock_by_rows; row_at, rows_right
 //     the sheet         read, listing
@@ -16,7 +16,7 @@
 //     a torn map        mend
 //     streams           read_header, write_header, read_frame, write_frame, import_frame
 // Inside are those that a caller needs none of. They are public because another crate calls them, and total like the rest: checked_points, start_qp, delta_in,
-// delta_out, checked_leaves, coded_y, coded_u, coded_v, mode_of, word_of, root_list, list_marks, take_marks, mark_place, mark_byte, root_count, checked,
+// delta_out, checked_leaves, coded_y, coded_u, coded_v, mode_of, word_of, root_leaves, root_list, list_marks, take_marks, mark_place, mark_byte, root_count, checked,
 // checked_band, entries, mask_of, line, lanes, motion_row, read.
 pub use avail::Avail;
 pub use avail::Neighbours;
@@ -120,6 +120,7 @@ pub use split::Listed;
 pub use split::Walked;
 pub use split::check;
 pub use split::leaves;
+pub use split::root_leaves;
 pub use strength::entries;
 pub use y4m::import_frame;
 pub use y4m_frame::FrameRead;

@@ -1,11 +1,11 @@
--- What a caller learns from the contracts of `leaves` and `check`.
+-- What a caller learns from the contracts of `leaves`, `root_leaves` and `check`.
 --     check-told    a picture that `check` does not refuse is accepted
 --     check-answer    where size and length are right, what `check` answers is what the walk finds
 --     leaves-told    a list that `leaves` filled reads back as the root's leaves
 --     leaves-given    of an accepted picture `leaves` refuses no root
 --     leaves-met    where its checks pass, `leaves` does not refuse
 --     index-back    the number of the root at the place of root i is i
---     root-met, root-told    of an accepted picture the call for root i is not refused, and its list holds the root's leaves
+--     root-met, root-told    of an accepted picture `root_leaves` does not refuse root i, and its list holds the root's leaves
 -- Assumes nothing.
 use mathlib.Core.Bool.{true}
 use mathlib.Core.List.{List, List·Memᴰ, List·Memᴰ·head, Memᴰ·append-left, Memᴰ·append-right}
@@ -30,6 +30,7 @@ use Rattle.laws.specs.Orders.{each}
 use Rattle.split.specs.CheckCall as check-call
 use Rattle.split.specs.LeavesCall as leaves-call
 use Rattle.split.specs.Picture.{roots, rootWalk, rootLeaves, pictureWalk}
+use Rattle.split.specs.RootLeavesCall as root-leaves-call
 use Rattle.split.specs.Stored.{leafNumbers, counted, leafFrom, leavesFrom, LeafAt, Ready, Stored}
 use Rattle.split.specs.declared.Walked.{Walked}
 use Rattle.split.specs.declared.Walked.the-variants.{Done as Counted, Refused as NotCounted}
@@ -122,10 +123,6 @@ leaves-met i r o q d e z =
 
 -- ---- the roots of an accepted picture
 
--- the call for root i
-abbrev pub rootInput : (w h : ℕ) → List ℕ → ℕ → List ℕ → leaves-call.Input
-rootInput w h s i out = record { w = w; h = h; splits = s; x = 64 * (i % rootsAlong w); y = 64 * (i / rootsAlong w); out = out }
-
 -- leaf j of a list, in a picture of w by h units
 pub record Leafed (w h : ℕ) (list : List ℕ) (j : ℕ) : Type 0 where
   pub numbers : LeafAt (getD list (3 * j) 0) (getD list (3 * j + 1) 0) (getD list (3 * j + 2) 0)
@@ -148,17 +145,17 @@ from-in list (suc n) j l =
     (λ t. let ne = eqb-false j n t in Memᴰ·append-left _ (from-in list n j (omega arith)))
 
 module _ (w h : ℕ) (s : List ℕ) (size : sizeOk w h ≡ true) (bytes : length s ≡ 1024 * rootCount w h) (walked : pictureWalk s (w / 4) (h / 4) .answer ≡ Done) (i : ℕ) (early : i < rootCount w h)
-    (out list : List ℕ) (r : Walked) (room : length out ≡ 768) (g : Gives leaves-call.outcome (rootInput w h s i out) (leaves-call.after r list)) where
+    (out list : List ℕ) (r : Walked) (room : length out ≡ 768) (g : Gives root-leaves-call.outcome (record { w = w; h = h; splits = s; root = i; out = out }) (leaves-call.after r list)) where
   pub root-met : (q : Refusal) → r ≡ NotCounted q → ⊥
   root-met q =
       let z = sized w h size in
       let d = leaves-given w h s _ _ size bytes walked (omega arith) (omega arith) (root-column z i early) (root-row z i early) in
-      leaves-met (rootInput w h s i out) r list q (rw room d) g
+      leaves-met _ r list q (rw room d) g
 
   pub root-told : (n : ℕ) → r ≡ Counted n → RootTold w h s i list n
   root-told n e =
       let z = sized w h size in
-      let t = leaves-told (rootInput w h s i out) list n (rw e at g) in
+      let t = leaves-told _ list n (rw e at g) in
       let same : leavesFrom list n ≡ rootLeaves s (w / 4) (h / 4) i = t .back ∙ ap (rootLeaves s (w / 4) (h / 4)) (index-back w i) in
       let long = t .same-long ∙ room in
       let fine = each-done (rootWalk s (w / 4) (h / 4)) (roots (w / 4) (h / 4)) walked in

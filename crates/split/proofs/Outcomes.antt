@@ -1,17 +1,18 @@
 -- The outcomes of the public calls, by what their checks find.
 -- Assumes nothing.
-use mathlib.Core.Bool.{Bool, true, false}
+use mathlib.Core.Bool.{Bool, true, false, _&&_}
 use mathlib.Core.List.{List, [], _∷_}
 use mathlib.Core.Path.{_≡_, refl, sym, ap, ap₂, _∙_}
-use Prim.Native.Nat.{ℕ, _*_, _/_, _%_, _≤_, _<_}
+use Prim.Native.Nat.{ℕ, _+_, _*_, _/_, _%_, _≤_, _<_}
 use native.Mathlib.Nat.{zero-add}
 use native.Mathlib.Omega.{arith}
-use borrow.Author.Tests.{eqb-true, ltb-true}
-use lib.Dec.{eqb}
+use borrow.Author.Tests.{eqb-true, ltb-true, ltb-false, eq-eqb, lt-ltb, le-ltb}
+use lib.Arith.{digits-div, digits-mod}
+use lib.Dec.{ltb, eqb}
 use lib.ListN.{length, take}
 use lib.Seq.{sets}
 use Rattle.def.specs.Answers.{answerNumber, afterChecks}
-use Rattle.def.specs.Picture.{sizeOk, rootCount}
+use Rattle.def.specs.Picture.{sizeOk, rootsAlong, rootCount}
 use Rattle.def.specs.Refusals.{numberOf}
 use Rattle.def.specs.declared.Answer.{Answer}
 use Rattle.def.specs.declared.Answer.the-variants.{Done, Refused}
@@ -19,14 +20,18 @@ use Rattle.def.specs.declared.Refusal.{Refusal}
 use Rattle.def.specs.declared.Refusal.the-variants.{Size, Length, Block}
 use Rattle.def.proofs.Sizes.{Sized, sized}
 use Rattle.laws.specs.Call.{unless}
+use Rattle.laws.specs.Index.{pick}
 use Rattle.laws.specs.Orders.{each}
 use Rattle.laws.proofs.Calls.{all-at}
 use Rattle.split.specs.CheckCall as check-call
 use Rattle.split.specs.LeavesCall as leaves-call
 use Rattle.split.specs.Picture.{rootBytes, rootWalk}
+use Rattle.split.specs.RootLeavesCall as root-leaves-call
 use Rattle.split.specs.Stored.{leafNumbers, counted, Stored}
 use Rattle.split.specs.declared.Walked.{Walked}
 use Rattle.split.specs.declared.Walked.the-variants.{Done as Counted, Refused as NotCounted}
+use Rattle.split.proofs.Induct.{test}
+use Rattle.split.proofs.Roots.{few-roots, number-column, number-below, root-row}
 use Rattle.split.proofs.Stores.{take-sets, thrice, counted-done, counted-refused}
 use Rattle.split.proofs.Walks.{not-done, few-leaves}
 
@@ -120,3 +125,51 @@ pub leaves-refused : (i : leaves-call.Input) (list : List ℕ) (q : Refusal) (r 
     → leaves-call.Met (i .w) (i .h) (i .splits) (i .x) (i .y) (length (i .out)) list r → r ≡ NotCounted q → leaves-call.after (NotCounted q) (i .out) ≡ leaves-call.outcome i
 unfolding leaves-call.outcome
 leaves-refused i list q r m e = rw (counted-refused q _ (leaves-call.check i) (sym e ∙ m .answer))
+
+-- ---- leaves, by a root's number
+
+-- a number's place is a root's where a root has the number
+pub root-fits : {w h : ℕ} → Sized w h → (i : ℕ) → leaves-call.rootOk w h (64 * (i % rootsAlong w)) (64 * (i / rootsAlong w)) ≡ ltb i (rootCount w h)
+unfolding leaves-call.rootOk
+root-fits {w} {h} z i =
+    let cx : 64 * (i % rootsAlong w) % 64 ≡ 0 = omega arith in
+    let cy : 64 * (i / rootsAlong w) % 64 ≡ 0 = omega arith in
+    let px = lt-ltb _ _ (number-column z i) in
+    test (ltb i (rootCount w h))
+    (λ t. rw (eq-eqb _ _ cx, eq-eqb _ _ cy, px, lt-ltb _ _ (root-row z i (ltb-true _ _ t)), t))
+    (λ t. rw (eq-eqb _ _ cx, eq-eqb _ _ cy, px, le-ltb _ _ (number-below z i (ltb-false _ _ t)), t))
+
+-- the call at a place is the one for the number of the root there, and for a number that no root has where none stands there
+module _ (w h : ℕ) (s : List ℕ) (x y : ℕ) (out : List ℕ) where
+  abbrev at-place : leaves-call.Input
+  at-place = record { w = w; h = h; splits = s; x = x; y = y; out = out }
+
+  abbrev at-number : ℕ → root-leaves-call.Input
+  at-number n = record { w = w; h = h; splits = s; root = n; out = out }
+
+  no-size : (n : ℕ) → sizeOk w h ≡ false → root-leaves-call.outcome (at-number n) ≡ leaves-call.outcome at-place
+  unfolding leaves-call.outcome leaves-call.checkOf
+  no-size n e = rw e
+
+  no-root : sizeOk w h ≡ true → leaves-call.rootOk w h x y ≡ false → root-leaves-call.outcome (at-number 4096) ≡ leaves-call.outcome at-place
+  unfolding leaves-call.outcome leaves-call.checkOf
+  no-root e f =
+      let z = sized w h e in
+      let g = root-fits z 4096 ∙ le-ltb 4096 (rootCount w h) (few-roots w h (z .wide) (z .high)) in
+      test (leaves-call.lengthsOk w h (length s) (length out)) (λ t. rw (e, t, f, g)) (λ t. rw (e, t))
+
+  some-root : leaves-call.rootOk w h x y ≡ true → root-leaves-call.outcome (at-number (leaves-call.rootIndex w x y)) ≡ leaves-call.outcome at-place
+  some-root e =
+      let r = root-told w h x y e in
+      let l : x / 64 < rootsAlong w = omega (arith, r .2) in
+      let a : 64 * (leaves-call.rootIndex w x y % rootsAlong w) ≡ x = ap (λ (n : ℕ). 64 * n) (digits-mod (y / 64) l) ∙ omega (arith, r .0) in
+      let b : 64 * (leaves-call.rootIndex w x y / rootsAlong w) ≡ y = ap (λ (n : ℕ). 64 * n) (digits-div (y / 64) l) ∙ omega (arith, r .1) in
+      λ j. leaves-call.outcome (record { w = w; h = h; splits = s; x = a j; y = b j; out = out })
+
+  pub by-root : (n : ℕ) → n ≡ pick (sizeOk w h && leaves-call.rootOk w h x y) (leaves-call.rootIndex w x y) 4096 → root-leaves-call.outcome (at-number n) ≡ leaves-call.outcome at-place
+  by-root n q =
+      test (sizeOk w h)
+      (λ e. test (leaves-call.rootOk w h x y)
+      (λ f. ap (λ (m : ℕ). root-leaves-call.outcome (at-number m)) (q ∙ rw (e, f)) ∙ some-root f)
+      (λ f. ap (λ (m : ℕ). root-leaves-call.outcome (at-number m)) (q ∙ rw (e, f)) ∙ no-root e f))
+      (no-size n)

@@ -73,10 +73,20 @@ module _ {w h : ℕ} (z : Sized w h) where
   pub few-units : w / 4 * (h / 4) ≤ 1048576
   few-units = mul-le-mul {n₁ = w / 4} {m₁ = h / 4} {n₂ = 1024} {m₂ = 1024} (omega arith) (omega arith)
 
+  -- the place of a number: its column lies in the picture, and its row below it where no root has the number
+  pub number-column : (i : ℕ) → 64 * (i % rootsAlong w) < w
+  number-column i = let e = across-units in let c = column-in (w / 4) i some-wide in let c′ : 16 * (i % rootsAlong w) < w / 4 = rw e at c in omega arith
+
+  pub number-below : (i : ℕ) → rootCount w h ≤ i → h ≤ 64 * (i / rootsAlong w)
+  number-below i l =
+      test (ltb (i / rootsAlong w) (rootsAlong h))
+      (λ t. let g = div-lt-iff-lt-mul {k = rootsAlong w} {x = i} {y = rootsAlong h} (omega arith) .0 (ltb-true _ _ t) in absurd (omega (arith, mul-comm (rootsAlong h) (rootsAlong w))))
+      (λ t. let g = ltb-false (i / rootsAlong w) (rootsAlong h) t in omega arith)
+
   -- root i stands on a multiple of 64, inside
   module _ (i : ℕ) (l : i < rootCount w h) where
     pub root-column : 64 * (i % rootsAlong w) < w
-    root-column = let e = across-units in let c = column-in (w / 4) i some-wide in let c′ : 16 * (i % rootsAlong w) < w / 4 = rw e at c in omega arith
+    root-column = number-column i
 
     pub root-row : 64 * (i / rootsAlong w) < h
     root-row =
@@ -113,11 +123,12 @@ module _ {w h : ℕ} (z : Sized w h) where
   pub bytes-long : (s : List ℕ) (i : ℕ) → i < rootCount w h → length s ≡ 1024 * rootCount w h → length (take (1024 * i + 1024 - 1024 * i) (drop (1024 * i) s)) ≡ 1024
   bytes-long s i l e = simp (length-take, length-drop) (omega arith)
 
-  pub root-same : (s : List ℕ) (i : ℕ) → walk (take (1024 * i + 1024 - 1024 * i) (drop (1024 * i) s)) (w / 4) (h / 4) 4 (64 * (i % rootsAlong w) / 4)
-      (64 * (i / rootsAlong w) / 4) ≡ rootWalk s (w / 4) (h / 4) i
-  root-same s i =
+  -- m: how many roots lie across, as the code has it
+  pub root-same : (s : List ℕ) (i m : ℕ) → m ≡ rootsAlong w
+      → walk (take (1024 * i + 1024 - 1024 * i) (drop (1024 * i) s)) (w / 4) (h / 4) 4 (64 * (i % m) / 4) (64 * (i / m) / 4) ≡ rootWalk s (w / 4) (h / 4) i
+  root-same s i m q =
       let e = across-units in
       let a : 64 * (i % rootsAlong w) / 4 ≡ 16 * (i % rootsAlong w) = omega arith in
       let b : 64 * (i / rootsAlong w) / 4 ≡ 16 * (i / rootsAlong w) = omega arith in
       let n : 1024 * i + 1024 - 1024 * i ≡ 1024 = omega arith in
-      rw (a, b, e, n)
+      rw (q, a, b, e, n)

@@ -8,6 +8,7 @@ pub mod Order
 pub mod Passes
 pub mod Picture
 pub mod RootCall
+pub mod RootLeavesCall
 pub mod Rows
 pub mod Stored
 pub mod Tiling

@@ -1,5 +1,6 @@
 // The split tree: the walk from a root to its leaves. What both passes' lists of edges are is said here too; the crate `edges` writes them.
 // The Rust beside it: evc_get_split_mode and evc_split_get_part_structure in util.rs, the recursion of evc_deblock_tree in df.rs.
+ghost use mathlib.Core.Bool.{_&&_};
 ghost use mathlib.Core.List.{List};
 ghost use mathlib.Core.Path.{_≡_};
 ghost use Prim.Native.Nat.{ℕ, _+_, _-_, _*_, _/_, _%_, _^_, _≤_, _<_};
@@ -7,17 +8,20 @@ ghost use lib.ListN.{length, getD, take};
 ghost use lib.Seq.{sets};
 ghost use Rattle.def.specs.Answers.{answerNumber};
 ghost use Rattle.def.proofs.Sizes.{Sized};
-ghost use Rattle.def.specs.Picture.{rootCount};
+ghost use Rattle.def.specs.Picture.{sizeOk, rootsAlong, rootCount};
 ghost use Rattle.laws.specs.Call.{Gives};
+ghost use Rattle.laws.specs.Index.{pick};
 ghost use Rattle.split.specs.CheckCall as CheckCall;
 ghost use Rattle.split.specs.LeavesCall as LeavesCall;
 ghost use Rattle.split.specs.Picture.{rootWalk, pictureWalk};
+ghost use Rattle.split.specs.RootLeavesCall as RootLeavesCall;
 ghost use Rattle.split.specs.Stored.{Block, Stored};
 ghost use Rattle.split.specs.Walk.{walk, leafWalk};
 use def::Answer;
 use def::Pel;
 use def::Refusal;
 use def::pel2scu;
+use def::roots_along;
 use def::size_ok;
 
 // How many leaves were listed.
@@ -185,12 +189,12 @@ fn walk_block(
     Walked::Done(count)
 }
 
-// The leaves of root i, in raster order, of a picture of w by h.
-fn root_leaves(w: usize, h: usize, splits: &[u8], i: usize, out: &mut [u16]) -> Walked
+// The walk of root i, in raster order, of a picture of w by h.
+fn walk_root(w: usize, h: usize, splits: &[u8], i: usize, out: &mut [u16]) -> Walked
     requires { ⌜ Sized w h × (length (now splits) ≡ 1024 * rootCount w h) × (i < rootCount w h) × (length (now out) ≡ 768) ⌝ }
     ensures { λ r. ⌜ Stored (rootWalk (now (splits .entry)) (w / 4) (h / 4) i) (now (out .entry)) 0 (now (out .exit)) r ⌝ }
 {
-    let across = (w + 63) / 64;
+    let across = roots_along(w);
     let start = 1024 * i;
     let end = start + 1024;
     let x = Pel(64 * (i % across));
@@ -203,7 +207,7 @@ fn root_count(w: usize, h: usize) -> usize
     requires { ⌜ (w ≤ 4096) × (h ≤ 4096) ⌝ }
     ensures { λ r. ⌜ (r ≡ rootCount w h) × (r ≤ 4096) ⌝ }
 {
-    (w + 63) / 64 * ((h + 63) / 64)
+    roots_along(w) * roots_along(h)
 }
 
 // Whether the walk of the whole picture is refused.
@@ -215,7 +219,7 @@ fn walk_picture(w: usize, h: usize, splits: &[u8]) -> Answer
     let mut list = [0u16; 768];
     let mut i = 0;
     while i < n {
-        if let Walked::Refused(r) = root_leaves(w, h, splits, i, &mut list) {
+        if let Walked::Refused(r) = walk_root(w, h, splits, i, &mut list) {
             return Answer::Refused(r);
         }
         i += 1;
@@ -233,39 +237,21 @@ fn leaves_lengths_ok(w: usize, h: usize, splits: usize, out: usize) -> bool
     (splits == 1024 * root_count(w, h)) & (out == 768)
 }
 
-// Whether (x, y) is the place of a root of a picture of w by h.
-fn root_ok(w: usize, h: usize, x: Pel, y: Pel) -> bool
-    ensures { λ r. ⌜ r ≡ LeavesCall.rootOk w h (x .0) (y .0) ⌝ }
-{
-    (x.0 % 64 == 0) & (y.0 % 64 == 0) & (x.0 < w) & (y.0 < h)
-}
-
-// The checks of `leaves`, the walk among them: it leaves the leaves in a list of the caller's own.
-fn met_leaves(
-    w: usize,
-    h: usize,
-    splits: &[u8],
-    x: Pel,
-    y: Pel,
-    out: usize,
-    list: &mut [u16],
-) -> Walked
+// The checks of `root_leaves`, the walk among them: it leaves the leaves in a list of the caller's own.
+fn met_leaves(w: usize, h: usize, splits: &[u8], i: usize, out: usize, list: &mut [u16]) -> Walked
     requires { ⌜ length (now list) ≡ 768 ⌝ }
-    ensures { λ r. ⌜ LeavesCall.Met w h (now (splits .entry)) (x .0) (y .0) out (now (list .exit)) r ⌝ }
+    ensures { λ r. ⌜ LeavesCall.Met w h (now (splits .entry)) (64 * (i % rootsAlong w)) (64 * (i / rootsAlong w)) out (now (list .exit)) r ⌝ }
 {
-    let px = x.0;
-    let py = y.0;
     if !size_ok(w, h) {
         return Walked::Refused(Refusal::Size);
     }
     if !leaves_lengths_ok(w, h, splits.len(), out) {
         return Walked::Refused(Refusal::Length);
     }
-    if !root_ok(w, h, x, y) {
+    if root_count(w, h) <= i {
         return Walked::Refused(Refusal::Block);
     }
-    let i = py / 64 * ((w + 63) / 64) + px / 64;
-    root_leaves(w, h, splits, i, list)
+    walk_root(w, h, splits, i, list)
 }
 
 // The first n numbers of a list, put first into another.
@@ -280,20 +266,48 @@ fn copy(list: &[u16], n: usize, out: &mut [u16])
     }
 }
 
-// The leaves of the root at (x, y) of a picture of w by h, in the order of the walk: x, y and side of each, in luma samples.
-pub fn leaves(w: usize, h: usize, splits: &[u8], x: Pel, y: Pel, out: &mut [u16]) -> Walked
-    ensures { λ r. ⌜ Gives LeavesCall.outcome
-        (record { w = w; h = h; splits = now (splits .entry); x = x .0; y = y .0; out = now (out .entry) })
-        (record { reading = LeavesCall.readingOf r; out = now (out .exit) }) ⌝ }
+// The leaves of root i, in raster order, of a picture of w by h, in the order of the walk: x, y and side of each, in luma samples.
+pub fn root_leaves(w: usize, h: usize, splits: &[u8], i: usize, out: &mut [u16]) -> Walked
+    ensures { λ r. ⌜ Gives RootLeavesCall.outcome
+        (record { w = w; h = h; splits = now (splits .entry); root = i; out = now (out .entry) })
+        (LeavesCall.after r (now (out .exit))) ⌝ }
 {
     let mut list = [0u16; 768];
-    match met_leaves(w, h, splits, x, y, out.len(), &mut list) {
+    match met_leaves(w, h, splits, i, out.len(), &mut list) {
         Walked::Refused(r) => Walked::Refused(r),
         Walked::Done(n) => {
             copy(&list, 3 * n, out);
             Walked::Done(n)
         }
     }
+}
+
+// Whether (x, y) is the place of a root of a picture of w by h.
+fn root_ok(w: usize, h: usize, x: Pel, y: Pel) -> bool
+    ensures { λ r. ⌜ r ≡ LeavesCall.rootOk w h (x .0) (y .0) ⌝ }
+{
+    (x.0 % 64 == 0) & (y.0 % 64 == 0) & (x.0 < w) & (y.0 < h)
+}
+
+// The number of the root at (x, y), in raster order. Where none stands there it is 4096, which no root has.
+fn root_number(w: usize, h: usize, x: Pel, y: Pel) -> usize
+    ensures { λ r. ⌜ r ≡ pick (sizeOk w h && LeavesCall.rootOk w h (x .0) (y .0)) (LeavesCall.rootIndex w (x .0) (y .0)) 4096 ⌝ }
+{
+    let px = x.0;
+    let py = y.0;
+    if size_ok(w, h) & root_ok(w, h, x, y) {
+        return py / 64 * roots_along(w) + px / 64;
+    }
+    4096
+}
+
+// The leaves of the root at (x, y), as `root_leaves` lists them.
+pub fn leaves(w: usize, h: usize, splits: &[u8], x: Pel, y: Pel, out: &mut [u16]) -> Walked
+    ensures { λ r. ⌜ Gives LeavesCall.outcome
+        (record { w = w; h = h; splits = now (splits .entry); x = x .0; y = y .0; out = now (out .entry) })
+        (record { reading = LeavesCall.readingOf r; out = now (out .exit) }) ⌝ }
+{
+    root_leaves(w, h, splits, root_number(w, h, x, y), out)
 }
 
 // ---- check

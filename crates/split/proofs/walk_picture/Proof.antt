@@ -22,8 +22,8 @@ abbrev μ-loop : tie.MeasureT-loop
 loop-holds : tie.Need-loop-holds Inv-loop μ-loop
 loop-holds c = (omega arith, refl, ap (λ (v : Walk). v .answer) (turn-none _))
 
-root-leaves-requires : tie.Need-root-leaves-requires Inv-loop μ-loop
-root-leaves-requires c κs =
+walk-root-requires : tie.Need-walk-root-requires Inv-loop μ-loop
+walk-root-requires c κs =
     let p = c .before .before .before .before .before .pre in
     (p .0, p .1, omega (arith, c .before .loop-test .taken, c .before .before .before .root-count .ensures .0), c .before .before .loop .inv .1)
 
@@ -38,12 +38,12 @@ returns c =
       roots-units (a .pre .0),
     ) in
     sym (turn-refused (rootWalk (a .args .splits .now) (a .args .w / 4) (a .args .h / 4)) i _ _ l (c .before .before .before .before .before .before .before .loop .inv .2)
-    (stored-stop (c .before .before .before .before .root-leaves .ensures) _ (c .before .r .given .1)))
+    (stored-stop (c .before .before .before .before .walk-root .ensures) _ (c .before .r .given .1)))
 
 loop-again : tie.Need-loop-again Inv-loop μ-loop
 loop-again c =
     let v = c .before .before .before .before .before .before .loop .inv in
-    let r = c .before .before .before .root-leaves in (
+    let r = c .before .before .before .walk-root in (
       omega arith,
       r .kept .1 .1 .1 .1 .0 ∙ v .1,
       turn-done _ _ (v .2) (stored-done (r .ensures) _ (c .enum-told .given .1) .0),
@@ -65,7 +65,7 @@ walk-picture-spec =
     (λ c κs. omega arith)
     loop-holds
     (λ c. omega arith)
-    root-leaves-requires
+    walk-root-requires
     (λ c. search needs)
     returns
     (λ c. search needs)
