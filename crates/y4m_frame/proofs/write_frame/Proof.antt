@@ -60,7 +60,13 @@ returns c = write-refused _ _ (c .before .before .before .checked-picture .ensur
 
 returns-2 : tie.Need-returns-2
 returns-2 c =
-    write-done _ _ (c .before .before .before .before .before .before .before .before .before .before .before .before .before .before .before .before .before .before .checked-picture .ensures) (c .before .before .before .before .before .before .before .before .before .before .before .before .before .before .before .before .enum-told .given .1) (c .before .before .before .before .before .before .before .before .before .before .before .before .before .before .put-line .ensures) (c .before .before .before .before .before .before .before .before .before .before .put-plane .ensures) (c .before .before .before .before .before .before .put-plane2 .ensures) (c .before .before .put-plane3 .ensures)
+    let v = c .before .before in
+    let u = v .before .before .before .before in
+    let y = u .before .before .before .before in
+    let line = y .before .before .before .before in
+    let told = line .before .before in
+    write-done _ _ (told .before .before .checked-picture .ensures) (told .enum-told .given .1)
+    (line .put-line .ensures) (y .put-plane .ensures) (u .put-plane2 .ensures) (v .put-plane3 .ensures)
 
 pub write-frame-spec : {M : Type 1} → statement M
 write-frame-spec =

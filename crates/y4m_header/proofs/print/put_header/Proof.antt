@@ -7,11 +7,20 @@ use Rattle.y4m_header.proofs.print.put_header.Tie as tie
 
 returns : tie.Need-returns
 returns c =
-    let a = c .before .before .before .before .before .before .before .before .before .before .before .before .before .before .before .before .before .before .before .before .before .before .before .before .before .before .before .before .args in
+    let end = c .before .before in
+    let aspect = end .before .before .before .before .before in
+    let scan = aspect .before .before .before .before in
+    let rate = scan .before .before .before .before .before in
+    let key = rate .before .before .before .before in
+    let sides = key .before .before .before .before .before in
+    let a = sides .before .before .before .args in
     put-as (header-text (a .w) (a .h) (a .f) (a .g) (a .a) (a .b))
-    (put-then (c .before .before .before .before .before .before .before .before .before .before .before .before .before .before .before .before .before .before .before .before .before .before .before .before .before .put-sides .ensures .0) (put-then (c .before .before .before .before .before .before .before .before .before .before .before .before .before .before .before .before .before .before .before .before .put-bytes .ensures) (put-then (c .before .before .before .before .before .before .before .before .before .before .before .before .before .before .before .before .put-ratio .ensures .0)
-    (put-then (c .before .before .before .before .before .before .before .before .before .before .before .put-bytes2 .ensures)
-    (put-then (c .before .before .before .before .before .before .before .put-ratio2 .ensures .0) (c .before .before .put-bytes3 .ensures))))))
+    (put-then (sides .put-sides .ensures .0)
+    (put-then (key .put-bytes .ensures)
+    (put-then (rate .put-ratio .ensures .0)
+    (put-then (scan .put-bytes2 .ensures)
+    (put-then (aspect .put-ratio2 .ensures .0)
+    (end .put-bytes3 .ensures))))))
 
 pub put-header-spec : {M : Type 1} → statement M
 put-header-spec =
