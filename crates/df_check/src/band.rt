@@ -1,6 +1,6 @@
 // What deblocking of a band refuses, and the rows of a band. The Rust has no bands.
 ghost use mathlib.Core.Path.{_≡_};
-ghost use Prim.Native.Nat.{_/_, _≤_};
+ghost use Prim.Native.Nat.{_/_};
 ghost use Rattle.laws.specs.Call.{Gives};
 ghost use Rattle.df_check.specs.BandCheck.{bandOk, checkOf};
 ghost use Rattle.df_check.specs.Rows.{bandRows, rowsAbove};
@@ -8,6 +8,7 @@ use crate::Settings;
 use crate::check::from_lengths;
 use def::Answer;
 use def::Refusal;
+use def::roots_along;
 
 // The rows of units of a band, in a picture of h luma rows: 16, but in the last what is left, and past the last none.
 pub fn band_rows(h: usize, band: usize) -> usize
@@ -31,10 +32,9 @@ pub fn rows_above(band: usize) -> usize
 }
 
 fn band_ok(next: usize, band: usize, h: usize) -> bool
-    requires { ⌜ h ≤ 4096 ⌝ }
     ensures { λ r. ⌜ r ≡ bandOk next band h ⌝ }
 {
-    (band == next) & (band < (h + 63) / 64)
+    (band == next) & (band < roots_along(h))
 }
 
 // 1, 14, and then what a picture's checks ask, of what is lent: the band above, if any, and the band.

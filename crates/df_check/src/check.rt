@@ -12,6 +12,7 @@ use def::Answer;
 use def::Format;
 use def::Refusal;
 use def::in_format;
+use def::roots_along;
 
 // ---- 2: lengths
 
@@ -38,7 +39,7 @@ fn lengths_ok(format: Format, w: usize, lent: usize, own: usize, n: Lengths) -> 
     let chroma = in_format(format, w / 2 * (lent / 2));
     let table = in_format(format, 70);
     let units = w / 4 * (lent / 4);
-    let roots = (w + 63) / 64 * ((own + 63) / 64);
+    let roots = roots_along(w) * roots_along(own);
     (n.y == w * lent)
         & (n.u == chroma)
         & (n.v == chroma)

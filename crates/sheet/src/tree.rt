@@ -12,6 +12,7 @@ use bits::put_bit;
 use def::Answer;
 use def::Refusal;
 use def::refusal_number;
+use def::roots_along;
 use pack::take_map;
 
 // The place after the digits that were taken.
@@ -25,7 +26,7 @@ pub(crate) fn root_count(w: usize, h: usize) -> usize
     requires { ⌜ Sides w h ⌝ }
     ensures { λ r. ⌜ (r ≡ roots (w / 4) (h / 4)) × (r ≤ 16) ⌝ }
 {
-    (w + 63) / 64 * ((h + 63) / 64)
+    roots_along(w) * roots_along(h)
 }
 
 // The digits as bits, from the first place on: a digit's low bit is its value.

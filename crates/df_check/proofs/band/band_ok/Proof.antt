@@ -1,5 +1,4 @@
 -- `df_check::band::band_ok` meets its contract: the code is the two tests. Assumes nothing.
-use mathlib.Core.Path.{refl}
 use borrow.Author.Needs.{needs}
 use Rattle.df_check.specs.BandCheck.{bandOk}
 use Rattle.df_check.proofs.band.band_ok.Statement.{statement}
@@ -7,7 +6,7 @@ use Rattle.df_check.proofs.band.band_ok.Tie as tie
 
 returns : tie.Need-returns
 unfolding bandOk
-returns c = refl
+returns c = rw (c .roots-along .ensures)
 
 pub band-ok-spec : {M : Type 1} → statement M
-band-ok-spec = tie.close (tie.spec (λ c. search needs) returns)
+band-ok-spec = tie.close (tie.spec (λ c κs. search needs) returns)

@@ -30,9 +30,6 @@ unjudged : (k : ℕ) → 4 * rowsAbove k - 4 * rowsAbove k / 16 ≡ 4 * (rowsAbo
 unjudged zero = refl
 unjudged (suc k) = refl
 
-band-ok-requires : tie.Need-band-ok-requires
-band-ok-requires c κs = sized _ _ (size c) .high
-
 returns : tie.Need-returns
 unfolding checkOf
 returns c = stops _ _ _ _ (c .before .size-ok .ensures) (c .if1 .taken)
@@ -119,7 +116,7 @@ checked-band-spec =
     (tie.spec
     (λ c κs. search needs)
     returns
-    band-ok-requires
+    (λ c κs. search needs)
     returns-2
     (λ c κs. search needs)
     mul-own

@@ -1,9 +1,10 @@
 -- `df_check::check::lengths_ok` meets its contract: the products fit, and the code is the list of tests, at the format's lengths. Assumes nothing.
-use Prim.Native.Nat.{_/_}
-use mathlib.Core.Path.{refl}
+use Prim.Native.Nat.{_*_, _/_, _≤_}
+use mathlib.Core.Path.{_≡_, refl, ap₂}
 use native.Mathlib.Nat.{mul-le-mul}
 use native.Mathlib.Omega.{arith}
 use borrow.Author.Needs.{needs}
+use Rattle.def.specs.Picture.{rootCount}
 use Rattle.split.proofs.Roots.{few-units, few-roots}
 use Rattle.df_check.specs.Checks.{lengthsOk}
 use Rattle.df_check.proofs.check.lengths_ok.Statement.{statement}
@@ -15,31 +16,39 @@ mul-in-format c = omega (arith, c .pre .0 .wide, c .pre .0 .high, mul-le-mul {n�
 mul-units : tie.Need-mul-units
 mul-units c = omega (arith, few-units (c .before .before .pre .0))
 
+module _ (c : tie.After-roots-along2) where
+  abbrev s : tie.Start
+  s = c .before .before .before .before
+
+  same : c .before .roots-along .result * c .roots-along2 .result ≡ rootCount (s .args .w) (s .args .own)
+  same = ap₂ _*_ (c .before .roots-along .ensures) (c .roots-along2 .ensures)
+
+  few : c .before .roots-along .result * c .roots-along2 .result ≤ 4096
+  few = omega (arith, same, few-roots (s .args .w) (s .args .own) (s .pre .1 .wide) (s .pre .1 .high))
+
 mul-roots : tie.Need-mul-roots
-mul-roots c = let s = c .before .before in omega (arith, few-roots (s .args .w) (s .args .own) (s .pre .1 .wide) (s .pre .1 .high))
+mul-roots c = omega (arith, few c)
 
 mul-result : tie.Need-mul-result
-mul-result c = let s = c .before .before in omega (arith, mul-le-mul (s .pre .0 .wide) (s .pre .0 .high))
+mul-result c = let p = s c .pre in omega (arith, mul-le-mul (p .0 .wide) (p .0 .high))
 
 mul-result-2 : tie.Need-mul-result-2
-mul-result-2 c =
-    let s = c .before .before .before .before .before .before in
-    omega (arith, few-roots (s .args .w) (s .args .own) (s .pre .1 .wide) (s .pre .1 .high))
+mul-result-2 c = omega (arith, few (c .before .before .before .before))
 
 mul-result-3 : tie.Need-mul-result-3
-mul-result-3 c = omega (arith, few-units (c .before .before .before .before .before .before .before .pre .0))
+mul-result-3 c = omega (arith, few-units (s (c .before .before .before .before .before) .pre .0))
 
 mul-result-4 : tie.Need-mul-result-4
-mul-result-4 c = omega (arith, few-units (c .before .before .before .before .before .before .before .before .pre .0))
+mul-result-4 c = omega (arith, few-units (s (c .before .before .before .before .before .before) .pre .0))
 
 returns : tie.Need-returns
 unfolding lengthsOk
-returns c = rw (
-  c .before .before .before .before .before .before .before .before .before .before .before .before .in-format .ensures,
-  c .before .before .before .before .before .before .before .before .before .before .before .in-format2 .ensures,
-) refl
+returns c =
+    let r = c .before .before .before .before .before .before .before .before .before .before .before in
+    let f = r .before .before in
+    rw (f .before .in-format .ensures, f .in-format2 .ensures, same r) refl
 
 pub lengths-ok-spec : {M : Type 1} → statement M
 lengths-ok-spec =
     tie.close
-    (tie.spec mul-in-format (λ c κs. search needs) (λ c κs. search needs) mul-units (λ c. search needs) (λ c. search needs) mul-roots mul-result mul-result-2 mul-result-3 mul-result-4 returns)
+    (tie.spec mul-in-format (λ c κs. search needs) (λ c κs. search needs) mul-units (λ c κs. search needs) (λ c κs. search needs) mul-roots mul-result mul-result-2 mul-result-3 mul-result-4 returns)
