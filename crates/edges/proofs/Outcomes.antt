@@ -17,6 +17,7 @@ use Rattle.def.proofs.Answers.{on-refusal, on-done}
 use Rattle.laws.specs.Call.{unless}
 use Rattle.laws.specs.Orders.{each}
 use Rattle.laws.proofs.Calls.{all-at}
+use Rattle.split.specs.Accepted.{Accepted}
 use Rattle.split.specs.Edges.{Edge, vertical, horizontal, edgeNumbers}
 use Rattle.split.specs.ListCall as list-call
 use Rattle.split.specs.Picture.{pictureWalk}
@@ -34,11 +35,9 @@ list-lengths-told w h splits m n e =
 
 -- where the checks pass
 pub record Passed (w h : ℕ) (s : List ℕ) (limit m n : ℕ) : Type 0 where
-  pub size : sizeOk w h ≡ true
-  pub bytes : length s ≡ 1024 * rootCount w h
+  pub accepted : Accepted w h s
   pub vertical : m ≡ 2 * unitCount w h
   pub horizontal : n ≡ 2 * unitCount w h
-  pub walked : pictureWalk s (w / 4) (h / 4) .answer ≡ Done
 
 pub list-passed : (w h : ℕ) (s : List ℕ) (limit m n : ℕ) → list-call.checkOf w h s limit m n ≡ Done → Passed w h s limit m n
 unfolding list-call.checkOf
@@ -50,7 +49,7 @@ list-passed w h s limit m n e =
     let b = past t Length rest (a .1) in
     let c = past (list-call.limitOk limit) Setting k (b .1) in
     let l = list-lengths-told w h (length s) m n (b .0) in
-    record { size = a .0; bytes = l .0; vertical = l .1; horizontal = l .2; walked = c .1 }
+    record { accepted = record { size = a .0; long = l .0; walked = c .1 }; vertical = l .1; horizontal = l .2 }
 
 -- a list's end in its buffer is twice its count
 counted-half : (l : List Edge) {out out₁ : List ℕ} {k : ℕ} → Put (each edgeNumbers l) out 0 out₁ k → k / 2 ≡ length l

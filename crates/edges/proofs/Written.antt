@@ -14,17 +14,14 @@ use lib.Dec.{ltb, eqb}
 use lib.ListN.{length, getD}
 use lib.Pow.{pow-pos}
 use Rattle.def.specs.declared.Answer.the-variants.{Done}
-use Rattle.def.specs.Picture.{rootsAlong}
 use Rattle.laws.specs.Index.{pick}
 use Rattle.laws.specs.Orders.{each}
 use Rattle.laws.proofs.Orders.{each-append, each-each}
 use Rattle.split.specs.Edges.{Pass, Visit, passOf, stretch, nearEdge, visitOf, edgesOf, edgeNumbers}
-use Rattle.split.specs.LeavesCall.{leavesAt}
 use Rattle.split.specs.Picture.{roots, rootWalk, rootLeaves, leavesOf, allLeaves, pictureWalk}
 use Rattle.split.specs.Stored.{area, leafFrom, leavesFrom, LeafAt}
 use Rattle.split.specs.Walk.{Leaf, leaf as leaf′}
 use Rattle.split.proofs.Area.{area-append, edges-length, whole-area}
-use Rattle.split.proofs.Callers.{index-back}
 use Rattle.split.proofs.Demand3.{edges-twice}
 use Rattle.split.proofs.Passes.{visit-edges}
 use Rattle.split.proofs.Places.{leaves-mem, sound-at}
@@ -240,7 +237,3 @@ module _ {b halved : Bool} {s : List ℕ} {w h : ℕ} {out₀ out : List ℕ} {i
         ap (λ (n : ℕ). area (leavesOf s w h n)) e,
         whole-area s w h pos fine,
       )
-
--- the root at the place of root i, by its number
-pub leaves-at : (w h : ℕ) (s : List ℕ) (i : ℕ) → leavesAt w h s (64 * (i % rootsAlong w)) (64 * (i / rootsAlong w)) ≡ rootLeaves s (w / 4) (h / 4) i
-leaves-at w h s i = ap (rootLeaves s (w / 4) (h / 4)) (index-back w i)

@@ -1,19 +1,19 @@
 // Both passes' lists of edges, written into lent buffers: the edges that evc_deblock_cu_ver and evc_deblock_cu_hor of df.rs visit.
-ghost use mathlib.Core.Bool.{true};
 ghost use mathlib.Core.List.{map};
 ghost use mathlib.Core.Path.{_≡_};
 ghost use Prim.Native.Nat.{_+_, _*_, _/_, _%_, _≤_, _<_};
 ghost use lib.ListN.{length, getD};
 ghost use lib.Seq.{sets};
 ghost use Rattle.def.proofs.Sizes.{Sized};
-ghost use Rattle.def.specs.Picture.{sizeOk, rootCount, unitCount};
+ghost use Rattle.def.specs.Picture.{rootCount, unitCount};
 ghost use Rattle.laws.specs.Call.{Gives};
 ghost use Rattle.laws.specs.Index.{pick};
 ghost use Rattle.laws.specs.Orders.{each};
+ghost use Rattle.split.specs.Accepted.{Accepted};
 ghost use Rattle.split.specs.Edges.{edgeAt, edgeList, edgeNumbers, edgesOf, passOf};
 ghost use Rattle.split.specs.LeavesCall as LeavesCall;
 ghost use Rattle.split.specs.ListCall as ListCall;
-ghost use Rattle.split.specs.Picture.{pictureWalk};
+ghost use Rattle.split.specs.Picture.{rootLeaves};
 ghost use Rattle.split.specs.RootCall as RootCall;
 ghost use Rattle.split.specs.RootCall.{leafDown};
 ghost use Rattle.split.specs.Stored.{area, leavesFrom};
@@ -21,6 +21,7 @@ ghost use Rattle.edges.specs.Put.{Put, Starts, ReadyAt, stretchNumbers, 
 use def::Answer;
 use def::Pel;
 use def::Refusal;
+use def::roots_along;
 use def::size_ok;
 use split::Listed;
 use split::Walked;
@@ -141,23 +142,22 @@ fn leaves_edges(
     k
 }
 
-// A pass's edges of the root at (x, y), of a picture whose walk is not refused.
+// A pass's edges of root i, in raster order, of a picture whose walk is not refused.
 fn root_edges(
     w: usize,
     h: usize,
     splits: &[u8],
-    x: Pel,
-    y: Pel,
+    i: usize,
     horizontal: bool,
     halved: bool,
     out: &mut [u16],
     at: usize,
 ) -> usize
-    requires { ⌜ (LeavesCall.checkOf w h (now splits) (x .0) (y .0) 768 ≡ Answer.Done) × (at + 2 * area (LeavesCall.leavesAt w h (now splits) (x .0) (y .0)) ≤ length (now out)) ⌝ }
-    ensures { λ r. ⌜ Put (each edgeNumbers (edgesOf (passOf horizontal) halved (LeavesCall.leavesAt w h (now (splits .entry)) (x .0) (y .0)))) (now (out .entry)) at (now (out .exit)) r ⌝ }
+    requires { ⌜ Accepted w h (now splits) × (i < rootCount w h) × (at + 2 * area (rootLeaves (now splits) (w / 4) (h / 4) i) ≤ length (now out)) ⌝ }
+    ensures { λ r. ⌜ Put (each edgeNumbers (edgesOf (passOf horizontal) halved (rootLeaves (now (splits .entry)) (w / 4) (h / 4) i))) (now (out .entry)) at (now (out .exit)) r ⌝ }
 {
     let mut list = [0u16; 768];
-    let Walked::Done(n) = split::leaves(w, h, splits, x, y, &mut list) else {
+    let Walked::Done(n) = split::root_leaves(w, h, splits, i, &mut list) else {
         return at;
     };
     leaves_edges(&list, n, horizontal, halved, 0, out, at)
@@ -172,17 +172,14 @@ fn pass_edges(
     halved: bool,
     out: &mut [u16],
 ) -> usize
-    requires { ⌜ (sizeOk w h ≡ true) × (length (now splits) ≡ 1024 * rootCount w h) × (pictureWalk (now splits) (w / 4) (h / 4) .answer ≡ Answer.Done) × (length (now out) ≡ 2 * unitCount w h) ⌝ }
+    requires { ⌜ Accepted w h (now splits) × (length (now out) ≡ 2 * unitCount w h) ⌝ }
     ensures { λ r. ⌜ Put (each edgeNumbers (edgeList (passOf horizontal) halved (now (splits .entry)) (w / 4) (h / 4))) (now (out .entry)) 0 (now (out .exit)) r ⌝ }
 {
-    let across = (w + 63) / 64;
     let n = splits.len() / 1024;
     let mut k = 0;
     let mut i = 0;
     while i < n {
-        let x = Pel(64 * (i % across));
-        let y = Pel(64 * (i / across));
-        k = root_edges(w, h, splits, x, y, horizontal, halved, out, k);
+        k = root_edges(w, h, splits, i, horizontal, halved, out, k);
         i += 1;
     }
     k
@@ -193,7 +190,7 @@ fn list_lengths_ok(w: usize, h: usize, splits: usize, vertical: usize, horizonta
     requires { ⌜ Sized w h ⌝ }
     ensures { λ r. ⌜ r ≡ ListCall.lengthsOk w h splits vertical horizontal ⌝ }
 {
-    let roots = (w + 63) / 64 * ((h + 63) / 64);
+    let roots = roots_along(w) * roots_along(h);
     let buffer = 2 * (w / 4 * (h / 4));
     (splits == 1024 * roots) & (vertical == buffer) & (horizontal == buffer)
 }

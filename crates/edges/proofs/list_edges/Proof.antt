@@ -9,13 +9,13 @@ pass-edges-requires : tie.Need-pass-edges-requires
 pass-edges-requires c κs =
     let d = c .before .before .before in
     let p = list-passed _ _ _ _ _ _ (sym (d .list-checked .ensures) ∙ c .before .enum-told .given .1) in
-    (p .size, p .bytes, p .walked, p .vertical)
+    (p .accepted, p .vertical)
 
 pass-edges-requires-2 : tie.Need-pass-edges-requires-2
 pass-edges-requires-2 c κs =
     let d = c .before .before .before .before .before .before .before in
     let p = list-passed _ _ _ _ _ _ (sym (d .list-checked .ensures) ∙ c .before .before .before .before .before .enum-told .given .1) in
-    (p .size, p .bytes, p .walked, p .horizontal)
+    (p .accepted, p .horizontal)
 
 returns : tie.Need-returns
 returns c = list-refused _ _ _ (c .before .before .before .list-checked .ensures) (c .before .r .given .1)
