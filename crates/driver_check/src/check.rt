@@ -43,7 +43,7 @@ fn root_leaves(w: usize, h: usize, splits: &[u8], i: usize, list: &mut [u16]) ->
     requires { ⌜ Accepted w h (now splits) × (i < rootCount w h) × (length (now list) ≡ 768) ⌝ }
     ensures { λ r. ⌜ Listed w h (now (splits .entry)) i (now (list .exit)) r ⌝ }
 {
-    let across = (w + 63) / 64;
+    let across = def::roots_along(w);
     let x = Pel(64 * (i % across));
     let y = Pel(64 * (i / across));
     match split::leaves(w, h, splits, x, y, list) {
@@ -57,7 +57,7 @@ fn past_picture(w: usize, h: usize, splits: &[u8], leaves: &[u8]) -> Place
     requires { ⌜ Accepted w h (now splits) ⌝ }
     ensures { λ r. ⌜ (placeOf (r .at) (r .k) ≡ passed (now (leaves .entry)) (leavesOf w h (now (splits .entry))) first) × (r .k ≤ 1048576) ⌝ }
 {
-    let roots = (w + 63) / 64 * ((h + 63) / 64);
+    let roots = def::roots_along(w) * def::roots_along(h);
     let mut list = [0u16; 768];
     let mut place = Place { at: 0, k: 0 };
     for i in 0..roots {
@@ -103,7 +103,7 @@ fn read_ok(
     requires { ⌜ Sized w h ⌝ }
     ensures { λ r. ⌜ r ≡ readOk w h format splits «pred_y» «pred_u» «pred_v» ⌝ }
 {
-    let roots = (w + 63) / 64 * ((h + 63) / 64);
+    let roots = def::roots_along(w) * def::roots_along(h);
     let luma = w * h;
     let chroma = colour_length(w, h, format);
     (splits == 1024 * roots) & (pred_y == luma) & (pred_u == chroma) & (pred_v == chroma)

@@ -1,9 +1,10 @@
 -- `driver_check::check::past_picture` meets its contract: a turn goes past one root more. Assumes nothing.
-use Prim.Native.Nat.{_+_, _-_, _*_, _/_, _≤_}
+use Prim.Native.Nat.{_-_, _*_, _/_, _≤_}
 use mathlib.Core.Path.{_≡_, refl}
 use native.Mathlib.Omega.{arith}
 use borrow.Author.Needs.{needs}
 use lib.ListN.{length}
+use Rattle.def.specs.Picture.{rootCount}
 use Rattle.def.proofs.Sizes.{Sized, sized}
 use Rattle.split.specs.Picture.{roots, leavesOf}
 use Rattle.split.proofs.Roots.{few-roots, roots-units}
@@ -19,50 +20,62 @@ Inv-loop w h splits leaves roots list₀ place₀ i₀ list place i =
 abbrev μ-loop : tie.MeasureT-loop
 μ-loop w h splits leaves roots list₀ place₀ i₀ list place i = roots - i
 
+abbrev start : tie.After-roots-along2 Inv-loop μ-loop → tie.Start Inv-loop μ-loop
+start c = c .before .before .before .before
+
 size : (s : tie.Start Inv-loop μ-loop) → Sized (s .args .w) (s .args .h)
 size s = sized _ _ (s .pre .size)
 
-few : (s : tie.Start Inv-loop μ-loop) → (s .args .w + 63) / 64 * ((s .args .h + 63) / 64) ≤ 4096
-few s = few-roots (s .args .w) (s .args .h) (size s .wide) (size s .high)
+-- the loop's count is that of the roots
+counted : (c : tie.After-roots-along2 Inv-loop μ-loop) → let a = start c .args in c .before .roots-along .result * c .roots-along2 .result ≡ rootCount (a .w) (a .h)
+counted c = (λ k. c .before .roots-along .ensures k * c .roots-along2 .ensures k)
+
+few : (c : tie.After-roots-along2 Inv-loop μ-loop) → c .before .roots-along .result * c .roots-along2 .result ≤ 4096
+few c =
+    let s = start c in
+    rw (counted c) (few-roots (s .args .w) (s .args .h) (size s .wide) (size s .high))
 
 loop-holds : tie.Need-loop-holds Inv-loop μ-loop
-loop-holds c = let s = c .before .before in (omega arith, refl, passed-no-root (s .args .leaves .now) (s .args .splits .now) (s .args .w / 4) (s .args .h / 4) first, omega arith, omega arith)
+loop-holds c = let s = start c in (omega arith, refl, passed-no-root (s .args .leaves .now) (s .args .splits .now) (s .args .w / 4) (s .args .h / 4) first, omega arith, omega arith)
 
 root-leaves-requires : tie.Need-root-leaves-requires Inv-loop μ-loop
-root-leaves-requires c κs = (c .before .before .before .before .before .pre, c .before .loop-test .taken, c .before .before .loop .inv .1)
+root-leaves-requires c κs =
+    let d = c .before .before .before in
+    (start d .pre, rw (counted d) at (c .before .loop-test .taken), c .before .before .loop .inv .1)
 
 past-leaves-requires : tie.Need-past-leaves-requires Inv-loop μ-loop
 past-leaves-requires c κs =
     let l = c .before .before .before .before .before .loop .inv in (
       sides (c .before .before .root-leaves .ensures .blocks),
-      omega (arith, l .3, few (c .before .before .before .before .before .before .before .before), c .before .before .before .before .loop-test .taken),
+      omega (arith, l .3, few (c .before .before .before .before .before .before), c .before .before .before .before .loop-test .taken),
       l .4,
     )
 
 loop-again : tie.Need-loop-again Inv-loop μ-loop
 loop-again c =
     let l = c .before .before .before .before .before .before .loop in
+    let s = start (c .before .before .before .before .before .before .before) in
     let r = c .before .before .before .root-leaves .ensures in
     let p = c .past-leaves .ensures in (
       omega (arith, c .before .before .before .before .before .loop-test .taken),
       r .blocks .long,
-      past-listed (c .before .before .before .before .before .before .before .before .before .args .leaves .now) first (placeOf (l .place .at) (l .place .k))
-          (placeOf (c .past-leaves .result .at) (c .past-leaves .result .k)) r (l .inv .2) (p .0),
+      past-listed (s .args .leaves .now) first (placeOf (l .place .at) (l .place .k)) (placeOf (c .past-leaves .result .at) (c .past-leaves .result .k)) r (l .inv .2) (p .0),
       omega (arith, p .1, r .blocks .few, l .inv .3),
       p .2,
     )
 
 returns : tie.Need-returns Inv-loop μ-loop
 returns c =
-    let s = c .before .before .before .before in
+    let d = c .before .before in
+    let s = start d in
     let l = c .before .loop in
-    let e : l .i ≡ roots (s .args .w / 4) (s .args .h / 4) = omega (arith, l .inv .0, c .loop-test .left, roots-units (size s)) in
-    (rw (← e) (l .inv .2), omega (arith, l .inv .0, l .inv .3, few s))
+    let e : l .i ≡ roots (s .args .w / 4) (s .args .h / 4) = omega (arith, l .inv .0, c .loop-test .left, counted d, roots-units (size s)) in
+    (rw (← e) (l .inv .2), omega (arith, l .inv .0, l .inv .3, few d))
 
 pub past-picture-spec : {M : Type 1} → statement M
 past-picture-spec =
     tie.close
-    (tie.spec Inv-loop μ-loop (λ c. omega (arith, size (c .before .before) .wide)) (λ c. omega (arith, size (c .before .before) .high))
-    (λ c. omega (arith, few (c .before .before))) loop-holds (λ c. search needs) root-leaves-requires (λ c. search needs) past-leaves-requires
-    (λ c. omega (arith, few (c .before .before .before .before .before .before .before .before .before), c .before .before .before .before .before .loop-test .taken))
+    (tie.spec Inv-loop μ-loop (λ c κs. search needs) (λ c κs. search needs)
+    (λ c. omega (arith, few c)) loop-holds (λ c. search needs) root-leaves-requires (λ c. search needs) past-leaves-requires
+    (λ c. omega (arith, few (c .before .before .before .before .before .before .before), c .before .before .before .before .before .loop-test .taken))
     (λ c. omega (arith, c .before .before .before .before .before .loop-test .taken)) loop-again returns)
