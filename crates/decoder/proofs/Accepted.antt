@@ -1,21 +1,24 @@
--- No call refuses always: each has an input that it accepts, here with the number of its outcome. (Those that `reconstruct` and `checked_leaves` accept are
--- `format-numbers` and `keep-numbers`, in Promises.)
+-- No call refuses always: each has an input that it accepts, here with the number of its outcome. What is proved of every picture that the driver finishes
+-- is proved of these, then, and deblocking accepts one of them (`finishes-grey`, `finishes-colour`, `follows`).
 -- Assumes nothing.
 use mathlib.Core.Path.{_≡_, refl}
 use mathlib.Core.Bool.{true, false}
 use mathlib.Core.List.{List, [], _∷_, _++_}
-use Prim.Native.Nat.{ℕ}
+use Prim.Native.Nat.{ℕ, _*_}
 use lib.IntN.{ℤ, pos}
 use lib.ListN.{replicate}
 use Rattle.laws.specs.Bits.{fieldOf}
 use Rattle.laws.specs.Index.{tabulateFrom}
+use Rattle.laws.specs.Orders.{run}
 use Rattle.laws.specs.Scan.{allBelow}
 use Rattle.def.specs.Answers.{answerNumber}
 use Rattle.def.specs.Blocks.{blockSideOk, componentSideOk, blockOk, unitOk}
-use Rattle.def.specs.Picture.{sizeOk}
+use Rattle.def.specs.Picture.{sizeOk, unitCount}
 use Rattle.def.specs.Word.{flagAt}
 use Rattle.def.specs.declared.Component.the-variants.{Luma}
-use Rattle.def.specs.declared.Format.the-variants.{Colour}
+use Rattle.def.specs.declared.Answer.the-variants.{Done}
+use Rattle.def.specs.declared.Format.{Format}
+use Rattle.def.specs.declared.Format.the-variants.{Grey, Colour}
 use Rattle.samples.specs.Samples.{samplesOk}
 use Rattle.chroma_qp_check.specs.Check as points-check
 use Rattle.chroma_qp_check.specs.Pivots.{Points, inOf, outOf}
@@ -35,11 +38,16 @@ use Rattle.df.specs.Band as band
 use Rattle.df.specs.Deblock as deblock
 use Rattle.df_laws.specs.Luma.{withoutColour}
 use Rattle.mend.specs.MendCall as mend
+use Rattle.driver_rules.specs.Call as driver
+use Rattle.driver_rules.specs.Finished.{Finished}
+use Rattle.driver_rules.specs.Records.{bytesOk}
+use Rattle.driver_rules.proofs.Finished.{finished}
 use Rattle.split.specs.CheckCall as check
 use Rattle.split.specs.LeavesCall as leaves
 use Rattle.split.specs.ListCall as list
 use Rattle.split.specs.RootCall as root-list
 use Rattle.split.specs.RootLeavesCall as root-leaves
+use Rattle.split.specs.Picture.{leavesOf}
 use Rattle.split.specs.Walk.{onward, inTurn, leafWalk, byByte, walk}
 use Rattle.bits.specs.Bits.{bitAt}
 use Rattle.marks.specs.ListCall as marked
@@ -57,6 +65,7 @@ use Rattle.sheet.specs.Listing as listing
 use Rattle.sheet.specs.Text.{sidesOk, foundBy, foundOf, foundIn}
 use Rattle.sheet.specs.Words.{newline}
 use Rattle.decoder.specs.Promise.{refusalIn}
+use Rattle.decoder.proofs.Joined.{joined as deblocked}
 
 abbrev points : Points
 points = record { count = 1; a = replicate 58 (pos 0); b = replicate 58 (pos 0) }
@@ -112,6 +121,37 @@ part =
       settings = picture .settings;
     }
 
+-- that picture for the driver, with n samples in each chroma plane: its leaf is predicted by mode 0, coded in Y, and kept
+abbrev drawn : Format → (n : ℕ) → driver.Input
+drawn f n =
+    record {
+      given =
+          record {
+            w = 4;
+            h = 4;
+            format = f;
+            constrained = false;
+            leaves = 0 ∷ 51 ∷ 1 ∷ 1 ∷ [];
+            residual = replicate 16 (pos 0);
+            pred-y = replicate 16 0;
+            pred-u = replicate n 0;
+            pred-v = replicate n 0;
+          };
+      splits = cut;
+      y = replicate 16 0;
+      u = replicate n 0;
+      v = replicate n 0;
+      words = 0 ∷ [];
+      modes = 0 ∷ [];
+      keep = 0 ∷ [];
+    }
+
+abbrev grey : driver.Input
+grey = drawn Grey 0
+
+abbrev colour : driver.Input
+colour = drawn Colour 4
+
 abbrev given : List ℕ
 given =
     derived.outcome (record { global-offset = false; same-table = false; first = points; second = points; t0 = replicate 70 (pos 0); t1 = replicate 70 (pos 0) }) .number
@@ -148,6 +188,61 @@ unfolding derived.outcome points-check.check points-check.lengthsOk points-check
     deblock.outcome band-checks.checkOf band-checks.bandOk bandRows band.outcome sizeOk blockOk blockSideOk componentSideOk unitOk samplesOk flagAt
     fieldOf allBelow walk byByte inTurn onward leafWalk checks.keepOk
 accepted = refl
+
+-- ---- the driver: what it refuses is what `checked_leaves` does
+
+abbrev by-driver : List ℕ
+by-driver =
+    driver.outcome grey .number ∷ driver.outcome colour .number ∷ answerNumber (driver.check grey) ∷ answerNumber (driver.check colour) ∷ []
+
+pub accepted-leaves : by-driver ≡ replicate 4 0
+unfolding driver.outcome driver.checkOf driver.readOk driver.writtenOk driver.dataCheck driver.recordsOk driver.lentOk bytesOk sizeOk leavesOf walk
+    byByte inTurn onward leafWalk run samplesOk allBelow flagAt fieldOf
+accepted-leaves = refl
+
+grey-passes : driver.check grey ≡ Done
+unfolding driver.checkOf driver.readOk driver.writtenOk driver.dataCheck driver.recordsOk driver.lentOk bytesOk sizeOk leavesOf walk
+    byByte inTurn onward leafWalk run samplesOk allBelow flagAt fieldOf
+grey-passes = refl
+
+colour-passes : driver.check colour ≡ Done
+unfolding driver.checkOf driver.readOk driver.writtenOk driver.dataCheck driver.recordsOk driver.lentOk bytesOk sizeOk leavesOf walk
+    byByte inTurn onward leafWalk run samplesOk allBelow flagAt fieldOf
+colour-passes = refl
+
+pub finishes-grey : Finished grey
+finishes-grey = finished grey grey-passes
+
+pub finishes-colour : Finished colour
+finishes-colour = finished colour colour-passes
+
+-- the picture that it leaves, lent to deblocking
+abbrev following : driver.Input → checks.Input
+following i =
+    let o = driver.outcome i in
+    record {
+      w = i .given .w;
+      h = i .given .h;
+      y = o .y;
+      u = o .u;
+      v = o .v;
+      words = o .words;
+      splits = i .splits;
+      motion = 4 * unitCount (i .given .w) (i .given .h);
+      refs = 2 * unitCount (i .given .w) (i .given .h);
+      keep = o .keep;
+      table0 = checks.tableLength (i .given .format);
+      table1 = checks.tableLength (i .given .format);
+      strengths = 208;
+      settings = record { limit = 6; «u_offset» = pos 0; «v_offset» = pos 0; format = i .given .format };
+    }
+
+pub follows : checks.checkOf (following colour) ≡ Done
+unfolding checks.settingsOk checks.offsetOk list.limitOk
+follows =
+    deblocked colour colour-passes (following colour)
+    (record { w = refl; h = refl; format = refl; splits = refl; y = refl; u = refl; v = refl; words = refl; keep = refl })
+    (record { motion = refl; refs = refl; table0 = refl; table1 = refl; strengths = refl; settings = refl })
 
 -- ---- that picture's map: its marks, and its compact form, four bits 1
 
