@@ -10,7 +10,7 @@ ghost use Rattle.def.specs.Word.{leafWord};
 ghost use Rattle.split.specs.Stored.{leavesFrom};
 ghost use Rattle.driver_rules.specs.Asked.{GivenAsked, StateAsked, Reaches, Blocks, Sides, Accepted, Listed, Stepped};
 ghost use Rattle.driver_rules.specs.Call.{leavesOf};
-ghost use Rattle.driver_rules.specs.Records.{kindAt, qpAt, maskAt, keepAt, isMode, codedY, endV, placeOf, first, passed};
+ghost use Rattle.driver_rules.specs.Records.{kindAt, recordQp, maskAt, keepAt, isMode, codedY, endV, placeOf, first, passed};
 ghost use Rattle.driver_rules.specs.Steps.{withUnits, steps};
 ghost use Rattle.driver.specs.Packed.{packedLeaf, unpacked, Packed};
 ghost use Rattle.driver.specs.Lends.{givenOf, stateOf, colourEnd, ColourDrawn, Drawn, ColourAsked, PlanesAsked, Told, Ended};
@@ -45,7 +45,7 @@ struct Record {
 // The record of leaf k.
 fn record_at(leaves: &[u8], k: usize) -> Record
     requires { ⌜ 4 * (k + 1) ≤ length (now leaves) ⌝ }
-    ensures { λ r. ⌜ (r .kind ≡ kindAt (now (leaves .entry)) k) × (r .qp ≡ qpAt (now (leaves .entry)) k) × (r .mask ≡ maskAt (now (leaves .entry)) k) × (r .keep ≡ keepAt (now (leaves .entry)) k) ⌝ }
+    ensures { λ r. ⌜ (r .kind ≡ kindAt (now (leaves .entry)) k) × (r .qp ≡ recordQp (now (leaves .entry)) k) × (r .mask ≡ maskAt (now (leaves .entry)) k) × (r .keep ≡ keepAt (now (leaves .entry)) k) ⌝ }
 {
     let kind = leaves[4 * k];
     let qp = leaves[4 * k + 1];

@@ -124,7 +124,7 @@ module _ (a : Around) (k : BlockAsked a) where
   n = sideOf (a .component) (a .side)
 
   good : nbr.samplesOk a ≡ true
-  good = let z = sized _ _ (k .size) in gathered-small a (z .by-four) (z .by-four-down) (k .done-small)
+  good = let size = sized _ _ (k .size) in gathered-small a (size .by-four) (size .by-four-down) (k .done-small)
 
   pub gathers-block : (run : List ℕ) → length run ≡ runLength (a .component) (a .side) → nbr.outcome (record { around = a; run = run }) ≡ nbr.done (record { around = a; run = run })
   gathers-block run e = gathers (record { around = a; run = run }) (k .size) (k .plane-long) (k .words-long) (k .block) e good

@@ -57,9 +57,9 @@ plane-alike : (a : Around) (other lent : List ℕ) (kind : ℕ) (coded : Bool) (
     → PlaneSame (a .component) (a .w) (a .h) (a .plane) other (a .words)
     → PlaneSame (a .component) (a .w) (a .h) (planeOf a kind lent coded coef) (planeOf (inPlane a other) kind lent coded coef) (withUnits (a .w) (a .x) (a .y) (a .side) word (a .words))
 plane-alike a other lent kind coded coef word s b ep eo ew d =
-    let z = sized (a .w) (a .h) s in
+    let size = sized (a .w) (a .h) s in
     let n = sideOf (a .component) (a .side) in
-    let e = prediction-same a other kind lent (run-same a (z .by-four) (z .by-four-down) other d) in
+    let e = prediction-same a other kind lent (run-same a (size .by-four) (size .by-four-down) other d) in
     rw (plane-is a kind lent coded coef, plane-is (inPlane a other) kind lent coded coef)
     (done-more (a .component) (a .w) (a .h) (a .x) (a .y) (a .side) s b (_≡_ {A = ℕ}) (a .plane) other (a .words) ep eo ew
     (blockAt coded (predictionOf a kind lent) coef n) (blockAt coded (predictionOf (inPlane a other) kind lent) coef n) (λ i j k. blockAt coded (e k) coef n i j) word d)

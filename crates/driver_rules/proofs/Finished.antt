@@ -49,7 +49,7 @@ use Rattle.split.proofs.Walks.{each-done}
 use Rattle.driver_rules.specs.Asked.{Small, DoneSmall, GivenAsked, StateAsked}
 use Rattle.driver_rules.specs.Call.{Input, Outcome, check, leavesOf, start, end, refused, done, outcome}
 use Rattle.driver_rules.specs.Finished.{Told, Finished}
-use Rattle.driver_rules.specs.Records.{byteAt, qpAt, bytesOk, wordAt, modeAt, keepAt}
+use Rattle.driver_rules.specs.Records.{byteAt, recordQp, bytesOk, wordAt, modeAt, keepAt}
 use Rattle.driver_rules.specs.Steps.{Given, State, withUnits, stepAt, step, steps}
 use Rattle.driver_rules.proofs.Checks.{Passed, all-passed}
 use Rattle.driver_rules.proofs.Lists.{leaf-block}
@@ -222,7 +222,7 @@ module _ (i : Input) (accepted : check i ≡ Done) where
   all-done u v cu cv = units u v cu cv .done
 
   -- the QP of a leaf's record
-  record-qp : (k : ℕ) → k < length l → qpAt (i .given .leaves) k ≤ 51
+  record-qp : (k : ℕ) → k < length l → recordQp (i .given .leaves) k ≤ 51
   unfolding bytesOk
   record-qp k q = leb-true _ _ (scan-at (λ (j : ℕ). leb (byteAt (i .given .leaves) j 1) 51) (length l) k q (p .qps))
 
@@ -231,7 +231,7 @@ module _ (i : Input) (accepted : check i ≡ Done) where
       every-place (w / 4) (h / 4) some (λ (k : ℕ). qpOf (getD (end i .words) k 0) ≤ 51)
       (λ u v cu cv.
       let t = units u v cu cv in
-      let f : qpOf (unitAt w (end i .words) u v) ≡ qpAt (i .given .leaves) (t .number) % 128 = ap qpOf (t .word) ∙ leaf-word _ _ _ .qp-bits in
+      let f : qpOf (unitAt w (end i .words) u v) ≡ recordQp (i .given .leaves) (t .number) % 128 = ap qpOf (t .word) ∙ leaf-word _ _ _ .qp-bits in
       omega (arith, f, record-qp (t .number) (t .early)))
 
   -- the keep byte of a leaf's record

@@ -38,18 +38,18 @@ pub record Agree (s t : State) : Type 0 where
   pub keep : s .keep ≡ t .keep
 
 module _ (g o : Given) (e : SameGiven g o) where
-  step-same : (x z side : ℕ) (s t : State) → Agree s t → SameLeaf g o side (s .place) (t .place) → Agree (stepAt g x z side s) (stepAt o x z side t)
+  step-same : (x y side : ℕ) (s t : State) → Agree s t → SameLeaf g o side (s .place) (t .place) → Agree (stepAt g x y side s) (stepAt o x y side t)
   unfolding stepAt
-  step-same x z side s t a l =
+  step-same x y side s t a l =
       record {
         y =
             plane-same _ _ _ _ (lumaResidual g side (s .place)) (lumaResidual o side (t .place)) (l .residual)
             ∙ (λ k. planeOf
-            (record { component = Luma; w = e .w k; h = e .h k; plane = a .y k; words = a .words k; x = x; y = z; side = side; constrained = e .constrained k })
+            (record { component = Luma; w = e .w k; h = e .h k; plane = a .y k; words = a .words k; x = x; y = y; side = side; constrained = e .constrained k })
             (l .kind k) (e .pred-y k) (l .coded k) (lumaResidual o side (t .place)));
-        words = (λ k. withUnits (e .w k) x z side (leafWord (isMode (l .kind k)) (l .qp k) (l .coded k)) (a .words k));
-        modes = (λ k. withUnits (e .w k) x z side (pick (isMode (l .kind k)) (l .kind k) 255) (a .modes k));
-        keep = (λ k. withUnits (e .w k) x z side (l .keep k) (a .keep k));
+        words = (λ k. withUnits (e .w k) x y side (leafWord (isMode (l .kind k)) (l .qp k) (l .coded k)) (a .words k));
+        modes = (λ k. withUnits (e .w k) x y side (pick (isMode (l .kind k)) (l .kind k) 255) (a .modes k));
+        keep = (λ k. withUnits (e .w k) x y side (l .keep k) (a .keep k));
       }
 
   -- ---- the leaves of a list

@@ -75,8 +75,8 @@ pub done-none : (c : Component) (w h : ℕ) (R : ℕ → ℕ → Type 0) (plane 
 done-none c w h R plane other n s e =
     record {
       each = λ x y p q d.
-          let z = sized w h s in
-          absurd (none-done w h n (x / unitSide c) (y / unitSide c) e (units-below c x w (z .by-four) p) (units-below c y h (z .by-four-down) q) d);
+          let size = sized w h s in
+          absurd (none-done w h n (x / unitSide c) (y / unitSide c) e (units-below c x w (size .by-four) p) (units-below c y h (size .by-four-down) q) d);
     }
 
 -- ---- a block more
@@ -103,10 +103,10 @@ module _ (c : Component) (w h x y side : ℕ) (s : sizeOk w h ≡ true) (b : blo
     at : (i j : ℕ) → i < w / scaleOf c → j < h / scaleOf c → doneOf (unitAt w (withUnits w x y side word words) (i / unitSide c) (j / unitSide c)) ≡ true
         → R (getD (drawn f plane) (j * (w / scaleOf c) + i) 0) (getD (drawn g other) (j * (w / scaleOf c) + i) 0)
     at i j p q e =
-        let z = sized w h s in
+        let size = sized w h s in
         let k = blocked w h x y side b in
-        let u = units-below c i w (z .by-four) p in
-        let v = units-below c j h (z .by-four-down) q in
+        let u = units-below c i w (size .by-four) p in
+        let v = units-below c j h (size .by-four-down) q in
         let told = at-block 0 (w / 4) (h / 4) (x / 4) (y / 4) (side / 4) (side / 4) (λ (r c : ℕ). word) words ew (i / unitSide c) (j / unitSide c) u v in
         let across = within-units c x side i (four x side (k .side-ok) (k .column)) (k .by-four) in
         let down = within-units c y side j (four y side (k .side-ok) (k .row)) (k .by-four) in
@@ -129,6 +129,6 @@ wide Chroma n q = omega arith
 pub whole-as : (c : Component) (w h : ℕ) (R : ℕ → ℕ → Type 0) (plane other words : List ℕ) → sizeOk w h ≡ true → DoneAs c w h R plane other words
     → ((u v : ℕ) → u < w / 4 → v < h / 4 → doneOf (unitAt w words u v) ≡ true) → (k : ℕ) → k < planeLength c w h → R (getD plane k 0) (getD other k 0)
 whole-as c w h R plane other words s d all =
-    let z = sized w h s in
-    every-place (w / scaleOf c) (h / scaleOf c) (wide c w (z .some-wide)) (λ (k : ℕ). R (getD plane k 0) (getD other k 0))
-    (λ x y p q. d .each x y p q (all _ _ (units-below c x w (z .by-four) p) (units-below c y h (z .by-four-down) q)))
+    let size = sized w h s in
+    every-place (w / scaleOf c) (h / scaleOf c) (wide c w (size .some-wide)) (λ (k : ℕ). R (getD plane k 0) (getD other k 0))
+    (λ x y p q. d .each x y p q (all _ _ (units-below c x w (size .by-four) p) (units-below c y h (size .by-four-down) q)))

@@ -15,7 +15,7 @@ use Rattle.def.specs.declared.Component.the-variants.{Luma}
 use Rattle.def.specs.declared.Format.the-variants.{Grey}
 use Rattle.split.specs.Walk.{Leaf, leaf}
 use Rattle.driver_rules.specs.Call.{Input, Outcome, leavesOf, check, outcome}
-use Rattle.driver_rules.specs.Records.{kindAt, qpAt, maskAt, keepAt, codedY, sampleCount, Place, first, advance, passed}
+use Rattle.driver_rules.specs.Records.{kindAt, recordQp, maskAt, keepAt, codedY, sampleCount, Place, first, advance, passed}
 use Rattle.driver_rules.specs.Steps.{Given}
 
 -- ---- a leaf
@@ -27,7 +27,7 @@ lumaResidual g side t = take (sampleCount Luma side) (drop (t .at) (g .residual)
 -- its kind, its QP, its keep byte, whether Y is coded, and Y's residual where it is. The masks' other bits, and so the two places, may differ
 pub record SameLeaf (g o : Given) (side : ℕ) (t u : Place) : Type 0 where
   pub kind : kindAt (g .leaves) (t .k) ≡ kindAt (o .leaves) (u .k)
-  pub qp : qpAt (g .leaves) (t .k) ≡ qpAt (o .leaves) (u .k)
+  pub qp : recordQp (g .leaves) (t .k) ≡ recordQp (o .leaves) (u .k)
   pub keep : keepAt (g .leaves) (t .k) ≡ keepAt (o .leaves) (u .k)
   pub coded : codedY (maskAt (g .leaves) (t .k)) ≡ codedY (maskAt (o .leaves) (u .k))
   pub residual : codedY (maskAt (g .leaves) (t .k)) ≡ true → lumaResidual g side t ≡ lumaResidual o side u

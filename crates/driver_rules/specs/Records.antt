@@ -25,8 +25,8 @@ byteAt r k b = getD r (4 * k + b) 0
 abbrev pub kindAt : List ℕ → ℕ → ℕ
 kindAt r k = byteAt r k 0
 
-abbrev pub qpAt : List ℕ → ℕ → ℕ
-qpAt r k = byteAt r k 1
+abbrev pub recordQp : List ℕ → ℕ → ℕ
+recordQp r k = byteAt r k 1
 
 abbrev pub maskAt : List ℕ → ℕ → ℕ
 maskAt r k = byteAt r k 2
@@ -59,7 +59,7 @@ mostMask Colour = 7
 
 -- what the leaf's units are told: intra for a mode, the QP, luma-coded and done; and the mode, 255 for the lent prediction
 abbrev pub wordAt : List ℕ → ℕ → ℕ
-wordAt r k = leafWord (isMode (kindAt r k)) (qpAt r k) (codedY (maskAt r k))
+wordAt r k = leafWord (isMode (kindAt r k)) (recordQp r k) (codedY (maskAt r k))
 
 abbrev pub modeAt : List ℕ → ℕ → ℕ
 modeAt r k = pick (isMode (kindAt r k)) (kindAt r k) 255
