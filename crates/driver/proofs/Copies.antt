@@ -26,14 +26,14 @@ along Chroma p side n h = omega arith
 pub copied : (c : Component) (w h x y side : ℕ) (lent pred : List ℕ) → sizeOk w h ≡ true → blockOk w h x y side ≡ true → length lent ≡ planeLength c w h → length pred ≡ sampleCount c side
     → Copied (w / scaleOf c) (x / scaleOf c) (y / scaleOf c) (side / scaleOf c) lent pred
 copied c w h x y side lent pred s b e f =
-    let z = sized w h s in
+    let size = sized w h s in
     let k = blocked w h x y side b in
     let m = component-side _ (side-in-component c side (k .side-ok)) in
     let rows = along c y side h (k .inside-down) in
     record {
       across = along c x side w (k .inside);
       down = omega (arith, mul-le-mul-right (w / scaleOf c) rows, mul-comm (h / scaleOf c) (w / scaleOf c));
-      rows = omega (arith, scaled-le c h 4096 (z .high));
+      rows = omega (arith, scaled-le c h 4096 (size .high));
       some = m .least;
       most = m .most;
       room = f;

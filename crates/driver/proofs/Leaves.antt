@@ -26,25 +26,30 @@ use Rattle.split.specs.Stored.{leavesFrom}
 use Rattle.driver_rules.specs.Asked.{GivenAsked, StateAsked, Stepped}
 use Rattle.driver_rules.specs.Call.{Input, leavesOf, done}
 use Rattle.driver_rules.specs.Records.{kindAt, recordQp, maskAt, keepAt, isMode, codedY, codedU, codedV, mostMask, residualCount, startU, placeOf, passed}
-use Rattle.driver_rules.specs.Steps.{Given, State, componentOf, withUnits, stepAt, steps}
+use Rattle.driver_rules.specs.Steps.{Given, State, stepAt, steps}
 use Rattle.driver_rules.proofs.States.{plane-none, mask-of-y, asked-y, asked-u, asked-v}
 use Rattle.driver_rules.proofs.Walked.{one-leaf, leaves-none, leaves-more, stepped-place}
-use Rattle.driver.specs.Lends.{givenOf, stateOf, ColourDrawn, Drawn, ColourAsked, PlanesAsked, Told, Ended}
+use Rattle.driver.specs.Lends.{givenOf, stateOf, leafIn, toldTo, ColourDrawn, Drawn, ColourAsked, PlanesAsked, Told, Ended}
+use Rattle.driver.specs.declared.walk.Leaf.{Leaf}
+
+-- the leaf is a block of a picture of w by h
+abbrev pub IsBlock : (w h : ℕ) → Leaf → Type 0
+IsBlock w h leaf = blockOk w h (leaf .x .0) (leaf .y .0) (leaf .side) ≡ true
 
 module _ {w h : ℕ} {format : Format} {constrained : Bool} {leaves : List ℕ} {residual : List ℤ} {py pu pv : List ℕ} where
-  pub planes-asked : {y u v words modes keep : List ℕ} {at k : ℕ} (x z side mask : ℕ) → GivenAsked (givenOf w h format constrained leaves residual py pu pv)
-      → StateAsked (givenOf w h format constrained leaves residual py pu pv) (stateOf y u v words modes keep at k) → blockOk w h x z side ≡ true → mask ≤ mostMask format
-      → PlanesAsked (givenOf w h format constrained [] residual py pu pv) x z side mask words y u v
-  planes-asked x z side mask ga sa b m =
+  pub planes-asked : {y u v words modes keep : List ℕ} {at k : ℕ} (leaf : Leaf) (mask : ℕ) → GivenAsked (givenOf w h format constrained leaves residual py pu pv)
+      → StateAsked (givenOf w h format constrained leaves residual py pu pv) (stateOf y u v words modes keep at k) → IsBlock w h leaf → mask ≤ mostMask format
+      → PlanesAsked (givenOf w h format constrained [] residual py pu pv) leaf mask words y u v
+  planes-asked leaf mask ga sa b m =
       record {
         y-lent = ga .lent-y;
-        y-asked = asked-y _ x z side _ ga sa b;
+        y-asked = asked-y _ _ _ _ _ ga sa b;
         colour =
             record {
               u-lent = ga .lent-u;
               v-lent = ga .lent-v;
-              u-asked = asked-u _ x z side _ ga sa b;
-              v-asked = asked-v _ x z side _ ga sa b;
+              u-asked = asked-u _ _ _ _ _ ga sa b;
+              v-asked = asked-v _ _ _ _ _ ga sa b;
               u-long = sa .u-long;
               v-long = sa .v-long;
               masked = m;
@@ -52,8 +57,8 @@ module _ {w h : ℕ} {format : Format} {constrained : Bool} {leaves : List ℕ} 
       }
 
   -- U and V ask nothing of Y's prediction
-  pub colour-asked : {x z side mask : ℕ} {words u v : List ℕ} → ColourAsked (givenOf w h format constrained leaves residual py pu pv) x z side mask words u v
-      → ColourAsked (givenOf w h format constrained leaves residual [] pu pv) x z side mask words u v
+  pub colour-asked : {leaf : Leaf} {mask : ℕ} {words u v : List ℕ} → ColourAsked (givenOf w h format constrained leaves residual py pu pv) leaf mask words u v
+      → ColourAsked (givenOf w h format constrained leaves residual [] pu pv) leaf mask words u v
   colour-asked k =
       record {
         u-lent = k .u-lent;
@@ -66,35 +71,36 @@ module _ {w h : ℕ} {format : Format} {constrained : Bool} {leaves : List ℕ} 
       }
 
 -- the components one after another, each where the one before ended in the residual list
-module _ (g : Given) (x z side kind mask at : ℕ) (words u v : List ℕ) where
+module _ (g : Given) (leaf : Leaf) (kind mask at : ℕ) (words u v : List ℕ) where
   pub colour-drawn : {u′ v′ : List ℕ} {coded-u coded-v : Bool} {a end : ℕ} → coded-u ≡ codedU mask → coded-v ≡ codedV mask
-      → (u′ ≡ componentOf g Chroma x z side kind (g .pred-u) coded-u at u words) × (a ≡ at + residualCount Chroma coded-u side)
-      → (v′ ≡ componentOf g Chroma x z side kind (g .pred-v) coded-v a v words) × (end ≡ a + residualCount Chroma coded-v side) → ColourDrawn g x z side kind mask at words u v u′ v′ end
+      → (u′ ≡ leafIn g Chroma leaf kind (g .pred-u) coded-u at u words) × (a ≡ at + residualCount Chroma coded-u (leaf .side))
+      → (v′ ≡ leafIn g Chroma leaf kind (g .pred-v) coded-v a v words) × (end ≡ a + residualCount Chroma coded-v (leaf .side)) → ColourDrawn g leaf kind mask at words u v u′ v′ end
   colour-drawn {a = a} eu ev p q =
-      let first : a ≡ at + residualCount Chroma (codedU mask) side = p .1 ∙ rw eu in
+      let first : a ≡ at + residualCount Chroma (codedU mask) (leaf .side) = p .1 ∙ rw eu in
       record { u-drawn = p .0 ∙ rw eu; v-drawn = q .0 ∙ rw (first, ev); ends = q .1 ∙ rw (first, ev) }
 
-  pub colour-none : length u ≡ 0 → length v ≡ 0 → mask ≤ 1 → ColourDrawn g x z side kind mask at words u v u v at
+  pub colour-none : length u ≡ 0 → length v ≡ 0 → mask ≤ 1 → ColourDrawn g leaf kind mask at words u v u v at
   colour-none eu ev m =
       let e = mask-of-y mask m in
       record { u-drawn = sym (plane-none _ _ _ _ _ eu); v-drawn = sym (plane-none _ _ _ _ _ ev); ends = rw (e .0, e .1) (omega arith) }
 
   pub planes-drawn : (y : List ℕ) {y′ u′ v′ : List ℕ} {coded-y : Bool} {a end : ℕ} → coded-y ≡ codedY mask
-      → (y′ ≡ componentOf g Luma x z side kind (g .pred-y) coded-y at y words) × (a ≡ at + residualCount Luma coded-y side)
-      → ColourDrawn (givenOf (g .w) (g .h) (g .format) (g .constrained) [] (g .residual) [] (g .pred-u) (g .pred-v)) x z side kind mask a words u v u′ v′
-      end → Drawn g x z side kind mask at words y u v y′ u′ v′ end
+      → (y′ ≡ leafIn g Luma leaf kind (g .pred-y) coded-y at y words) × (a ≡ at + residualCount Luma coded-y (leaf .side))
+      → ColourDrawn (givenOf (g .w) (g .h) (g .format) (g .constrained) [] (g .residual) [] (g .pred-u) (g .pred-v)) leaf kind mask a words u v u′ v′
+      end → Drawn g leaf kind mask at words y u v y′ u′ v′ end
   planes-drawn y {a = a} ey p q =
-      let first : a ≡ startU at mask side = p .1 ∙ rw ey in
+      let first : a ≡ startU at mask (leaf .side) = p .1 ∙ rw ey in
       record { y-drawn = p .0 ∙ rw ey; u-drawn = q .u-drawn ∙ rw first; v-drawn = q .v-drawn ∙ rw first; ends = q .ends ∙ rw first }
 
-pub told : (w h x z side : ℕ) (words modes keep : List ℕ) → sizeOk w h ≡ true → blockOk w h x z side ≡ true
-    → length words ≡ unitCount w h → length modes ≡ unitCount w h → length keep ≡ unitCount w h → Told (w / 4) (x / 4) (z / 4) (side / 4) words modes keep
-told w h x z side words modes keep s b e f d =
+pub told : (w h : ℕ) (leaf : Leaf) (words modes keep : List ℕ) → sizeOk w h ≡ true → IsBlock w h leaf
+    → length words ≡ unitCount w h → length modes ≡ unitCount w h → length keep ≡ unitCount w h
+    → Told (w / 4) (leaf .x .0 / 4) (leaf .y .0 / 4) (leaf .side / 4) words modes keep
+told w h leaf words modes keep s b e f d =
     let n = sized w h s in
-    let k = blocked w h x z side b in
-    let column = four x side (k .side-ok) (k .column) in
-    let row = four z side (k .side-ok) (k .row) in
-    let rows : z / 4 + side / 4 ≤ h / 4 = omega (arith, k .by-four, k .inside-down) in
+    let k = blocked w h (leaf .x .0) (leaf .y .0) (leaf .side) b in
+    let column = four (leaf .x .0) (leaf .side) (k .side-ok) (k .column) in
+    let row = four (leaf .y .0) (leaf .side) (k .side-ok) (k .row) in
+    let rows : leaf .y .0 / 4 + leaf .side / 4 ≤ h / 4 = omega (arith, k .by-four, k .inside-down) in
     record {
       some = omega (arith, n .some-wide);
       right = omega (arith, k .by-four, k .inside);
@@ -115,20 +121,20 @@ module _ {g : Given} {y u v words modes keep : List ℕ} {end : ℕ} where
       → placeOf end (k + j) ≡ passed (g .leaves) (leavesFrom list j) (s .place)
   leaves-asked list k j a = stepped-place g (leavesFrom list j) _ _ a
 
-module _ (g : Given) {x z side kind qp mask mark at end : ℕ} {y u v words modes keep y′ u′ v′ words′ modes′ keep′ : List ℕ} where
-  pub leaves-next : {s : State} (list : List ℕ) (k j : ℕ) → GivenAsked g → blockOk (g .w) (g .h) x z side ≡ true
-      → (x ≡ getD list (3 * j) 0) × (z ≡ getD list (3 * j + 1) 0) × (side ≡ getD list (3 * j + 2) 0)
+module _ (g : Given) {leaf : Leaf} {kind qp mask mark at end : ℕ} {y u v words modes keep y′ u′ v′ words′ modes′ keep′ : List ℕ} where
+  pub leaves-next : {s : State} (list : List ℕ) (k j : ℕ) → GivenAsked g → IsBlock (g .w) (g .h) leaf
+      → (leaf .x .0 ≡ getD list (3 * j) 0) × (leaf .y .0 ≡ getD list (3 * j + 1) 0) × (leaf .side ≡ getD list (3 * j + 2) 0)
       → (kind ≡ kindAt (g .leaves) (k + j)) × (qp ≡ recordQp (g .leaves) (k + j)) × (mask ≡ maskAt (g .leaves) (k + j)) × (mark ≡ keepAt (g .leaves) (k + j))
-      → Drawn (givenOf (g .w) (g .h) (g .format) (g .constrained) [] (g .residual) (g .pred-y) (g .pred-u) (g .pred-v)) x z side kind mask at words y u v y′ u′ v′ end
-      → (words′ ≡ withUnits (g .w) x z side (leafWord (isMode kind) qp (codedY mask)) words) × (modes′ ≡ withUnits (g .w) x z side (pick (isMode kind) kind 255) modes)
-      × (keep′ ≡ withUnits (g .w) x z side mark keep)
+      → Drawn (givenOf (g .w) (g .h) (g .format) (g .constrained) [] (g .residual) (g .pred-y) (g .pred-u) (g .pred-v)) leaf kind mask at words y u v y′ u′ v′ end
+      → (words′ ≡ toldTo (g .w) leaf (leafWord (isMode kind) qp (codedY mask)) words) × (modes′ ≡ toldTo (g .w) leaf (pick (isMode kind) kind 255) modes)
+      × (keep′ ≡ toldTo (g .w) leaf mark keep)
       → Stepped g (leavesFrom list j) s (stateOf y u v words modes keep at (k + j)) → Stepped g (leavesFrom list (j + 1)) s (stateOf y′ u′ v′ words′ modes′ keep′ end (k + (j + 1)))
   unfolding stepAt
   leaves-next {s = s} list k j ga b place e d t a =
       let n : k + (j + 1) ≡ k + j + 1 = omega arith in
-      let one = one-leaf g x z side _ _ ga (a .asked) b drawn in
+      let one = one-leaf g (leaf .x .0) (leaf .y .0) (leaf .side) _ _ ga (a .asked) b drawn in
       rw n (leaves-more g list j s _ _ a (rw (place .0, place .1, place .2) at one)) where
-        drawn : stateOf y′ u′ v′ words′ modes′ keep′ end (k + j + 1) ≡ stepAt g x z side (stateOf y u v words modes keep at (k + j))
+        drawn : stateOf y′ u′ v′ words′ modes′ keep′ end (k + j + 1) ≡ stepAt g (leaf .x .0) (leaf .y .0) (leaf .side) (stateOf y u v words modes keep at (k + j))
         drawn = rw (d .y-drawn, d .u-drawn, d .v-drawn, d .ends, t .0, t .1, t .2, e .0, e .1, e .2, e .3)
 
 -- lengths stay

@@ -106,11 +106,11 @@ module _ {w h : ℕ} {s : List ℕ} {i : ℕ} {list p : List ℕ} {n : ℕ} (a :
       let y₀ = getD list (3 * j + 1) 0 in
       let s₀ = getD list (3 * j + 2) 0 in
       record {
-        x = from-0 X Y p j few ∙ ap (λ (z : ℕ). X + 4 * (z % 16)) m
+        x = from-0 X Y p j few ∙ ap (λ (number : ℕ). X + 4 * (number % 16)) m
             ∙ column-back X x₀ y₀ s₀ (omega arith) (omega (arith, left)) (omega (arith, right, b .least, b .by-four)) (four _ _ (b .side-ok) (b .column));
-        y = from-1 X Y p j few ∙ ap (λ (z : ℕ). Y + 4 * (z / 16 % 16)) m
+        y = from-1 X Y p j few ∙ ap (λ (number : ℕ). Y + 4 * (number / 16 % 16)) m
             ∙ row-back Y x₀ y₀ s₀ (omega arith) (omega (arith, top)) (omega (arith, bottom, b .least, b .by-four)) (four _ _ (b .side-ok) (b .row));
-        side = from-2 X Y p j few ∙ ap (λ (z : ℕ). 4 * (z / 256)) m ∙ side-back x₀ y₀ s₀ (b .by-four);
+        side = from-2 X Y p j few ∙ ap (λ (number : ℕ). 4 * (number / 256)) m ∙ side-back x₀ y₀ s₀ (b .by-four);
       }
 
   pub listed-packed : Listed w h s i (unpacked X Y p) n

@@ -6,6 +6,7 @@ use mathlib.Core.List.{List}
 use lib.Dec.{eqb}
 use lib.ListN.{length, getD}
 use Rattle.laws.specs.Index.{pick, tabulate}
+use Rattle.driver.specs.declared.walk.Root.{Root}
 
 abbrev pub packedLeaf : (x y side : ℕ) → ℕ
 packedLeaf x y side = side / 4 * 256 + y / 4 % 16 * 16 + x / 4 % 16
@@ -17,6 +18,10 @@ placeFrom x y m k = pick (eqb k 0) (x + 4 * (m % 16)) (pick (eqb k 1) (y + 4 * (
 -- the list that the numbers stand for
 abbrev pub unpacked : (x y : ℕ) → List ℕ → List ℕ
 unpacked x y p = tabulate 768 (λ (k : ℕ). placeFrom x y (getD p (k / 3) 0) (k % 3))
+
+-- of a root
+abbrev pub unpackedAt : Root → List ℕ → List ℕ
+unpackedAt root p = unpacked (root .x .0) (root .y .0) p
 
 -- the first n leaves of a list
 pub record Packed (list : List ℕ) (n : ℕ) (p : List ℕ) : Type 0 where

@@ -46,7 +46,7 @@ pub fn reconstruct(
         })
         (record { number = answerNumber r; y = now (y .exit); u = now (u .exit); v = now (v .exit); words = now («map_scu» .exit); modes = now (modes .exit); keep = now (keep .exit) }) ⌝ }
 {
-    match checked_leaves(
+    if let Answer::Refused(r) = checked_leaves(
         w,
         h,
         format,
@@ -63,28 +63,26 @@ pub fn reconstruct(
         modes.len(),
         keep.len(),
     ) {
-        Answer::Refused(r) => Answer::Refused(r),
-        Answer::Done => {
-            clear(&mut *map_scu);
-            draw_picture(
-                w,
-                h,
-                format,
-                constrained,
-                splits,
-                leaves,
-                pred_y,
-                pred_u,
-                pred_v,
-                residual,
-                y,
-                u,
-                v,
-                map_scu,
-                modes,
-                keep,
-            );
-            Answer::Done
-        }
+        return Answer::Refused(r);
     }
+    clear(&mut *map_scu);
+    draw_picture(
+        w,
+        h,
+        format,
+        constrained,
+        splits,
+        leaves,
+        pred_y,
+        pred_u,
+        pred_v,
+        residual,
+        y,
+        u,
+        v,
+        map_scu,
+        modes,
+        keep,
+    );
+    Answer::Done
 }

@@ -11,9 +11,9 @@ ghost use Rattle.split.specs.Stored.{leavesFrom};
 ghost use Rattle.driver_rules.specs.Asked.{GivenAsked, StateAsked, Reaches, Blocks, Sides, Accepted, Listed, Stepped};
 ghost use Rattle.driver_rules.specs.Call.{leavesOf};
 ghost use Rattle.driver_rules.specs.Records.{kindAt, recordQp, maskAt, keepAt, isMode, codedY, endV, placeOf, first, passed};
-ghost use Rattle.driver_rules.specs.Steps.{withUnits, steps};
-ghost use Rattle.driver.specs.Packed.{packedLeaf, unpacked, Packed};
-ghost use Rattle.driver.specs.Lends.{givenOf, stateOf, colourEnd, ColourDrawn, Drawn, ColourAsked, PlanesAsked, Told, Ended};
+ghost use Rattle.driver_rules.specs.Steps.{steps};
+ghost use Rattle.driver.specs.Packed.{packedLeaf, unpacked, unpackedAt, Packed};
+ghost use Rattle.driver.specs.Lends.{givenOf, stateOf, colourEnd, toldTo, ColourDrawn, Drawn, ColourAsked, PlanesAsked, Told, Ended};
 use crate::component::Block;
 use crate::component::component;
 use def::Component;
@@ -27,25 +27,32 @@ use driver_check::mode_of;
 use driver_check::word_of;
 use split::Walked;
 
+// A root's place, in luma samples.
+pub(crate) struct Root {
+    pub(crate) x: Pel,
+    pub(crate) y: Pel,
+}
+
 // A leaf: its place and its side, in luma samples.
-struct Leaf {
-    x: Pel,
-    z: Pel,
-    side: usize,
+pub(crate) struct Leaf {
+    pub(crate) x: Pel,
+    pub(crate) y: Pel,
+    pub(crate) side: usize,
 }
 
 // A leaf's record.
-struct Record {
-    kind: u8,
-    qp: u8,
-    mask: u8,
-    keep: u8,
+pub(crate) struct Record {
+    pub(crate) kind: u8,
+    pub(crate) qp: u8,
+    pub(crate) mask: u8,
+    pub(crate) keep: u8,
 }
 
 // The record of leaf k.
 fn record_at(leaves: &[u8], k: usize) -> Record
     requires { ⌜ 4 * (k + 1) ≤ length (now leaves) ⌝ }
-    ensures { λ r. ⌜ (r .kind ≡ kindAt (now (leaves .entry)) k) × (r .qp ≡ recordQp (now (leaves .entry)) k) × (r .mask ≡ maskAt (now (leaves .entry)) k) × (r .keep ≡ keepAt (now (leaves .entry)) k) ⌝ }
+    ensures { λ r. ⌜ (r .kind ≡ kindAt (now (leaves .entry)) k) × (r .qp ≡ recordQp (now (leaves .entry)) k)
+        × (r .mask ≡ maskAt (now (leaves .entry)) k) × (r .keep ≡ keepAt (now (leaves .entry)) k) ⌝ }
 {
     let kind = leaves[4 * k];
     let qp = leaves[4 * k + 1];
@@ -86,7 +93,7 @@ fn root_leaves(w: usize, h: usize, splits: &[u8], i: usize, list: &mut [u16]) ->
     requires { ⌜ Accepted w h (now splits) × (i < rootCount w h) × (length (now list) ≡ 768) ⌝ }
     ensures { λ r. ⌜ Listed w h (now (splits .entry)) i (now (list .exit)) r ⌝ }
 {
-    let across = (w + 63) / 64;
+    let across = def::roots_along(w);
     let x = Pel(64 * (i % across));
     let y = Pel(64 * (i / across));
     match split::leaves(w, h, splits, x, y, list) {
@@ -129,15 +136,16 @@ fn packed_leaves(
     pack_root(w, h, splits, i, room, leaves)
 }
 
-// Leaf j of those of the root at (x, z).
-fn leaf_at(leaves: &[u16], x: usize, z: usize, j: usize) -> Leaf
-    requires { ⌜ (j < 256) × (length (now leaves) ≡ 256) × (x ≤ 4096) × (z ≤ 4096) ⌝ }
-    ensures { λ r. ⌜ (r .x .0 ≡ getD (unpacked x z (now (leaves .entry))) (3 * j) 0) × (r .z .0 ≡ getD (unpacked x z (now (leaves .entry))) (3 * j + 1) 0) × (r .side ≡ getD (unpacked x z (now (leaves .entry))) (3 * j + 2) 0) ⌝ }
+// Leaf j of those of a root.
+fn leaf_at(leaves: &[u16], root: Root, j: usize) -> Leaf
+    requires { ⌜ (j < 256) × (length (now leaves) ≡ 256) × (root .x .0 ≤ 4096) × (root .y .0 ≤ 4096) ⌝ }
+    ensures { λ r. ⌜ (r .x .0 ≡ getD (unpackedAt root (now (leaves .entry))) (3 * j) 0) × (r .y .0 ≡ getD (unpackedAt root (now (leaves .entry))) (3 * j + 1) 0)
+        × (r .side ≡ getD (unpackedAt root (now (leaves .entry))) (3 * j + 2) 0) ⌝ }
 {
     let m = leaves[j] as usize;
     Leaf {
-        x: Pel(x + 4 * (m % 16)),
-        z: Pel(z + 4 * (m / 16 % 16)),
+        x: Pel(root.x.0 + 4 * (m % 16)),
+        y: Pel(root.y.0 + 4 * (m / 16 % 16)),
         side: 4 * (m / 256),
     }
 }
@@ -169,20 +177,27 @@ fn tell_row(
 }
 
 // The units of a leaf, in maps of a picture w wide: the word of its record, the mode, and whether they are kept. A leaf of 4 is one unit, and no loop.
-fn tell(map_scu: &mut [u32], modes: &mut [u8], keep: &mut [u8], w: usize, leaf: Leaf, said: Record)
-    requires { ⌜ Told (w / 4) (leaf .x .0 / 4) (leaf .z .0 / 4) (leaf .side / 4) (now «map_scu») (now modes) (now keep) ⌝ }
-    ensures { λ _. ⌜ (now («map_scu» .exit) ≡ withUnits w (leaf .x .0) (leaf .z .0) (leaf .side) (leafWord (isMode (said .kind)) (said .qp) (codedY (said .mask))) (now («map_scu» .entry)))
-        × (now (modes .exit) ≡ withUnits w (leaf .x .0) (leaf .z .0) (leaf .side) (pick (isMode (said .kind)) (said .kind) 255) (now (modes .entry)))
-        × (now (keep .exit) ≡ withUnits w (leaf .x .0) (leaf .z .0) (leaf .side) (said .keep) (now (keep .entry))) ⌝ }
+fn tell(
+    map_scu: &mut [u32],
+    modes: &mut [u8],
+    keep: &mut [u8],
+    w: usize,
+    leaf: Leaf,
+    record: Record,
+)
+    requires { ⌜ Told (w / 4) (leaf .x .0 / 4) (leaf .y .0 / 4) (leaf .side / 4) (now «map_scu») (now modes) (now keep) ⌝ }
+    ensures { λ _. ⌜ (now («map_scu» .exit) ≡ toldTo w leaf (leafWord (isMode («record» .kind)) («record» .qp) (codedY («record» .mask))) (now («map_scu» .entry)))
+        × (now (modes .exit) ≡ toldTo w leaf (pick (isMode («record» .kind)) («record» .kind) 255) (now (modes .entry)))
+        × (now (keep .exit) ≡ toldTo w leaf («record» .keep) (now (keep .entry))) ⌝ }
 {
     let columns = w / 4;
     let x = pel2scu(leaf.x).0;
-    let y = pel2scu(leaf.z).0;
+    let y = pel2scu(leaf.y).0;
     let side = leaf.side;
     let n = side / 4;
-    let word = word_of(said.kind, said.qp, said.mask);
-    let mode = mode_of(said.kind);
-    let mark = said.keep;
+    let word = word_of(record.kind, record.qp, record.mask);
+    let mode = mode_of(record.kind);
+    let mark = record.keep;
     if n == 1 {
         let at = y * columns + x;
         tell_row(map_scu, modes, keep, at, 1, word, mode, mark);
@@ -214,7 +229,7 @@ fn leaf_colour(
     format: Format,
     constrained: bool,
     leaf: Leaf,
-    said: Record,
+    record: Record,
     pred_u: &[u16],
     pred_v: &[u16],
     residual: &[i16],
@@ -225,52 +240,51 @@ fn leaf_colour(
     run: &mut [u16; 257],
     room: &mut [u16; 4096],
 ) -> usize
-    requires { ⌜ ColourAsked (givenOf w h format constrained [] (now residual) [] (now «pred_u») (now «pred_v»)) (leaf .x .0) (leaf .z .0) (leaf .side) (said .mask) (now «map_scu») (now u) (now v) × (colourEnd at (said .mask) (leaf .side) ≤ length (now residual)) ⌝ }
-    ensures { λ r. ⌜ ColourDrawn (givenOf w h format constrained [] (now (residual .entry)) [] (now («pred_u» .entry)) (now («pred_v» .entry))) (leaf .x .0) (leaf .z .0) (leaf .side) (said .kind) (said .mask) at (now («map_scu» .entry))
-        (now (u .entry)) (now (v .entry)) (now (u .exit)) (now (v .exit)) r ⌝ }
+    requires { ⌜ ColourAsked (givenOf w h format constrained [] (now residual) [] (now «pred_u») (now «pred_v»)) leaf («record» .mask) (now «map_scu») (now u) (now v)
+        × (colourEnd at («record» .mask) (leaf .side) ≤ length (now residual)) ⌝ }
+    ensures { λ r. ⌜ ColourDrawn (givenOf w h format constrained [] (now (residual .entry)) [] (now («pred_u» .entry)) (now («pred_v» .entry))) leaf
+        («record» .kind) («record» .mask) at (now («map_scu» .entry)) (now (u .entry)) (now (v .entry)) (now (u .exit)) (now (v .exit)) r ⌝ }
 {
-    match format {
-        Format::Grey => at,
-        Format::Colour => {
-            let x = leaf.x;
-            let z = leaf.z;
-            let block = Block {
-                component: Component::Chroma,
-                w,
-                h,
-                x,
-                y: z,
-                side: leaf.side,
-                constrained,
-            };
-            let kind = said.kind;
-            let mask = said.mask;
-            let end = component(
-                block,
-                kind,
-                coded_u(mask),
-                pred_u,
-                residual,
-                at,
-                map_scu,
-                u,
-                &mut *run,
-                &mut *room,
-            );
-            component(
-                block,
-                kind,
-                coded_v(mask),
-                pred_v,
-                residual,
-                end,
-                map_scu,
-                v,
-                run,
-                room,
-            )
-        }
+    if let Format::Grey = format {
+        return at;
     }
+    let column = leaf.x;
+    let row = leaf.y;
+    let block = Block {
+        component: Component::Chroma,
+        w,
+        h,
+        x: column,
+        y: row,
+        side: leaf.side,
+        constrained,
+    };
+    let kind = record.kind;
+    let mask = record.mask;
+    let end = component(
+        block,
+        kind,
+        coded_u(mask),
+        pred_u,
+        residual,
+        at,
+        map_scu,
+        u,
+        &mut *run,
+        &mut *room,
+    );
+    component(
+        block,
+        kind,
+        coded_v(mask),
+        pred_v,
+        residual,
+        end,
+        map_scu,
+        v,
+        run,
+        room,
+    )
 }
 
 // Its components, by one kind: Y, and then U and V.
@@ -280,7 +294,7 @@ fn leaf_planes(
     format: Format,
     constrained: bool,
     leaf: Leaf,
-    said: Record,
+    record: Record,
     pred_y: &[u16],
     pred_u: &[u16],
     pred_v: &[u16],
@@ -293,25 +307,26 @@ fn leaf_planes(
     run: &mut [u16; 257],
     room: &mut [u16; 4096],
 ) -> usize
-    requires { ⌜ PlanesAsked (givenOf w h format constrained [] (now residual) (now «pred_y») (now «pred_u») (now «pred_v»)) (leaf .x .0) (leaf .z .0) (leaf .side) (said .mask) (now «map_scu») (now y) (now u) (now v) × (endV at (said .mask) (leaf .side) ≤ length (now residual)) ⌝ }
-    ensures { λ r. ⌜ Drawn (givenOf w h format constrained [] (now (residual .entry)) (now («pred_y» .entry)) (now («pred_u» .entry)) (now («pred_v» .entry))) (leaf .x .0) (leaf .z .0) (leaf .side) (said .kind) (said .mask) at (now («map_scu» .entry))
-        (now (y .entry)) (now (u .entry)) (now (v .entry)) (now (y .exit)) (now (u .exit)) (now (v .exit)) r ⌝ }
+    requires { ⌜ PlanesAsked (givenOf w h format constrained [] (now residual) (now «pred_y») (now «pred_u») (now «pred_v»)) leaf («record» .mask) (now «map_scu») (now y) (now u) (now v)
+        × (endV at («record» .mask) (leaf .side) ≤ length (now residual)) ⌝ }
+    ensures { λ r. ⌜ Drawn (givenOf w h format constrained [] (now (residual .entry)) (now («pred_y» .entry)) (now («pred_u» .entry)) (now («pred_v» .entry))) leaf
+        («record» .kind) («record» .mask) at (now («map_scu» .entry)) (now (y .entry)) (now (u .entry)) (now (v .entry)) (now (y .exit)) (now (u .exit)) (now (v .exit)) r ⌝ }
 {
-    let x = leaf.x;
-    let z = leaf.z;
+    let column = leaf.x;
+    let row = leaf.y;
     let luma = Block {
         component: Component::Luma,
         w,
         h,
-        x,
-        y: z,
+        x: column,
+        y: row,
         side: leaf.side,
         constrained,
     };
     let end = component(
         luma,
-        said.kind,
-        coded_y(said.mask),
+        record.kind,
+        coded_y(record.mask),
         pred_y,
         residual,
         at,
@@ -326,7 +341,7 @@ fn leaf_planes(
         format,
         constrained,
         leaf,
-        said,
+        record,
         pred_u,
         pred_v,
         residual,
@@ -341,15 +356,14 @@ fn leaf_planes(
 
 // ---- the leaves of a root, drawn
 
-// The first n of the root at (x, z), leaf k first. The answer is where their residuals end.
+// The first n of a root, leaf k first. The answer is where their residuals end.
 fn draw_leaves(
     w: usize,
     h: usize,
     format: Format,
     constrained: bool,
     list: &[u16],
-    x: usize,
-    z: usize,
+    root: Root,
     n: usize,
     leaves: &[u8],
     k: usize,
@@ -368,23 +382,26 @@ fn draw_leaves(
     room: &mut [u16; 4096],
 ) -> usize
     requires { ⌜ GivenAsked (givenOf w h format constrained (now leaves) (now residual) (now «pred_y») (now «pred_u») (now «pred_v»)) ⌝ }
-    requires { ⌜ StateAsked (givenOf w h format constrained (now leaves) (now residual) (now «pred_y») (now «pred_u») (now «pred_v»)) (stateOf (now y) (now u) (now v) (now «map_scu») (now modes) (now keep) at k) ⌝ }
-    requires { ⌜ Blocks w h (unpacked x z (now list)) n × (length (now list) ≡ 256) × (x ≤ 4096) × (z ≤ 4096) × Reaches (now leaves) (length (now residual)) (passed (now leaves) (leavesFrom (unpacked x z (now list)) n) (placeOf at k)) ⌝ }
-    ensures { λ r. ⌜ Stepped (givenOf w h format constrained (now (leaves .entry)) (now (residual .entry)) (now («pred_y» .entry)) (now («pred_u» .entry)) (now («pred_v» .entry))) (leavesFrom (unpacked x z (now (list .entry))) n)
+    requires { ⌜ StateAsked (givenOf w h format constrained (now leaves) (now residual) (now «pred_y») (now «pred_u») (now «pred_v»))
+        (stateOf (now y) (now u) (now v) (now «map_scu») (now modes) (now keep) at k) ⌝ }
+    requires { ⌜ Blocks w h (unpackedAt root (now list)) n × (length (now list) ≡ 256) × (root .x .0 ≤ 4096) × (root .y .0 ≤ 4096)
+        × Reaches (now leaves) (length (now residual)) (passed (now leaves) (leavesFrom (unpackedAt root (now list)) n) (placeOf at k)) ⌝ }
+    ensures { λ r. ⌜ Stepped (givenOf w h format constrained (now (leaves .entry)) (now (residual .entry)) (now («pred_y» .entry)) (now («pred_u» .entry)) (now («pred_v» .entry)))
+        (leavesFrom (unpackedAt root (now (list .entry))) n)
         (stateOf (now (y .entry)) (now (u .entry)) (now (v .entry)) (now («map_scu» .entry)) (now (modes .entry)) (now (keep .entry)) at k)
         (stateOf (now (y .exit)) (now (u .exit)) (now (v .exit)) (now («map_scu» .exit)) (now (modes .exit)) (now (keep .exit)) r (k + n)) ⌝ }
 {
     let mut end = at;
     for j in 0..n {
-        let leaf = leaf_at(list, x, z, j);
-        let said = record_at(leaves, k + j);
+        let leaf = leaf_at(list, root, j);
+        let record = record_at(leaves, k + j);
         end = leaf_planes(
             w,
             h,
             format,
             constrained,
             leaf,
-            said,
+            record,
             pred_y,
             pred_u,
             pred_v,
@@ -397,7 +414,7 @@ fn draw_leaves(
             &mut *run,
             &mut *room,
         );
-        tell(&mut *map_scu, &mut *modes, &mut *keep, w, leaf, said);
+        tell(&mut *map_scu, &mut *modes, &mut *keep, w, leaf, record);
     }
     end
 }
@@ -435,23 +452,27 @@ pub(crate) fn draw_picture(
     keep: &mut [u8],
 )
     requires { ⌜ GivenAsked (givenOf w h format constrained (now leaves) (now residual) (now «pred_y») (now «pred_u») (now «pred_v»)) ⌝ }
-    requires { ⌜ StateAsked (givenOf w h format constrained (now leaves) (now residual) (now «pred_y») (now «pred_u») (now «pred_v»)) (stateOf (now y) (now u) (now v) (now «map_scu») (now modes) (now keep) 0 0) ⌝ }
+    requires { ⌜ StateAsked (givenOf w h format constrained (now leaves) (now residual) (now «pred_y») (now «pred_u») (now «pred_v»))
+        (stateOf (now y) (now u) (now v) (now «map_scu») (now modes) (now keep) 0 0) ⌝ }
     requires { ⌜ Accepted w h (now splits) × Reaches (now leaves) (length (now residual)) (passed (now leaves) (leavesOf w h (now splits)) first) ⌝ }
     ensures { λ _. ⌜ Ended
-        (steps (givenOf w h format constrained (now (leaves .entry)) (now (residual .entry)) (now («pred_y» .entry)) (now («pred_u» .entry)) (now («pred_v» .entry))) (leavesOf w h (now (splits .entry)))
+        (steps (givenOf w h format constrained (now (leaves .entry)) (now (residual .entry)) (now («pred_y» .entry)) (now («pred_u» .entry)) (now («pred_v» .entry)))
+        (leavesOf w h (now (splits .entry)))
         (stateOf (now (y .entry)) (now (u .entry)) (now (v .entry)) (now («map_scu» .entry)) (now (modes .entry)) (now (keep .entry)) 0 0))
         (now (y .exit)) (now (u .exit)) (now (v .exit)) (now («map_scu» .exit)) (now (modes .exit)) (now (keep .exit)) ⌝ }
 {
-    let across = (w + 63) / 64;
-    let roots = across * ((h + 63) / 64);
+    let across = def::roots_along(w);
+    let roots = across * def::roots_along(h);
     let mut list = [0u16; 256];
     let mut run = [0u16; 257];
     let mut room = [0u16; 4096];
     let mut at = 0;
     let mut k = 0;
     for i in 0..roots {
-        let x = 64 * (i % across);
-        let z = 64 * (i / across);
+        let root = Root {
+            x: Pel(64 * (i % across)),
+            y: Pel(64 * (i / across)),
+        };
         let n = packed_leaves(w, h, splits, i, &mut room, &mut list);
         at = draw_leaves(
             w,
@@ -459,8 +480,7 @@ pub(crate) fn draw_picture(
             format,
             constrained,
             &list,
-            x,
-            z,
+            root,
             n,
             leaves,
             k,

@@ -24,15 +24,28 @@ input s =
       keep = a .keep .now;
     }
 
+-- the states after the leaves, after the words were cleared, after the checks, and the call's start
+abbrev drawn : tie.After-slice-known13 → tie.After-draw-picture
+drawn c = c .before .before .before .before .before .before .before .before .before .before .before .before
+
+abbrev cleared : tie.After-draw-picture-arg6 → tie.After-clear
+cleared c = c .before .before .before .before .before .before .before .before
+
+abbrev checked : tie.After-clear → tie.After-enum-told
+checked c = c .before .before
+
+abbrev start : tie.After-enum-told → tie.Start
+start c = c .before .before .before .before .before .before .before .before .before .before .before .before .before .before
+
 -- where the checks found nothing
-passed-at : (c : tie.After-enum-told) → Passed (input (c .before .before .before .before .before .before .before .before .before .before .before .before .before .before))
-passed-at c = all-passed (input (c .before .before .before .before .before .before .before .before .before .before .before .before .before .before))
-    (sym (c .before .before .checked-leaves .ensures) ∙ c .enum-told .given .1)
+passed-at : (c : tie.After-enum-told) → Passed (input (start c))
+passed-at c = all-passed (input (start c)) (sym (c .before .before .checked-leaves .ensures) ∙ c .enum-told .given .1)
 
 draw-picture-requires : tie.Need-draw-picture-requires
 draw-picture-requires c κs =
-    let p = passed-at (c .before .before .before .before .before .before .before .before .before .before) in
-    (p .given, (rw (c .before .before .before .before .before .before .before .before .clear .ensures) (p .state), (p .accepted, p .reaches)))
+    let k = cleared c in
+    let p = passed-at (checked k) in
+    (p .given, (rw (k .clear .ensures) (p .state), (p .accepted, p .reaches)))
 
 returns : tie.Need-returns
 unfolding outcome
@@ -41,15 +54,18 @@ returns c = on-refusal _ _ _ _ _ (c .before .before .before .checked-leaves .ens
 returns-2 : tie.Need-returns-2
 unfolding outcome
 returns-2 c =
-    let s = c .before .before .before .before .before .before .before .before .before .before .before .before .before .before .before .before .before .before .before .before .before .before .before .before .before .before .before .before .before .before .before .before .before .before .before .before .before in
-    on-done _ _ _ _ _ (c .before .before .before .before .before .before .before .before .before .before .before .before .before .before .before .before .before .before .before .before .before .before .before .before .before .checked-leaves .ensures) (c .before .before .before .before .before .before .before .before .before .before .before .before .before .before .before .before .before .before .before .before .before .before .before .enum-told .given .1) (done-ended (input s) (c .before .before .before .before .before .before .before .before .before .before .before .before .before .before .before .before .before .before .before .before .before .clear .ensures) (c .before .before .before .before .before .before .before .before .before .before .before .before .draw-picture .ensures))
+    let d = drawn c in
+    let k = cleared (d .before) in
+    let e = checked k in
+    on-done _ _ _ _ _ (e .before .before .checked-leaves .ensures) (e .enum-told .given .1) (done-ended (input (start e)) (k .clear .ensures) (d .draw-picture .ensures))
 
 pub reconstruct-spec : {M : Type 1} → statement M
 reconstruct-spec =
     tie.close
-    (tie.spec (λ c κs. search needs) (λ c. search needs) (λ c. search needs) (λ c κs. search needs) draw-picture-requires returns
-    (λ c. c .before .before .before .before .before .before .before .before .before .before .before .before .draw-picture .kept .1 .1 .1 .1 .1 .1 .1 .1 .1 .1 .0)
-    (λ c. c .before .before .before .before .before .before .before .before .before .before .before .before .draw-picture .kept .1 .1 .1 .1 .1 .1 .1 .1 .1 .1 .1 .0)
-    (λ c. c .before .before .before .before .before .before .before .before .before .before .before .before .draw-picture .kept .1 .1 .1 .1 .1 .1 .1 .1 .1 .1 .1 .1 .0)
-    (λ c. c .before .before .before .before .before .before .before .before .before .before .before .before .draw-picture .kept .1 .1 .1 .1 .1 .1 .1 .1 .1 .1 .1 .1 .1 .0
-    ∙ c .before .before .before .before .before .before .before .before .before .before .before .before .before .before .before .before .before .before .before .before .before .clear .kept .0) (λ c. c .before .before .before .before .before .before .before .before .before .before .before .before .draw-picture .kept .1 .1 .1 .1 .1 .1 .1 .1 .1 .1 .1 .1 .1 .1 .0) (λ c. c .before .before .before .before .before .before .before .before .before .before .before .before .draw-picture .kept .1 .1 .1 .1 .1 .1 .1 .1 .1 .1 .1 .1 .1 .1 .1 .0) returns-2)
+    (tie.spec (λ c κs. search needs) (λ c. search needs) returns (λ c. search needs) (λ c κs. search needs) draw-picture-requires
+    (λ c. drawn c .draw-picture .kept .1 .1 .1 .1 .1 .1 .1 .1 .1 .1 .0)
+    (λ c. drawn c .draw-picture .kept .1 .1 .1 .1 .1 .1 .1 .1 .1 .1 .1 .0)
+    (λ c. drawn c .draw-picture .kept .1 .1 .1 .1 .1 .1 .1 .1 .1 .1 .1 .1 .0)
+    (λ c. drawn c .draw-picture .kept .1 .1 .1 .1 .1 .1 .1 .1 .1 .1 .1 .1 .1 .0 ∙ cleared (drawn c .before) .clear .kept .0)
+    (λ c. drawn c .draw-picture .kept .1 .1 .1 .1 .1 .1 .1 .1 .1 .1 .1 .1 .1 .1 .0)
+    (λ c. drawn c .draw-picture .kept .1 .1 .1 .1 .1 .1 .1 .1 .1 .1 .1 .1 .1 .1 .1 .0) returns-2)

@@ -13,13 +13,16 @@ few c = omega (arith, c .shared-slice-known .given (c .before .args .j))
 
 returns : tie.Need-returns
 returns c =
-    let a = c .before .args in
-    let h = c .before .pre .0 in
-    (sym (from-0 (a .x) (a .z) (a .leaves .now) (a .j) h), sym (from-1 (a .x) (a .z) (a .leaves .now) (a .j) h), sym (from-2 (a .x) (a .z) (a .leaves .now) (a .j) h))
+    let a = c .before .before .before .args in
+    let h = c .before .before .before .pre .0 in
+    let x = a .root .x .0 in
+    let y = a .root .y .0 in
+    (sym (from-0 x y (a .leaves .now) (a .j) h), sym (from-1 x y (a .leaves .now) (a .j) h), sym (from-2 x y (a .leaves .now) (a .j) h))
 
 pub leaf-at-spec : {M : Type 1} → statement M
 leaf-at-spec =
     tie.close
     (tie.spec (λ c. omega (arith, c .pre .1, c .pre .0)) (λ c. omega (arith, c .before .pre .1, c .before .pre .0)) (λ c. omega (arith, few c))
-    (λ c. omega (arith, few c)) (λ c. omega (arith, few c, c .before .pre .2)) (λ c. omega (arith, few c)) (λ c. omega (arith, few c, c .before .pre .3)) (λ c. omega (arith, few c))
+    (λ c. omega (arith, few c)) (λ c. omega (arith, few (c .before), c .before .before .pre .2)) (λ c. omega (arith, few (c .before)))
+    (λ c. omega (arith, few (c .before .before), c .before .before .before .pre .3)) (λ c. omega (arith, few (c .before .before)))
     returns)

@@ -11,15 +11,28 @@ use Rattle.driver.proofs.Leaves.{colour-drawn, colour-none}
 use Rattle.driver.proofs.walk.leaf_colour.Statement.{statement}
 use Rattle.driver.proofs.walk.leaf_colour.Tie as tie
 
+-- the states after V's bit, after U, after its bit, and the call's start
+abbrev v-coded : tie.After-component-arg6 → tie.After-coded-v
+v-coded c = c .before .before .before
+
+abbrev u-drawn : tie.After-coded-v → tie.After-component
+u-drawn c = c .before .before .before
+
+abbrev u-coded : tie.After-component-arg3 → tie.After-coded-u
+u-coded c = c .before .before .before
+
+abbrev start : tie.After-coded-u → tie.Start
+start c = c .before .before .before .before .before .before .before .before .before .before
+
 returns : tie.Need-returns
 returns c =
     let s = c .before .before .before .before .before .before .before in
     let k = rw (c .enum-told .given .1) at (s .pre .0) in
-    colour-none _ _ _ _ _ _ _ _ _ _ (k .u-long) (k .v-long) (k .masked)
+    colour-none _ _ _ _ _ _ _ _ (k .u-long) (k .v-long) (k .masked)
 
 -- where U ends
 first-end : (c : tie.After-component) → let a = c .before .before .before .before .before .before .before .before .before .before .before .before .before .before .args in
-    c .component .result ≡ a .at + residualCount Chroma (codedU (a .said .mask)) (a .leaf .side)
+    c .component .result ≡ a .at + residualCount Chroma (codedU (a .«record» .mask)) (a .leaf .side)
 first-end c = c .component .ensures .1 ∙ rw (c .before .before .before .before .coded-u .ensures)
 
 component-requires : tie.Need-component-requires
@@ -42,15 +55,16 @@ component-requires-2 c κs =
 
 returns-2 : tie.Need-returns-2
 returns-2 c =
-    let a = c .before .before .before .before .before .before .before .before .before .before .before .before .before .before .before .before .before .before .before .before .before .before .before .args in
-    colour-drawn (givenOf (a .w) (a .h) (a .format) (a .constrained) [] (a .residual .now) [] (a .pred-u .now) (a .pred-v .now)) (a .leaf .x .0) (a .leaf .z .0)
-    (a .leaf .side) (a .said .kind) (a .said .mask) (a .at) (a .map-scu .now) (a .u .now) (a .v .now)
-    (c .before .before .before .before .before .before .before .before .before .before .before .before .before .coded-u .ensures)
-    (c .before .before .before .before .before .before .coded-v .ensures)
-    (c .before .before .before .before .before .before .before .before .before .component .ensures) (c .before .before .component2 .ensures)
+    let k = c .before .before in
+    let v = v-coded (k .before) in
+    let u = u-drawn v in
+    let d = u-coded (u .before) in
+    let a = start d .args in
+    colour-drawn (givenOf (a .w) (a .h) (a .format) (a .constrained) [] (a .residual .now) [] (a .pred-u .now) (a .pred-v .now)) (a .leaf) (a .«record» .kind) (a .«record» .mask)
+    (a .at) (a .map-scu .now) (a .u .now) (a .v .now) (d .coded-u .ensures) (v .coded-v .ensures) (u .component .ensures) (k .component2 .ensures)
 
 pub leaf-colour-spec : {M : Type 1} → statement M
 leaf-colour-spec =
     tie.close
-    (tie.spec (λ c. search needs) (λ c. search needs) (λ c κs. search needs) component-requires (λ c κs. search needs) component-requires-2 returns
+    (tie.spec (λ c. search needs) returns (λ c. search needs) (λ c κs. search needs) component-requires (λ c κs. search needs) component-requires-2
     (λ c. search needs) (λ c. search needs) returns-2)

@@ -9,9 +9,22 @@ use Rattle.driver.proofs.Leaves.{colour-asked, planes-drawn}
 use Rattle.driver.proofs.walk.leaf_planes.Statement.{statement}
 use Rattle.driver.proofs.walk.leaf_planes.Tie as tie
 
+-- the states before U and V, after Y, after its bit, and the call's start
+abbrev coloured : tie.After-slice-known6 → tie.After-leaf-colour
+coloured c = c .before .before .before .before
+
+abbrev drawn : tie.After-leaf-colour-arg4 → tie.After-component
+drawn c = c .before .before .before .before .before .before
+
+abbrev coded : tie.After-component-arg3 → tie.After-coded-y
+coded c = c .before .before .before
+
+abbrev start : tie.After-coded-y → tie.Start
+start c = c .before .before .before .before .before .before .before .before .before .before
+
 -- where Y ends
 first-end : (c : tie.After-component) → let a = c .before .before .before .before .before .before .before .before .before .before .before .before .before .before .args in
-    c .component .result ≡ startU (a .at) (a .said .mask) (a .leaf .side)
+    c .component .result ≡ startU (a .at) (a .«record» .mask) (a .leaf .side)
 first-end c = c .component .ensures .1 ∙ rw (c .before .before .before .before .coded-y .ensures)
 
 component-requires : tie.Need-component-requires
@@ -21,16 +34,18 @@ component-requires c κs =
 
 leaf-colour-requires : tie.Need-leaf-colour-requires
 leaf-colour-requires c κs =
-    let s = c .before .before .before .before .before .before .before .before .before .before .before .before .before .before .before .before .before .before .before .before in
-    (colour-asked (s .pre .0 .colour), rw (first-end (c .before .before .before .before .before .before)) (s .pre .1))
+    let d = drawn c in
+    let s = start (coded (d .before)) in
+    (colour-asked (s .pre .0 .colour), rw (first-end d) (s .pre .1))
 
 returns : tie.Need-returns
 returns c =
-    let a = c .before .before .before .before .before .before .before .before .before .before .before .before .before .before .before .before .before .before .before .before .before .before .before .before .before .args in
-    planes-drawn (givenOf (a .w) (a .h) (a .format) (a .constrained) [] (a .residual .now) (a .pred-y .now) (a .pred-u .now) (a .pred-v .now)) (a .leaf .x .0) (a .leaf .z .0)
-    (a .leaf .side) (a .said .kind) (a .said .mask) (a .at) (a .map-scu .now) (a .u .now) (a .v .now) (a .y .now)
-    (c .before .before .before .before .before .before .before .before .before .before .before .before .before .before .before .coded-y .ensures)
-    (c .before .before .before .before .before .before .before .before .before .before .before .component .ensures) (c .before .before .before .before .leaf-colour .ensures)
+    let k = coloured c in
+    let d = drawn (k .before) in
+    let e = coded (d .before) in
+    let a = start e .args in
+    planes-drawn (givenOf (a .w) (a .h) (a .format) (a .constrained) [] (a .residual .now) (a .pred-y .now) (a .pred-u .now) (a .pred-v .now)) (a .leaf) (a .«record» .kind)
+    (a .«record» .mask) (a .at) (a .map-scu .now) (a .u .now) (a .v .now) (a .y .now) (e .coded-y .ensures) (d .component .ensures) (k .leaf-colour .ensures)
 
 pub leaf-planes-spec : {M : Type 1} → statement M
 leaf-planes-spec =

@@ -33,7 +33,7 @@ one-y c = c .before .before .before .pel2scu2 .result .0
 one-in : (c : tie.Then1 Inv-loop μ-loop) → let a = one-start c .args in one-y c * (a .w / 4) + a .w / 4 ≤ length (a .map-scu .now)
 one-in c =
     let s = one-start c in
-    row-below _ _ (s .args .leaf .z .0 / 4 + s .args .leaf .side / 4) _ (omega (arith, c .before .before .before .pel2scu2 .ensures, c .if1 .taken)) (s .pre .bottom)
+    row-below _ _ (s .args .leaf .y .0 / 4 + s .args .leaf .side / 4) _ (omega (arith, c .before .before .before .pel2scu2 .ensures, c .if1 .taken)) (s .pre .bottom)
 
 -- and so does its unit
 one-across : (c : tie.Then1 Inv-loop μ-loop) → one-x c + 1 ≤ one-start c .args .w / 4
@@ -84,7 +84,7 @@ across c = omega (arith, c .before .before .before .before .before .before .pel2
 in-map : (c : tie.In-loop Inv-loop μ-loop) → let a = start c .args in (y-of c + c .before .loop .r) * (a .w / 4) + a .w / 4 ≤ length (a .map-scu .now)
 in-map c =
     let s = start c in
-    row-below _ _ (s .args .leaf .z .0 / 4 + s .args .leaf .side / 4) _ (omega (arith, c .before .before .before .before .before .pel2scu2 .ensures, c .loop-test .taken)) (s .pre .bottom)
+    row-below _ _ (s .args .leaf .y .0 / 4 + s .args .leaf .side / 4) _ (omega (arith, c .before .before .before .before .before .pel2scu2 .ensures, c .loop-test .taken)) (s .pre .bottom)
 
 tell-row-requires-2 : tie.Need-tell-row-requires-2 Inv-loop μ-loop
 tell-row-requires-2 c κs =
