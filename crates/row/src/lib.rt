@@ -1,10 +1,12 @@
 // The strength row of the edge between two units of a picture's maps.
 // The Rust beside it: df.rs, evc_get_tbl_qp_to_st.
+ghost use mathlib.Core.Logic.{_⊎_};
 ghost use mathlib.Core.Path.{_≡_};
 ghost use Prim.Native.Nat.{_+_, _*_, _≤_};
 ghost use lib.ListN.{length};
+ghost use Rattle.line.specs.Row.{eqZ, motionRow};
 ghost use Rattle.df_rules.specs.Strength.{motionAt, rowBy};
-ghost use Rattle.row.specs.Between.{inMaps, rowIn, There};
+ghost use Rattle.row.specs.Between.{inMaps, rowIn, sameRefs, sameMotion, There};
 use def::get_cbfl;
 use def::get_if;
 use line::Motion;
@@ -33,7 +35,51 @@ fn motion_at(motion: &[i16], refs: &[i8], k: usize) -> Motion
     }
 }
 
-// The row of the edge between the units q and p of the maps.
+// The row by motion.
+fn by_motion(motion: &[i16], refs: &[i8], q: usize, p: usize) -> usize
+    requires { ⌜ (4 * q + 4 ≤ length (now motion)) × (2 * q + 2 ≤ length (now refs)) × (4 * p + 4 ≤ length (now motion)) × (2 * p + 2 ≤ length (now refs)) ⌝ }
+    ensures { λ r. ⌜ (r ≡ motionRow (motionAt (now (motion .entry)) (now (refs .entry)) q) (motionAt (now (motion .entry)) (now (refs .entry)) p)) × (r ≤ 3) ⌝ }
+{
+    motion_row(motion_at(motion, refs, q), motion_at(motion, refs, p))
+}
+
+fn same_ref(a: i8, b: i8) -> bool
+    ensures { λ r. ⌜ r ≡ eqZ a b ⌝ }
+{
+    a == b
+}
+
+fn same_number(a: i16, b: i16) -> bool
+    ensures { λ r. ⌜ r ≡ eqZ a b ⌝ }
+{
+    a == b
+}
+
+// Whether two units have the same references.
+fn same_refs(refs: &[i8], q: usize, p: usize) -> bool
+    requires { ⌜ (2 * q + 2 ≤ length (now refs)) × (2 * p + 2 ≤ length (now refs)) ⌝ }
+    ensures { λ r. ⌜ r ≡ sameRefs (now (refs .entry)) q p ⌝ }
+{
+    let a = 2 * q;
+    let b = 2 * p;
+    same_ref(refs[a], refs[b]) & same_ref(refs[a + 1], refs[b + 1])
+}
+
+// And the same motion.
+fn same_motion(motion: &[i16], q: usize, p: usize) -> bool
+    requires { ⌜ (4 * q + 4 ≤ length (now motion)) × (4 * p + 4 ≤ length (now motion)) ⌝ }
+    ensures { λ r. ⌜ r ≡ sameMotion (now (motion .entry)) q p ⌝ }
+{
+    let a = 4 * q;
+    let b = 4 * p;
+    same_number(motion[a], motion[b])
+        & same_number(motion[a + 1], motion[b + 1])
+        & same_number(motion[a + 2], motion[b + 2])
+        & same_number(motion[a + 3], motion[b + 3])
+}
+
+// The row of the edge between the units q and p of the maps. Most units of a station's pictures move as their neighbours do: their row is 3 by two comparisons.
+// The references are compared first, so that the compiler makes each of the two calls below it for references that are known to be equal in place, or not to be.
 fn row_between(words: &[u32], motion: &[i16], refs: &[i8], q: usize, p: usize) -> usize
     requires { ⌜ There (now words) (now motion) (now refs) q × There (now words) (now motion) (now refs) p ⌝ }
     ensures { λ r. ⌜ (r ≡ rowBy (now (words .entry)) (now (motion .entry)) (now (refs .entry)) q p) × (r ≤ 3) ⌝ }
@@ -46,17 +92,27 @@ fn row_between(words: &[u32], motion: &[i16], refs: &[i8], q: usize, p: usize) -
     if get_cbfl(a) | get_cbfl(b) {
         return 1;
     }
-    motion_row(motion_at(motion, refs, q), motion_at(motion, refs, p))
+    if !same_refs(refs, q, p) {
+        return by_motion(motion, refs, q, p);
+    }
+    if same_motion(motion, q, p) {
+        return 3;
+    }
+    by_motion(motion, refs, q, p)
+}
+
+fn larger(a: usize, b: usize) -> usize
+    ensures { λ r. ⌜ (a ≤ r) × (b ≤ r) × ((r ≡ a) ⊎ (r ≡ b)) ⌝ }
+{
+    if a < b { b } else { a }
 }
 
 // The same for any two numbers: 0 where one of them is no unit of the maps.
 pub fn row_at(words: &[u32], motion: &[i16], refs: &[i8], q: usize, p: usize) -> usize
     ensures { λ r. ⌜ (r ≡ rowIn (now (words .entry)) (now (motion .entry)) (now (refs .entry)) q p) × (r ≤ 3) ⌝ }
 {
-    if !in_maps(words.len(), motion.len(), refs.len(), q) {
-        return 0;
-    }
-    if !in_maps(words.len(), motion.len(), refs.len(), p) {
+    let last = larger(q, p);
+    if !in_maps(words.len(), motion.len(), refs.len(), last) {
         return 0;
     }
     row_between(words, motion, refs, q, p)
