@@ -65,7 +65,6 @@ pub record Halved (w h x y side level : ℕ) : Type 0 where
   pub next : 4 - (level + 1) ≡ 3 - level
   pub column : (i : ℕ) → (x + i % 2 * (side / 2)) / 4 ≡ partX (3 - level) (x / 4) i
   pub row : (i : ℕ) → (y + i / 2 * (side / 2)) / 4 ≡ partY (3 - level) (y / 4) i
-  pub less : side / 2 < side
   pub right : x + side / 2 ≤ 8192
   pub bottom : y + side / 2 ≤ 8192
   pub room : blocksIn (4 - level) ≡ 1 + 4 * blocksIn (3 - level)
@@ -109,7 +108,6 @@ halved {w} {h} {x} {y} {side} {level} b deep =
       next = next;
       column = λ i. let u = near (i % 2) in omega arith;
       row = λ i. let v = near (i / 2) in omega arith;
-      less = omega arith;
       right = omega arith;
       bottom = omega arith;
       room = ap blocksIn log;

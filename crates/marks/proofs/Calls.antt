@@ -18,7 +18,7 @@ use Rattle.def.specs.declared.Answer.the-variants.{Done, Refused}
 use Rattle.def.specs.declared.Refusal.{Refusal}
 use Rattle.def.proofs.Sizes.{Sized}
 use Rattle.laws.proofs.Calls.{all-at}
-use Rattle.split.proofs.Roots.{across-units}
+use Rattle.split.proofs.Roots.{across-units, root-block}
 use Rattle.split.proofs.Stores.{take-sets}
 use Rattle.marks_rules.proofs.Descents.{few-grown}
 use Rattle.marks_rules.proofs.Marks.{few}
@@ -26,6 +26,7 @@ use Rattle.marks_rules.specs.Descent.{Descent, descend, rootDescent}
 use Rattle.marks_rules.specs.Marks.{Mark, marks, blocksIn}
 use Rattle.marks_rules.specs.Mended.{mendByte, mendMarks}
 use Rattle.split.specs.Picture.{rootX, rootY}
+use Rattle.split.specs.Stored.{Block}
 use Rattle.marks.specs.ListCall as list-call
 use Rattle.marks.specs.TakeCall as take-call
 use Rattle.marks.specs.Stored.{markNumber, numbers, counted, Listed, Grew}
@@ -37,23 +38,28 @@ use Rattle.marks.proofs.Growing.{counted-done, counted-refused}
 
 module _ {w h : ℕ} (z : Sized w h) (i : ℕ) where
   abbrev column : ℕ
-  column = 64 * (i % rootsAlong w) / 4
+  column = 64 * (i % rootsAlong w)
 
   abbrev row : ℕ
-  row = 64 * (i / rootsAlong w) / 4
+  row = 64 * (i / rootsAlong w)
 
-  column-is : column ≡ rootX (w / 4) i
-  column-is = let e = across-units z in let a : column ≡ 16 * (i % rootsAlong w) = omega arith in a ∙ ap (λ (n : ℕ). 16 * (i % n)) (sym e)
+  column-is : column / 4 ≡ rootX (w / 4) i
+  column-is = let e = across-units z in let a : column / 4 ≡ 16 * (i % rootsAlong w) = omega arith in a ∙ ap (λ (n : ℕ). 16 * (i % n)) (sym e)
 
-  row-is : row ≡ rootY (w / 4) i
-  row-is = let e = across-units z in let a : row ≡ 16 * (i / rootsAlong w) = omega arith in a ∙ ap (λ (n : ℕ). 16 * (i / n)) (sym e)
+  row-is : row / 4 ≡ rootY (w / 4) i
+  row-is = let e = across-units z in let a : row / 4 ≡ 16 * (i / rootsAlong w) = omega arith in a ∙ ap (λ (n : ℕ). 16 * (i / n)) (sym e)
+
+  -- x, y: its place, as the code has it
+  pub root-at : {x y : ℕ} → i < rootCount w h → x ≡ column → y ≡ row → Block w h x y 64 0
+  root-at l e f = rw (e, f) (root-block z i l)
 
   -- its bytes, as the code takes them
-  pub root-listed : (s : List ℕ) → list-call.rootMarks w h s i ≡ mendMarks (take (1024 * i + 1024 - 1024 * i) (drop (1024 * i) s)) (w / 4) (h / 4) 4 column row
-  root-listed s = let n : 1024 * i + 1024 - 1024 * i ≡ 1024 = omega arith in rw (column-is, row-is, n)
+  pub root-listed : {x y : ℕ} (s : List ℕ) → x ≡ column → y ≡ row
+      → list-call.rootMarks w h s i ≡ mendMarks (take (1024 * i + 1024 - 1024 * i) (drop (1024 * i) s)) (w / 4) (h / 4) 4 (x / 4) (y / 4)
+  root-listed s e f = let n : 1024 * i + 1024 - 1024 * i ≡ 1024 = omega arith in rw (e, f, column-is, row-is, n)
 
-  pub root-grown : (ds : List ℕ) → rootDescent (w / 4) (h / 4) i ds ≡ descend (w / 4) (h / 4) 4 column row ds
-  root-grown ds = rw (column-is, row-is)
+  pub root-grown : {x y : ℕ} (ds : List ℕ) → x ≡ column → y ≡ row → rootDescent (w / 4) (h / 4) i ds ≡ descend (w / 4) (h / 4) 4 (x / 4) (y / 4) ds
+  root-grown ds e f = rw (e, f, column-is, row-is)
 
 -- ---- list_marks
 

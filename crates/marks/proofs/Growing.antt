@@ -25,7 +25,9 @@ use Rattle.marks_rules.proofs.Descents.{partOf, descend-x, descend-y, descend-n
 use Rattle.marks_rules.proofs.Descents.{Quiet, unit-quiet, all-quiet, few-grown, few-descents}
 use Rattle.marks_rules.specs.Descent.{Descent, grown, descendThen, descents, runOut, after, descend}
 use Rattle.marks_rules.specs.Marks.{Mark, mark, blocksIn}
-use Rattle.marks.specs.Stored.{numbers, one, counted, Listed, Grew}
+use Rattle.marks.specs.Stored.{numbers, one, counted, Listed, Grew, Divided, Began, began, partDescents}
+use Rattle.marks.specs.declared.Digit.{Digit}
+use Rattle.marks.specs.declared.Digit.the-variants.{Whole, Cut, Refused as Stopped}
 use Rattle.marks.specs.declared.Marked.{Marked}
 use Rattle.marks.specs.declared.Marked.the-variants.{Done as Counted, Refused as NotCounted}
 use Rattle.marks.proofs.Blocks.{Halved, halved}
@@ -147,6 +149,14 @@ module _ (ds : List ℕ) (n : ℕ) {w h x y side level : ℕ} (b : Block w h x y
           ∙ descend-cut _ _ k _ _ _ (z .across across) (z .down down)
           ∙ ap₂ (λ (i j : ℕ). after (mark i j) (descents (partOf (w / 4) (h / 4) k (x / 4) (y / 4)) 4 (drop (n + 1) ds))) (sym there) (sym e)))
 
+      -- its own mark is listed, and its parts' are to follow
+      pub divided : {out out₁ : List ℕ} {m : ℕ} → Listed (one p byte) out n out₁ m → byte ≡ 1
+          → Divided here (partDescents (w / 4) (h / 4) k (x / 4) (y / 4)) (place k (x / 4) (y / 4)) ds out n out₁ m
+      divided {out} {out₁} {m} l e = record {
+        own = subst (λ (q : ℕ). Listed (one q 1) out n out₁ m) there (subst (λ (v : ℕ). Listed (one p v) out n out₁ m) e l);
+        rest = cut m (l .count) e ∙ ap₂ (λ (i j : ℕ). after (mark i j) (descents (partOf (w / 4) (h / 4) k (x / 4) (y / 4)) 4 (drop m ds))) there e;
+      }
+
   -- parts that are units take no digit
   pub last : level ≡ 3 → (l : List ℕ) → Quiet (descents (partOf (w / 4) (h / 4) (3 - level) (x / 4) (y / 4)) 4 l) l
   last e l =
@@ -168,6 +178,51 @@ grew-leaf {ds} {v} {p} {b} {out} {out₁} {n} {m} {r} l e =
       left = λ d. ap (λ (i : ℕ). drop i ds) (sym (l .count) ∙ sym (add-zero m));
       stored = λ d. refl;
     })
+
+-- ---- what a digit comes to
+
+abbrev way : Digit → ℕ
+way (Whole m) = 0
+way (Cut m) = 1
+way (Stopped r) = 2
+
+apart : {P : Type 0} {a b : Digit} → a ≡ b → (way a ≡ way b → ⊥) → P
+apart e n = absurd (n (ap way e))
+
+module _ {g : Descent} {parts : List ℕ → Descent} {p : ℕ} {ds out : List ℕ} {n : ℕ} {out₁ : List ℕ} where
+  pub began-whole : (m : ℕ) → Grew g ds out n out₁ (Counted m) → Began g parts p ds out n out₁ (Whole m)
+  began-whole m h = record {
+    whole = λ k e. let z : m ≡ k = cc in subst (λ (i : ℕ). Grew g ds out n out₁ (Counted i)) z h;
+    cut = λ k e. apart e (λ z. omega arith);
+    stopped = λ q e. apart e (λ z. omega arith);
+  }
+
+  pub began-cut : (m : ℕ) → Divided g parts p ds out n out₁ m → Began g parts p ds out n out₁ (Cut m)
+  began-cut m h = record {
+    whole = λ k e. apart e (λ z. omega arith);
+    cut = λ k e. let z : m ≡ k = cc in subst (Divided g parts p ds out n out₁) z h;
+    stopped = λ q e. apart e (λ z. omega arith);
+  }
+
+  pub began-stopped : (r : Refusal) → Grew g ds out n out₁ (NotCounted r) → Began g parts p ds out n out₁ (Stopped r)
+  began-stopped r h = record {
+    whole = λ k e. apart e (λ z. omega arith);
+    cut = λ k e. apart e (λ z. omega arith);
+    stopped = λ q e. let z : r ≡ q = cc in subst (λ (i : Refusal). Grew g ds out n out₁ (NotCounted i)) z h;
+  }
+
+  -- a leaf's, by its walk's answer
+  began-by : (m : ℕ) (a : Answer) → Grew g ds out n out₁ (counted m a) → Began g parts p ds out n out₁ (began m a)
+  began-by m Done h = began-whole m h
+  began-by m (Refused r) h = began-stopped r h
+
+  pub began-leaf : {d : Digit} (m : ℕ) (a : Answer) → d ≡ began m a → Grew g ds out n out₁ (counted m a) → Began g parts p ds out n out₁ d
+  began-leaf m a e h = subst (Began g parts p ds out n out₁) (sym e) (began-by m a h)
+
+-- a block's own mark, and then its parts'
+pub divided-then : {g : Descent} {parts : List ℕ → Descent} {p : ℕ} {ds out out₁ out₂ : List ℕ} {n m : ℕ} {r : Marked}
+    → Divided g parts p ds out n out₁ m → Grew (parts (drop m ds)) ds out₁ m out₂ r → Grew g ds out n out₂ r
+divided-then d h = grew-as (d .rest) (grew-after (d .own) h)
 
 -- ---- the loop: i parts are taken
 

@@ -1,7 +1,9 @@
 -- The marks of a block from split bytes: each way through the code, and the loop over its four parts.
+--     opened-none, opened-whole, opened-cut    its own mark is listed
+--     open-whole, open-cut, open-eight    its marks, by those of its parts
 -- Assumes nothing.
 use mathlib.Core.Bool.{Bool, true, false, _||_}
-use mathlib.Core.List.{List, [], _∷_, _++_}
+use mathlib.Core.List.{List, [], _∷_, _++_, append-nil}
 use mathlib.Core.Path.{_≡_, refl, sym, ap, ap₂, _∙_, subst}
 use Prim.Native.Nat.{ℕ, zero, suc, _+_, _-_, _*_, _/_, _%_, _^_, _≤_, _<_}
 use native.Mathlib.Nat.{suc-mul, mul-le-mul-right}
@@ -9,7 +11,8 @@ use native.Mathlib.Numerals.{add-one}
 use native.Mathlib.Omega.{arith}
 use borrow.Author.Tests.{leb-true, leb-false}
 use lib.Dec.{leb}
-use lib.ListN.{length, getD, length-append}
+use lib.ListN.{length, getD, take, drop, length-append, take-append-drop}
+use Rattle.laws.specs.Index.{pick}
 use Rattle.split.specs.Stored.{Block}
 use Rattle.split.specs.Walk.{place}
 use Rattle.marks_rules.proofs.Blocks.{partX, partY}
@@ -19,7 +22,7 @@ use Rattle.marks_rules.proofs.Mended.{mended}
 use Rattle.marks_rules.specs.Marks.{Mark, mark, four, marks, blocksIn}
 use Rattle.marks_rules.specs.Mended.{mendBy, mendByte, mendMarks}
 use Rattle.marks_rules.specs.Pictures.{joined}
-use Rattle.marks.specs.Stored.{one, Listed}
+use Rattle.marks.specs.Stored.{one, Listed, Opened}
 use Rattle.marks.proofs.Blocks.{Halved, halved}
 use Rattle.marks.proofs.Lists.{listed-none, listed-as, listed-then}
 
@@ -44,11 +47,18 @@ next-room i m u count count₀ long l f e r =
 pub room-one : {w h x y side level : ℕ} → Halved w h x y side level → (n m : ℕ) → n + blocksIn (4 - level) ≤ m → n < m
 room-one b n m r = let e = b .room in omega arith
 
+few-own : (l : List Mark) → length (take 1 l) ≤ 1
+few-own [] = omega arith
+few-own (m ∷ l) = omega arith
+
 -- ---- each way through the code
 
 module _ (s : List ℕ) {w h x y side level : ℕ} (b : Block w h x y side level) where
   abbrev pub here : List Mark
   here = mendMarks s (w / 4) (h / 4) (4 - level) (x / 4) (y / 4)
+
+  abbrev pub partMarks : ℕ → List Mark
+  partMarks = parts (mendByte s (w / 4) (h / 4)) (w / 4) (h / 4) (3 - level) (x / 4) (y / 4)
 
   skip-by : (past : Bool) → leb w x ≡ past → (past || leb h y) ≡ true → here ≡ []
   skip-by true e p = let g = leb-true w x e in marks-x _ _ _ (4 - level) _ _ (omega arith)
@@ -93,18 +103,48 @@ module _ (s : List ℕ) {w h x y side level : ℕ} (b : Block w h x y side level
         (marks-cut f _ _ k _ _ (z .across across) (z .down down) e
         ∙ ap₂ (λ (q c : ℕ). mark q c ∷ four (parts f (w / 4) (h / 4) k (x / 4) (y / 4))) (sym there) (sym (byte-is ∙ e)))
 
+    -- its own mark, listed: the first of its marks, and its parts' are the others
+    module _ {out out₁ : List ℕ} {n r : ℕ} (l : Listed (one p byte) out n out₁ r) where
+      pub opened-whole : byte ≡ 0 → Opened here (four partMarks) out n out₁ r false
+      opened-whole e = subst (λ (k : List Mark). Opened k (four partMarks) out n out₁ r false) (sym (whole e)) (record { own = l; rest = refl })
+
+      pub opened-cut : (byte ≡ 0 → ⊥) → Opened here (four partMarks) out n out₁ r true
+      opened-cut q = subst (λ (k : List Mark). Opened k (four partMarks) out n out₁ r true) (sym (cut q)) (record { own = l; rest = refl })
+
+  pub opened-none : (leb w x || leb h y) ≡ true → (out : List ℕ) (n : ℕ) → Opened here (four partMarks) out n out n false
+  opened-none p out n = subst (λ (k : List Mark). Opened k (four partMarks) out n out n false) (sym (skip p)) (record { own = listed-none out n; rest = refl })
+
+  -- all of its marks: its own alone, or its parts' after it
+  module _ {out out₁ : List ℕ} {n m : ℕ} {cut : Bool} (o : Opened here (four partMarks) out n out₁ m cut) where
+    split-here : (parts : List Mark) → drop 1 here ≡ parts → here ≡ take 1 here ++ parts
+    split-here parts e = sym (take-append-drop 1 here) ∙ ap (λ (l : List Mark). take 1 here ++ l) e
+
+    pub open-none : pick cut (four partMarks) [] ≡ [] → Listed here out n out₁ m
+    open-none e = listed-as (split-here [] (o .rest ∙ e) ∙ append-nil (take 1 here)) (o .own)
+
+    pub open-count : m ≤ n + 1
+    open-count = let z = few-own here in omega (arith, o .own .count)
+
+    pub open-whole : cut ≡ false → Listed here out n out₁ m
+    open-whole e = open-none (ap (λ (b : Bool). pick b (four partMarks) []) e)
+
+    pub open-cut : {out₂ : List ℕ} {r : ℕ} → cut ≡ true → Listed (four partMarks) out₁ m out₂ r → Listed here out n out₂ r
+    open-cut e l = listed-as (split-here (four partMarks) (o .rest ∙ ap (λ (b : Bool). pick b (four partMarks) []) e)) (listed-then (o .own) l)
+
     -- parts that are units have no marks
-    pub last : (byte ≡ 0 → ⊥) → level ≡ 3 → here ≡ one p byte
-    last n e =
-        let q : k ≡ 0 = omega arith in
-        cut n ∙ ap (λ (l : List Mark). one p byte ++ l) (subst (λ (i : ℕ). four (parts f (w / 4) (h / 4) i (x / 4) (y / 4)) ≡ []) (sym q) none) where
-          none : four (parts f (w / 4) (h / 4) 0 (x / 4) (y / 4)) ≡ []
-          none = simp (marks-unit f (w / 4) (h / 4))
+    pub open-eight : level ≡ 3 → Listed here out n out₁ m
+    open-eight e = open-none (by cut) where
+      none : four partMarks ≡ []
+      none =
+          let q : 3 - level ≡ 0 = omega arith in
+          subst (λ (i : ℕ). four (parts (mendByte s (w / 4) (h / 4)) (w / 4) (h / 4) i (x / 4) (y / 4)) ≡ []) (sym q)
+          (simp (marks-unit (mendByte s (w / 4) (h / 4)) (w / 4) (h / 4)))
+
+      by : (b : Bool) → pick b (four partMarks) [] ≡ []
+      by true = none
+      by false = refl
 
   -- ---- the loop: i parts are listed
-
-  abbrev pub partMarks : ℕ → List Mark
-  partMarks = parts (mendByte s (w / 4) (h / 4)) (w / 4) (h / 4) (3 - level) (x / 4) (y / 4)
 
   pub few-parts : (i : ℕ) → length (joined partMarks i) ≤ i * blocksIn (3 - level)
   few-parts i = few-joined partMarks (blocksIn (3 - level)) (λ j. few (mendByte s (w / 4) (h / 4)) _ _ (3 - level) _ _) i

@@ -6,7 +6,7 @@ ghost use lib.ListN.{length, drop, take};
 ghost use lib.Seq.{sets};
 ghost use Rattle.bits.specs.Bits.{bitsFrom};
 ghost use Rattle.def.proofs.Sizes.{Sized};
-ghost use Rattle.def.specs.Picture.{sizeOk, rootCount};
+ghost use Rattle.def.specs.Picture.{sizeOk, rootCount, rootsAlong};
 ghost use Rattle.laws.specs.Call.{Gives};
 ghost use Rattle.laws.specs.Index.{pick};
 ghost use Rattle.marks_rules.specs.Descent.{descend, rootDescent};
@@ -14,14 +14,15 @@ ghost use Rattle.marks_rules.specs.Marks.{blocksIn};
 ghost use Rattle.marks_rules.specs.Mended.{mendBy, mendMarks};
 ghost use Rattle.split.specs.Picture.{rootBytes, rootX, rootY};
 ghost use Rattle.split.specs.Stored.{Block};
-ghost use Rattle.split.specs.Walk.{leafWalk};
+ghost use Rattle.split.specs.Walk.{leafWalk, place};
 ghost use Rattle.marks.specs.ListCall as ListCall;
 ghost use Rattle.marks.specs.TakeCall as TakeCall;
-ghost use Rattle.marks.specs.Stored.{Listed, Grew, one, counted, markFrom};
+ghost use Rattle.marks.specs.Stored.{Listed, Opened, partMarks, Grew, Began, began, partDescents, one, markFrom};
 use bits::get_bit;
 use def::Pel;
 use def::Refusal;
 use def::pel2scu;
+use def::roots_along;
 use def::size_ok;
 
 // How many marks were listed.
@@ -42,12 +43,33 @@ fn byte_place(x: Pel, y: Pel, side: usize, level: usize) -> usize
     256 * level + (16 * row + column)
 }
 
-// Across or down, where a part of a block that is cut stands, by its bit: half a side on, or not.
-fn half_on(at: Pel, half: usize, bit: usize) -> Pel
-    requires { ⌜ (at .0 + half ≤ 8192) × (bit ≤ 1) ⌝ }
-    ensures { λ r. ⌜ r .0 ≡ at .0 + bit * half ⌝ }
+// A block's place, in luma samples.
+struct Place {
+    x: Pel,
+    y: Pel,
+}
+
+// The place of one part of a block that is cut, by its number: the low bit is its column's, the high one its row's.
+fn part_of(at: Place, half: usize, part: usize) -> Place
+    requires { ⌜ (at .x .0 + half ≤ 8192) × (at .y .0 + half ≤ 8192) × (part < 4) ⌝ }
+    ensures { λ r. ⌜ (r .x .0 ≡ at .x .0 + part % 2 * half) × (r .y .0 ≡ at .y .0 + part / 2 * half) ⌝ }
 {
-    Pel(at.0 + bit * half)
+    Place {
+        x: Pel(at.x.0 + part % 2 * half),
+        y: Pel(at.y.0 + part / 2 * half),
+    }
+}
+
+// The place of root i of a picture of width w.
+fn root_place(w: usize, i: usize) -> Place
+    requires { ⌜ (4 ≤ w) × (w ≤ 4096) × (i < 4096) ⌝ }
+    ensures { λ r. ⌜ (r .x .0 ≡ 64 * (i % rootsAlong w)) × (r .y .0 ≡ 64 * (i / rootsAlong w)) ⌝ }
+{
+    let across = roots_along(w);
+    Place {
+        x: Pel(64 * (i % across)),
+        y: Pel(64 * (i / across)),
+    }
 }
 
 // A mark goes to the list, as one number: twice its place, and its byte.
@@ -94,39 +116,103 @@ fn mended(old: u8, w: usize, h: usize, x: Pel, y: Pel, side: usize, level: usize
     old
 }
 
-// The marks of the block at (x, y), of side 8 or more, listed after n that are: it calls itself on blocks of half the side until they are units.
-fn mark_block(
+// A block's own mark is listed: how many are, and whether the block is cut, so that its parts' follow.
+struct Own {
+    count: usize,
+    cut: bool,
+}
+
+// The own mark of a block of side 8 or more, listed after n that are.
+fn own_mark(
     bytes: &[u8],
     w: usize,
     h: usize,
-    x: Pel,
-    y: Pel,
+    at: Place,
     side: usize,
     level: usize,
     out: &mut [u16],
     n: usize,
-) -> usize
-    requires { ⌜ Block w h (x .0) (y .0) side level × (level < 4) × (length (now bytes) ≡ 1024) × (n + blocksIn (4 - level) ≤ length (now out)) ⌝ }
-    ensures { λ r. ⌜ Listed (mendMarks (now (bytes .entry)) (w / 4) (h / 4) (4 - level) (x .0 / 4) (y .0 / 4)) (now (out .entry)) n (now (out .exit)) r ⌝ }
+) -> Own
+    requires { ⌜ Block w h (at .x .0) (at .y .0) side level × (level < 4) × (length (now bytes) ≡ 1024) × (n < length (now out)) ⌝ }
+    ensures { λ r. ⌜ Opened (mendMarks (now (bytes .entry)) (w / 4) (h / 4) (4 - level) (at .x .0 / 4) (at .y .0 / 4)) (partMarks (now (bytes .entry)) (w / 4) (h / 4) (3 - level) (at .x .0 / 4) (at .y .0 / 4)) (now (out .entry)) n (now (out .exit)) (r .count) (r .cut) ⌝ }
 {
-    if (w <= x.0) | (h <= y.0) {
-        return n;
+    if (w <= at.x.0) | (h <= at.y.0) {
+        return Own {
+            count: n,
+            cut: false,
+        };
     }
-    let place = byte_place(x, y, side, level);
-    let byte = mended(bytes[place], w, h, x, y, side, level);
-    let mut count = put_mark(out, n, place, byte);
+    let place = byte_place(at.x, at.y, side, level);
+    let byte = mended(bytes[place], w, h, at.x, at.y, side, level);
+    let count = put_mark(out, n, place, byte);
     if byte == 0 {
+        return Own { count, cut: false };
+    }
+    Own { count, cut: true }
+}
+
+// The mark of the block of side 8 at a place, listed after n that are: its parts are units, which have none.
+// A function a side, and none that calls itself: the compiler makes one loop in another of them, and a call a block would cost more than its mark.
+fn mark_eight(bytes: &[u8], w: usize, h: usize, at: Place, out: &mut [u16], n: usize) -> usize
+    requires { ⌜ Block w h (at .x .0) (at .y .0) 8 3 × (length (now bytes) ≡ 1024) × (n + blocksIn (4 - 3) ≤ length (now out)) ⌝ }
+    ensures { λ r. ⌜ Listed (mendMarks (now (bytes .entry)) (w / 4) (h / 4) (4 - 3) (at .x .0 / 4) (at .y .0 / 4)) (now (out .entry)) n (now (out .exit)) r ⌝ }
+{
+    let own = own_mark(bytes, w, h, at, 8, 3, out, n);
+    own.count
+}
+
+// The marks of the block of side 16.
+fn mark_sixteen(bytes: &[u8], w: usize, h: usize, at: Place, out: &mut [u16], n: usize) -> usize
+    requires { ⌜ Block w h (at .x .0) (at .y .0) 16 2 × (length (now bytes) ≡ 1024) × (n + blocksIn (4 - 2) ≤ length (now out)) ⌝ }
+    ensures { λ r. ⌜ Listed (mendMarks (now (bytes .entry)) (w / 4) (h / 4) (4 - 2) (at .x .0 / 4) (at .y .0 / 4)) (now (out .entry)) n (now (out .exit)) r ⌝ }
+{
+    let own = own_mark(bytes, w, h, at, 16, 2, out, n);
+    let mut count = own.count;
+    if !own.cut {
         return count;
     }
-    if level == 3 {
-        return count;
-    }
-    let half = side / 2;
     let mut part = 0;
     while part < 4 {
-        let part_x = half_on(x, half, part % 2);
-        let part_y = half_on(y, half, part / 2);
-        count = mark_block(bytes, w, h, part_x, part_y, half, level + 1, out, count);
+        let place = part_of(at, 8, part);
+        count = mark_eight(bytes, w, h, place, out, count);
+        part += 1;
+    }
+    count
+}
+
+// Of side 32.
+fn mark_thirty_two(bytes: &[u8], w: usize, h: usize, at: Place, out: &mut [u16], n: usize) -> usize
+    requires { ⌜ Block w h (at .x .0) (at .y .0) 32 1 × (length (now bytes) ≡ 1024) × (n + blocksIn (4 - 1) ≤ length (now out)) ⌝ }
+    ensures { λ r. ⌜ Listed (mendMarks (now (bytes .entry)) (w / 4) (h / 4) (4 - 1) (at .x .0 / 4) (at .y .0 / 4)) (now (out .entry)) n (now (out .exit)) r ⌝ }
+{
+    let own = own_mark(bytes, w, h, at, 32, 1, out, n);
+    let mut count = own.count;
+    if !own.cut {
+        return count;
+    }
+    let mut part = 0;
+    while part < 4 {
+        let place = part_of(at, 16, part);
+        count = mark_sixteen(bytes, w, h, place, out, count);
+        part += 1;
+    }
+    count
+}
+
+// Of side 64: a root.
+fn mark_sixty_four(bytes: &[u8], w: usize, h: usize, at: Place, out: &mut [u16], n: usize) -> usize
+    requires { ⌜ Block w h (at .x .0) (at .y .0) 64 0 × (length (now bytes) ≡ 1024) × (n + blocksIn (4 - 0) ≤ length (now out)) ⌝ }
+    ensures { λ r. ⌜ Listed (mendMarks (now (bytes .entry)) (w / 4) (h / 4) (4 - 0) (at .x .0 / 4) (at .y .0 / 4)) (now (out .entry)) n (now (out .exit)) r ⌝ }
+{
+    let own = own_mark(bytes, w, h, at, 64, 0, out, n);
+    let mut count = own.count;
+    if !own.cut {
+        return count;
+    }
+    let mut part = 0;
+    while part < 4 {
+        let place = part_of(at, 32, part);
+        count = mark_thirty_two(bytes, w, h, place, out, count);
         part += 1;
     }
     count
@@ -137,12 +223,10 @@ fn root_marks(w: usize, h: usize, splits: &[u8], i: usize, out: &mut [u16]) -> u
     requires { ⌜ Sized w h × (length (now splits) ≡ 1024 * rootCount w h) × (i < rootCount w h) × (length (now out) ≡ 85) ⌝ }
     ensures { λ r. ⌜ Listed (ListCall.rootMarks w h (now (splits .entry)) i) (now (out .entry)) 0 (now (out .exit)) r ⌝ }
 {
-    let across = (w + 63) / 64;
     let start = 1024 * i;
     let end = start + 1024;
-    let x = Pel(64 * (i % across));
-    let y = Pel(64 * (i / across));
-    mark_block(&splits[start..end], w, h, x, y, 64, 0, out, 0)
+    let at = root_place(w, i);
+    mark_sixty_four(&splits[start..end], w, h, at, out, 0)
 }
 
 // How many roots a picture of w by h has.
@@ -150,7 +234,7 @@ fn roots_in(w: usize, h: usize) -> usize
     requires { ⌜ Sized w h ⌝ }
     ensures { λ r. ⌜ (r ≡ rootCount w h) × (r ≤ 4096) ⌝ }
 {
-    (w + 63) / 64 * ((h + 63) / 64)
+    roots_along(w) * roots_along(h)
 }
 
 // The same for any w and h: 0 where they are no sides of a picture.
@@ -184,70 +268,187 @@ pub fn list_marks(w: usize, h: usize, splits: &[u8], root: usize, out: &mut [u16
 
 // ---- marks from digits
 
-// A leaf, once its digit was taken: it lies inside the picture.
-fn leaf(w: usize, h: usize, x: Pel, y: Pel, side: usize, level: usize, n: usize) -> Marked
-    requires { ⌜ Block w h (x .0) (y .0) side level ⌝ }
-    ensures { λ r. ⌜ r ≡ counted n (leafWalk (w / 4) (h / 4) (2 ^ (4 - level)) (x .0 / 4) (y .0 / 4) .answer) ⌝ }
-{
-    if w < x.0 + side {
-        return Marked::Refused(Refusal::Leaf);
-    }
-    if h < y.0 + side {
-        return Marked::Refused(Refusal::Leaf);
-    }
-    Marked::Done(n)
+// What a block's own digit comes to: the block is done with and n marks are listed, or it is cut and its parts' are to follow.
+enum Digit {
+    Whole(usize),
+    Cut(usize),
+    Refused(Refusal),
 }
 
-// The marks of the block at (x, y), of side 8 or more, by the digits of which n are taken: `count` bits from `from` on. A digit makes a mark, so n marks are listed.
-fn grow_block(
+// A leaf, once its digit was taken: it lies inside the picture.
+fn leaf(w: usize, h: usize, x: Pel, y: Pel, side: usize, level: usize, n: usize) -> Digit
+    requires { ⌜ Block w h (x .0) (y .0) side level ⌝ }
+    ensures { λ r. ⌜ r ≡ began n (leafWalk (w / 4) (h / 4) (2 ^ (4 - level)) (x .0 / 4) (y .0 / 4) .answer) ⌝ }
+{
+    if w < x.0 + side {
+        return Digit::Refused(Refusal::Leaf);
+    }
+    if h < y.0 + side {
+        return Digit::Refused(Refusal::Leaf);
+    }
+    Digit::Whole(n)
+}
+
+// The own digit of a block of side 8 or more, of `count` bits from `from` on of which n are taken. A digit makes a mark, so n marks are listed.
+fn own_digit(
     src: &[u8],
     from: usize,
     count: usize,
     w: usize,
     h: usize,
-    x: Pel,
-    y: Pel,
+    at: Place,
     side: usize,
     level: usize,
     out: &mut [u16],
     n: usize,
-) -> Marked
-    requires { ⌜ Block w h (x .0) (y .0) side level × (level < 4) × (from + count < 2 ^ 64) × (n + blocksIn (4 - level) ≤ length (now out)) ⌝ }
-    ensures { λ r. ⌜ Grew (descend (w / 4) (h / 4) (4 - level) (x .0 / 4) (y .0 / 4) (drop n (bitsFrom (now (src .entry)) from count))) (bitsFrom (now (src .entry)) from count) (now (out .entry)) n (now (out .exit)) r ⌝ }
+) -> Digit
+    requires { ⌜ Block w h (at .x .0) (at .y .0) side level × (level < 4) × (from + count < 2 ^ 64) × (n < length (now out)) ⌝ }
+    ensures { λ r. ⌜ Began (descend (w / 4) (h / 4) (4 - level) (at .x .0 / 4) (at .y .0 / 4) (drop n (bitsFrom (now (src .entry)) from count))) (partDescents (w / 4) (h / 4) (3 - level) (at .x .0 / 4) (at .y .0 / 4)) (place (3 - level) (at .x .0 / 4) (at .y .0 / 4)) (bitsFrom (now (src .entry)) from count) (now (out .entry)) n (now (out .exit)) r ⌝ }
 {
-    if (w <= x.0) | (h <= y.0) {
-        return Marked::Done(n);
+    if (w <= at.x.0) | (h <= at.y.0) {
+        return Digit::Whole(n);
     }
     if count <= n {
-        return Marked::Refused(Refusal::Bits);
+        return Digit::Refused(Refusal::Bits);
     }
     let byte = get_bit(src, from + n);
-    let place = byte_place(x, y, side, level);
-    let mut next = put_mark(out, n, place, byte);
+    let place = byte_place(at.x, at.y, side, level);
+    let next = put_mark(out, n, place, byte);
     if byte == 0 {
-        return leaf(w, h, x, y, side, level, next);
+        return leaf(w, h, at.x, at.y, side, level, next);
     }
-    if level == 3 {
-        return Marked::Done(next);
+    Digit::Cut(next)
+}
+
+// The mark of the block of side 8 at a place, by its digit, if it lies in the picture: its parts are units, which have none.
+fn grow_eight(
+    src: &[u8],
+    from: usize,
+    count: usize,
+    w: usize,
+    h: usize,
+    at: Place,
+    out: &mut [u16],
+    n: usize,
+) -> Marked
+    requires { ⌜ Block w h (at .x .0) (at .y .0) 8 3 × (from + count < 2 ^ 64) × (n + blocksIn (4 - 3) ≤ length (now out)) ⌝ }
+    ensures { λ r. ⌜ Grew (descend (w / 4) (h / 4) (4 - 3) (at .x .0 / 4) (at .y .0 / 4) (drop n (bitsFrom (now (src .entry)) from count))) (bitsFrom (now (src .entry)) from count) (now (out .entry)) n (now (out .exit)) r ⌝ }
+{
+    match own_digit(src, from, count, w, h, at, 8, 3, out, n) {
+        Digit::Whole(next) => Marked::Done(next),
+        Digit::Cut(next) => Marked::Done(next),
+        Digit::Refused(r) => Marked::Refused(r),
     }
-    let half = side / 2;
+}
+
+// The marks of the block of side 16, by its digits.
+fn grow_sixteen(
+    src: &[u8],
+    from: usize,
+    count: usize,
+    w: usize,
+    h: usize,
+    at: Place,
+    out: &mut [u16],
+    n: usize,
+) -> Marked
+    requires { ⌜ Block w h (at .x .0) (at .y .0) 16 2 × (from + count < 2 ^ 64) × (n + blocksIn (4 - 2) ≤ length (now out)) ⌝ }
+    ensures { λ r. ⌜ Grew (descend (w / 4) (h / 4) (4 - 2) (at .x .0 / 4) (at .y .0 / 4) (drop n (bitsFrom (now (src .entry)) from count))) (bitsFrom (now (src .entry)) from count) (now (out .entry)) n (now (out .exit)) r ⌝ }
+{
+    let first = match own_digit(src, from, count, w, h, at, 16, 2, out, n) {
+        Digit::Whole(next) => {
+            return Marked::Done(next);
+        }
+        Digit::Refused(r) => {
+            return Marked::Refused(r);
+        }
+        Digit::Cut(next) => next,
+    };
+    let mut next = first;
     let mut part = 0;
     while part < 4 {
-        let part_x = half_on(x, half, part % 2);
-        let part_y = half_on(y, half, part / 2);
-        match grow_block(
-            src,
-            from,
-            count,
-            w,
-            h,
-            part_x,
-            part_y,
-            half,
-            level + 1,
-            out,
-            next,
-        ) {
+        let place = part_of(at, 8, part);
+        match grow_eight(src, from, count, w, h, place, out, next) {
+            Marked::Done(taken) => {
+                next = taken;
+            }
+            Marked::Refused(r) => {
+                return Marked::Refused(r);
+            }
+        }
+        part += 1;
+    }
+    Marked::Done(next)
+}
+
+// Of side 32.
+fn grow_thirty_two(
+    src: &[u8],
+    from: usize,
+    count: usize,
+    w: usize,
+    h: usize,
+    at: Place,
+    out: &mut [u16],
+    n: usize,
+) -> Marked
+    requires { ⌜ Block w h (at .x .0) (at .y .0) 32 1 × (from + count < 2 ^ 64) × (n + blocksIn (4 - 1) ≤ length (now out)) ⌝ }
+    ensures { λ r. ⌜ Grew (descend (w / 4) (h / 4) (4 - 1) (at .x .0 / 4) (at .y .0 / 4) (drop n (bitsFrom (now (src .entry)) from count))) (bitsFrom (now (src .entry)) from count) (now (out .entry)) n (now (out .exit)) r ⌝ }
+{
+    let first = match own_digit(src, from, count, w, h, at, 32, 1, out, n) {
+        Digit::Whole(next) => {
+            return Marked::Done(next);
+        }
+        Digit::Refused(r) => {
+            return Marked::Refused(r);
+        }
+        Digit::Cut(next) => next,
+    };
+    let mut next = first;
+    let mut part = 0;
+    while part < 4 {
+        let place = part_of(at, 16, part);
+        match grow_sixteen(src, from, count, w, h, place, out, next) {
+            Marked::Done(taken) => {
+                next = taken;
+            }
+            Marked::Refused(r) => {
+                return Marked::Refused(r);
+            }
+        }
+        part += 1;
+    }
+    Marked::Done(next)
+}
+
+// Of side 64: a root.
+fn grow_sixty_four(
+    src: &[u8],
+    from: usize,
+    count: usize,
+    w: usize,
+    h: usize,
+    at: Place,
+    out: &mut [u16],
+    n: usize,
+) -> Marked
+    requires { ⌜ Block w h (at .x .0) (at .y .0) 64 0 × (from + count < 2 ^ 64) × (n + blocksIn (4 - 0) ≤ length (now out)) ⌝ }
+    ensures { λ r. ⌜ Grew (descend (w / 4) (h / 4) (4 - 0) (at .x .0 / 4) (at .y .0 / 4) (drop n (bitsFrom (now (src .entry)) from count))) (bitsFrom (now (src .entry)) from count) (now (out .entry)) n (now (out .exit)) r ⌝ }
+{
+    let first = match own_digit(src, from, count, w, h, at, 64, 0, out, n) {
+        Digit::Whole(next) => {
+            return Marked::Done(next);
+        }
+        Digit::Refused(r) => {
+            return Marked::Refused(r);
+        }
+        Digit::Cut(next) => next,
+    };
+    let mut next = first;
+    let mut part = 0;
+    while part < 4 {
+        let place = part_of(at, 32, part);
+        match grow_thirty_two(src, from, count, w, h, place, out, next) {
             Marked::Done(taken) => {
                 next = taken;
             }
@@ -273,10 +474,8 @@ fn root_grown(
     requires { ⌜ Sized w h × (from + count < 2 ^ 64) × (i < rootCount w h) × (length (now list) ≡ 85) ⌝ }
     ensures { λ r. ⌜ Grew (rootDescent (w / 4) (h / 4) i (bitsFrom (now (src .entry)) from count)) (bitsFrom (now (src .entry)) from count) (now (list .entry)) 0 (now (list .exit)) r ⌝ }
 {
-    let across = (w + 63) / 64;
-    let x = Pel(64 * (i % across));
-    let y = Pel(64 * (i / across));
-    grow_block(src, from, count, w, h, x, y, 64, 0, list, 0)
+    let at = root_place(w, i);
+    grow_sixty_four(src, from, count, w, h, at, list, 0)
 }
 
 // The first n numbers of a list, put first into another.

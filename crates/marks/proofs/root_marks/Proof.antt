@@ -3,40 +3,48 @@ use Prim.Native.Nat.{_<_}
 use native.Mathlib.Omega.{arith}
 use borrow.Author.Needs.{needs}
 use Rattle.marks_rules.specs.Marks.{blocksIn}
-use Rattle.split.proofs.Roots.{root-column, root-row, root-block, bytes-long}
-use Rattle.marks.proofs.Calls.{root-listed}
+use Rattle.split.proofs.Roots.{few-roots, bytes-long}
+use Rattle.marks.proofs.Calls.{root-at, root-listed}
 use Rattle.marks.proofs.Lists.{listed-as}
 use Rattle.marks.proofs.root_marks.Statement.{statement}
 use Rattle.marks.proofs.root_marks.Tie as tie
 
-mul-t12 : tie.Need-mul-t12
-mul-t12 c = omega (arith, c .before .before .pre .0, root-column (c .before .before .pre .0) (c .before .before .args .i) (c .before .before .pre .2))
+-- its number is small
+small : (c : tie.Start) → c .args .i < 4096
+small c = omega (arith, c .pre .2, few-roots (c .args .w) (c .args .h) (c .pre .0 .wide) (c .pre .0 .high))
 
-mul-t12-2 : tie.Need-mul-t12-2
-mul-t12-2 c = omega (arith, c .before .before .pre .0, root-row (c .before .before .pre .0) (c .before .before .args .i) (c .before .before .pre .2))
+mul-start : tie.Need-mul-start
+mul-start c = omega (arith, small (c .before .before))
 
-mark-block-requires : tie.Need-mark-block-requires
+add-end : tie.Need-add-end
+add-end c = omega (arith, small (c .before .before))
+
+root-place-requires : tie.Need-root-place-requires
+root-place-requires c κs = let p = c .before .before .pre in (omega (arith, p .0), p .0 .wide, small (c .before .before))
+
+mark-sixty-four-requires : tie.Need-mark-sixty-four-requires
 unfolding blocksIn
-mark-block-requires c κs = let p = c .before .before .before .before .pre in (root-block (p .0) _ (p .2), omega arith, bytes-long (p .0) _ _ (p .2) (p .1), omega (arith, p .3))
+mark-sixty-four-requires c κs =
+    let p = c .before .before .before .before .before .pre in
+    let q = c .before .before .root-place .ensures in
+    (root-at (p .0) _ (p .2) (q .0) (q .1), bytes-long (p .0) _ _ (p .2) (p .1), omega (arith, p .3))
 
 returns : tie.Need-returns
-returns c = listed-as (root-listed (c .before .before .before .before .before .before .before .pre .0) (c .before .before .before .before .before .before .before .args .i)
-    (c .before .before .before .before .before .before .before .args .splits .now)) (c .before .before .mark-block .ensures)
+returns c =
+    let a = c .before .before .before .before .before .before .before .before in
+    let q = c .before .before .before .before .before .root-place .ensures in
+    listed-as (root-listed (a .pre .0) (a .args .i) (a .args .splits .now) (q .0) (q .1)) (c .before .before .mark-sixty-four .ensures)
 
 pub root-marks-spec : {M : Type 1} → statement M
 root-marks-spec =
     tie.close
     (tie.spec
-    (λ c. omega (arith, c .before .before .pre .0))
+    mul-start
+    add-end
+    root-place-requires
     (λ c. search needs)
     (λ c. search needs)
     (λ c. search needs)
-    mul-t12
-    (λ c. search needs)
-    mul-t12-2
-    (λ c. search needs)
-    (λ c. search needs)
-    (λ c. search needs)
-    mark-block-requires
+    mark-sixty-four-requires
     (λ c. search needs)
     returns)
