@@ -102,7 +102,9 @@ fn lists(tape: &mut Tape, rng: &mut Rng) {
 
 /// 9, 6 and 13: a kind, a QP and a keep byte, each with its boundary, in the first leaf, in the second and in the last.
 fn bytes(tape: &mut Tape, rng: &mut Rng) {
-    for (byte, values) in [(0, &[5, 6, 128, 255][..]), (1, &[0, 51, 52, 64, 127, 128, 255]), (3, &[0, 1, 2, 128, 255])] {
+    for (byte, values) in
+        [(0, &[5, 6, 128, 255][..]), (1, &[0, 51, 52, 64, 127, 128, 255]), (3, &[0, 1, 2, 128, 255])]
+    {
         for value in values {
             let good = picture(rng, 12, 8, trees::FINEST);
             for leaf in [0, 1, 5] {

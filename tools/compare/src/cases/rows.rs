@@ -66,12 +66,7 @@ impl Case for Rows {
         let mut refs = Lent::new(lending, &held.refs);
         let mut rows = Lent::new(lending, &held.rows);
         let (nw, nm, nr, n) = (words.len(), motion.len(), refs.len(), rows.len());
-        let slices = (
-            (words.mut_ptr(), nw),
-            (motion.mut_ptr(), nm),
-            (refs.mut_ptr(), nr),
-            (rows.mut_ptr(), n),
-        );
+        let slices = ((words.mut_ptr(), nw), (motion.mut_ptr(), nm), (refs.mut_ptr(), nr), (rows.mut_ptr(), n));
         let line = Line::new().num(call(self.w, self.h, self.edit, slices));
         match self.edit {
             None => {
@@ -293,7 +288,9 @@ fn corners(tape: &mut Tape, rng: &mut Rng) {
 fn refusals(tape: &mut Tape, rng: &mut Rng) {
     let place = (2, 1);
     let motion = Edit::Motion([1, -1, 32767, -32768], [127, -128]);
-    for edit in [None, Some((place, motion)), Some((place, Edit::Flag(15, true))), Some((place, Edit::Flag(24, false)))] {
+    for edit in
+        [None, Some((place, motion)), Some((place, Edit::Flag(15, true))), Some((place, Edit::Flag(24, false)))]
+    {
         let good = Rows { w: 12, h: 8, held: held(rng, 12, 8), edit };
         tape.record(&good);
         let with = |held: Held| Rows { held, ..good.clone() };

@@ -144,7 +144,8 @@ fn run(tape: &mut Tape, rng: &mut Rng, colour: bool, preview: bool) {
     let shown = Shown { colour, sides: [8, 8], planes, window: [4, 0, 8, 8] };
     let mut turn = Turn { preview, plane: 0, row: 0 };
     for _ in 0..=shown.order(preview).len() {
-        let case = Row { turn, asked: (turn.plane, turn.row), shown: shown.clone(), out: vec![rng.next() as u8; 8] };
+        let case =
+            Row { turn, asked: (turn.plane, turn.row), shown: shown.clone(), out: vec![rng.next() as u8; 8] };
         tape.record(&case);
         turn = model::row(turn, case.asked, &shown, &mut [0; 8]).map_or(turn, |(next, _)| next);
     }
@@ -156,7 +157,12 @@ fn borders(tape: &mut Tape) {
     let luma = [row, row, [1023; 16], [1024; 16]].concat();
     for preview in [false, true] {
         for row in 0..4 {
-            let shown = Shown { colour: false, sides: [16, 4], planes: [luma.clone(), vec![], vec![]], window: [0, 0, 16, 4] };
+            let shown = Shown {
+                colour: false,
+                sides: [16, 4],
+                planes: [luma.clone(), vec![], vec![]],
+                window: [0, 0, 16, 4],
+            };
             tape.record(&Row { turn: Turn { preview, plane: 0, row }, asked: (0, row), shown, out: vec![9; 16] });
         }
     }
@@ -172,7 +178,8 @@ fn wide(tape: &mut Tape, rng: &mut Rng) {
             for plane in 0..3 {
                 let row = shown.order(preview).into_iter().filter(|each| each.0 == plane).count() - 1;
                 let out = (0..w).map(|_| rng.next() as u8).collect();
-                let mut case = Row { turn: Turn { preview, plane, row }, asked: (plane, row), shown: shown.clone(), out };
+                let mut case =
+                    Row { turn: Turn { preview, plane, row }, asked: (plane, row), shown: shown.clone(), out };
                 tape.record(&case);
                 *case.shown.planes[plane].last_mut().unwrap() = 1024;
                 tape.record(&case);

@@ -68,7 +68,9 @@ impl Case for Call {
                 let found = model::write_frame(colour, w, h, &planes, &mut out);
                 Line::new().num(found.err().unwrap_or(0)).all(&out)
             }
-            Call::Import(stream, mut planes) => said(model::import_frame(&stream, &mut planes)).all(&planes.concat()),
+            Call::Import(stream, mut planes) => {
+                said(model::import_frame(&stream, &mut planes)).all(&planes.concat())
+            }
         }
     }
 
@@ -87,7 +89,8 @@ impl Case for Call {
                 let lent = Lent::new(lending, stream);
                 let mut n = [0usize; 8];
                 let [w, h, f, g, a, b, next, at] = &mut n;
-                let number = unsafe { sys::lomsakeun_read_header(lent.ptr(), lent.len(), w, h, f, g, a, b, next, at) };
+                let number =
+                    unsafe { sys::lomsakeun_read_header(lent.ptr(), lent.len(), w, h, f, g, a, b, next, at) };
                 lent.kept(stream)?;
                 Ok(Line::new().num(number).num(n[7]).all(&n[..7]))
             }
@@ -95,7 +98,18 @@ impl Case for Call {
                 let mut out = Lent::new(lending, before);
                 let mut count = 0;
                 let number = unsafe {
-                    sys::lomsakeun_write_header(*colour, *w, *h, *f, *g, *a, *b, out.mut_ptr(), out.len(), &mut count)
+                    sys::lomsakeun_write_header(
+                        *colour,
+                        *w,
+                        *h,
+                        *f,
+                        *g,
+                        *a,
+                        *b,
+                        out.mut_ptr(),
+                        out.len(),
+                        &mut count,
+                    )
                 };
                 Ok(Line::new().num(number).num(count).all(out.after()?))
             }
@@ -225,9 +239,10 @@ fn header(rng: &mut Rng) -> Vec<u8> {
 
 fn bad_word(rng: &mut Rng) -> String {
     let words = [
-        "", "W", "H", "F", "I", "A", "C", "Z", "x", "W0", "W04", "W100000", "W99999", "W5000", "H6", "H-4", "F25", "F25:", "F:1",
-        "F0:1", "F1:0", "F65536:1", "F1:65536", "F1:1:1", "F01:1", "A0:0", "A1:01", "It", "I?", "Ipp", "C420", "C420p12",
-        "C420p10 ", "C444p10", "Cmono10", "W4", "H4", "F1:1", "Ip", "A1:1", "C420p10", "w4", "W4\r", "W 4", "XA",
+        "", "W", "H", "F", "I", "A", "C", "Z", "x", "W0", "W04", "W100000", "W99999", "W5000", "H6", "H-4", "F25",
+        "F25:", "F:1", "F0:1", "F1:0", "F65536:1", "F1:65536", "F1:1:1", "F01:1", "A0:0", "A1:01", "It", "I?",
+        "Ipp", "C420", "C420p12", "C420p10 ", "C444p10", "Cmono10", "W4", "H4", "F1:1", "Ip", "A1:1", "C420p10",
+        "w4", "W4\r", "W 4", "XA",
     ];
     rng.pick(&words).to_string()
 }

@@ -65,7 +65,8 @@ fn converted(row: &[u16]) -> Vec<u32> {
 pub fn row(turn: Turn, asked: (usize, usize), shown: &Shown, out: &mut [u8]) -> Result<(Turn, usize), u32> {
     picture(shown, out.len())?;
     let order = shown.order(turn.preview);
-    let place = order.iter().position(|&each| each == (turn.plane, turn.row)).filter(|&place| order[place] == asked);
+    let place =
+        order.iter().position(|&each| each == (turn.plane, turn.row)).filter(|&place| order[place] == asked);
     let place = place.ok_or(TURN)?;
     let high = if turn.preview { 2 } else { 1 };
     let made_of = &shown.cropped(turn.plane)[turn.row * high..][..high];
@@ -74,7 +75,9 @@ pub fn row(turn: Turn, asked: (usize, usize), shown: &Shown, out: &mut [u8]) -> 
     }
     let rows: Vec<Vec<u32>> = made_of.iter().map(|row| converted(row)).collect();
     let samples: Vec<u32> = match &rows[..] {
-        [upper, lower] => upper.chunks(2).zip(lower.chunks(2)).map(|(a, b)| (a[0] + a[1] + b[0] + b[1] + 2) / 4).collect(),
+        [upper, lower] => {
+            upper.chunks(2).zip(lower.chunks(2)).map(|(a, b)| (a[0] + a[1] + b[0] + b[1] + 2) / 4).collect()
+        }
         _ => rows.concat(),
     };
     for (byte, sample) in out.iter_mut().zip(&samples) {
