@@ -125,6 +125,8 @@ const READING: &str = "Nanoseconds a sample, square pictures of these sides: the
 
 The Rust has no block driver: beside it stand the Rust's own calls for each leaf, all three components, the list of leaves made before. In its rows and in those of residual addition both sides read one list of residuals, as long as the picture, and write planes whose rows lie equally far apart: the Rust's are made without their margin there. In gathering and deblocking they have it, 80 samples on each side of luma, as the Rust makes them.
 
+Of the pictures that are deblocked, \"noise\" is samples at random around a middle grey, \"blocky\" a smooth picture at one sample for each 8 by 8, and \"ramp\" goes from corner to corner. \"Inter\" has motion at random in every unit, as no station has it. In \"moving\" motion is alike inside a leaf and at random from leaf to leaf, as an encoder writes it: motion belongs to a leaf. \"Still\" has one motion everywhere. \"Quiet\" is still but for one leaf in eight, which moves, is intra or is coded; only there are units coded. The QP is 37 where none is named.
+
 Deblocking over 1024 by 1024 the Rust's 16-bit unit index wraps, so it does about as much work, but not on the right units; its numbers there only show the growth.
 
 ";

@@ -2,6 +2,7 @@
 use crate::bench::best;
 use crate::cases::deblock::{picture, Picture};
 use crate::cases::trees::{self, Taste};
+use crate::model::walk;
 use crate::rng::Rng;
 use lomsakeun::Planes;
 use std::ops::Range;
@@ -21,14 +22,18 @@ enum Look {
     Ramp,
 }
 
-/// What the units of a picture are.
-#[derive(Clone, Copy)]
+/// What the units of a picture are. Only a quiet picture has coded units.
+#[derive(Clone, Copy, PartialEq)]
 enum Units {
     Intra,
-    /// Motion and references at random.
+    /// Motion and references at random in every unit: what no station's pictures have.
     Inter,
+    /// Motion and references at random for every leaf and alike inside it, as an encoder writes them: motion belongs to a leaf.
+    Moving,
     /// Motion and references that are equal everywhere.
     Still,
+    /// The same, but one leaf in eight moves, is intra or is coded.
+    Quiet,
 }
 
 /// A kind of picture that is deblocked.
@@ -41,20 +46,26 @@ pub struct Kind {
 }
 
 /// How the pictures look, what their units are, and their QP; the noise first.
-const LOOKS: [(&str, Look, Units, u32); 7] = [
+const LOOKS: [(&str, Look, Units, u32); 9] = [
     ("noise, intra", Look::Noise, Units::Intra, 37),
     ("noise, inter", Look::Noise, Units::Inter, 37),
     ("blocky, intra", Look::Blocky, Units::Intra, 37),
     ("blocky, inter", Look::Blocky, Units::Inter, 37),
+    ("blocky, moving", Look::Blocky, Units::Moving, 37),
     ("blocky, still", Look::Blocky, Units::Still, 37),
+    ("blocky, quiet", Look::Blocky, Units::Quiet, 37),
     ("blocky, intra, QP 10", Look::Blocky, Units::Intra, 10),
     ("ramp, intra", Look::Ramp, Units::Intra, 37),
 ];
 
-/// Each look with each kind of leaves.
+/// Each look with each kind of leaves, and a quiet picture with leaves of 16 and 8 alone.
 pub fn kinds() -> impl Iterator<Item = Kind> {
     LOOKS.into_iter().flat_map(|(name, look, units, qp)| {
-        LEAVES.map(|(leaves, taste)| Kind { what: format!("{name}, leaves {leaves}"), taste, look, units, qp })
+        let leaves = if units == Units::Quiet { &LEAVES[..1] } else { &LEAVES };
+        leaves.iter().map(move |&(leaves, taste)| {
+            let what = format!("{name}, leaves {leaves}");
+            Kind { what, taste, look, units, qp }
+        })
     })
 }
 
@@ -72,18 +83,91 @@ fn plane(rng: &mut Rng, look: Look, side: usize, step: usize) -> Vec<u16> {
         .collect()
 }
 
+/// Unit words, motion and references: a picture's, or one of each for every leaf.
+struct Said {
+    words: Vec<u32>,
+    motion: Vec<i16>,
+    refs: Vec<i8>,
+}
+
+const INTRA: u32 = 1 << 15;
+const CODED: u32 = 1 << 24;
+
+impl Said {
+    /// Of so many units or leaves.
+    fn new(rng: &mut Rng, kind: &Kind, count: usize) -> Said {
+        let still = matches!(kind.units, Units::Still | Units::Quiet);
+        let intra = if kind.units == Units::Intra { INTRA } else { 0 };
+        let mut said = Said {
+            words: vec![intra | kind.qp << 16; count],
+            motion: (0..4 * count).map(|_| if still { 2 } else { a_motion(rng) }).collect(),
+            refs: (0..2 * count).map(|_| if still { 0 } else { rng.pick(&[0, 1]) }).collect(),
+        };
+        if kind.units == Units::Quiet {
+            (0..count).for_each(|k| said.stir(rng, k));
+        }
+        said
+    }
+
+    /// Once in eight leaves this one moves, is intra, which has no motion and no references, or is coded.
+    fn stir(&mut self, rng: &mut Rng, k: usize) {
+        let (motion, refs) = (&mut self.motion[4 * k..][..4], &mut self.refs[2 * k..][..2]);
+        match rng.below(24) {
+            0 => motion.iter_mut().for_each(|part| *part = a_motion(rng)),
+            1 => {
+                self.words[k] |= INTRA;
+                motion.fill(0);
+                refs.fill(-1);
+            }
+            2 => self.words[k] |= CODED,
+            _ => {}
+        }
+    }
+
+    /// Each unit has what its leaf has.
+    fn spread(&self, leaf_of: &[usize]) -> Said {
+        Said {
+            words: leaf_of.iter().map(|&k| self.words[k]).collect(),
+            motion: leaf_of.iter().flat_map(|&k| &self.motion[4 * k..][..4]).copied().collect(),
+            refs: leaf_of.iter().flat_map(|&k| &self.refs[2 * k..][..2]).copied().collect(),
+        }
+    }
+}
+
+/// A part of a motion: two of them differ by 4 or more about as often as not.
+fn a_motion(rng: &mut Rng) -> i16 {
+    rng.pick(&[-2, 1, 2, 6])
+}
+
+/// How many leaves a picture has, and which of them each unit lies in.
+fn leaves_of(given: &Picture) -> (usize, Vec<usize>) {
+    let leaves =
+        walk::leaves(given.w, given.h, walk::cut_by(&given.splits, given.w)).expect("a tree that is accepted");
+    let mut own = vec![0; given.words.len()];
+    for (k, leaf) in leaves.iter().enumerate() {
+        for y in (leaf.y..leaf.y + leaf.high).step_by(4) {
+            own[y / 4 * (given.w / 4) + leaf.x / 4..][..leaf.wide / 4].fill(k);
+        }
+    }
+    (leaves.len(), own)
+}
+
 /// A square picture of a kind, the same at every size, so that the sizes can be compared.
 pub fn drawn(rng: &mut Rng, kind: &Kind, side: usize) -> Picture {
     let given = picture(rng, side, side, kind.taste);
-    let units = given.words.len();
     let table: Vec<i8> = (-12..58).map(|qp: i8| qp.clamp(0, 51)).collect();
-    let still = matches!(kind.units, Units::Still);
-    let intra = matches!(kind.units, Units::Intra) as u32;
+    let planes = [(side, 1), (side / 2, 2), (side / 2, 2)].map(|(side, step)| plane(rng, kind.look, side, step));
+    let said = if matches!(kind.units, Units::Moving | Units::Quiet) {
+        let (count, leaf_of) = leaves_of(&given);
+        Said::new(rng, kind, count).spread(&leaf_of)
+    } else {
+        Said::new(rng, kind, given.words.len())
+    };
     Picture {
-        planes: [(side, 1), (side / 2, 2), (side / 2, 2)].map(|(side, step)| plane(rng, kind.look, side, step)),
-        words: vec![intra << 15 | kind.qp << 16; units],
-        motion: (0..4 * units).map(|_| if still { 2 } else { rng.pick(&[-2, 1, 2, 6]) }).collect(),
-        refs: (0..2 * units).map(|_| if still { 0 } else { rng.pick(&[0, 1]) }).collect(),
+        planes,
+        words: said.words,
+        motion: said.motion,
+        refs: said.refs,
         tables: [table.clone(), table],
         limit: 6,
         offsets: [0, 0],
@@ -171,6 +255,14 @@ impl Theirs {
 
     pub fn run(&mut self) {
         self.picture.run(&self.tables, self.offsets);
+    }
+
+    /// Whether it has left what the product has, in the planes that the product's picture has. Over 1024 by 1024, where its unit index wraps, it is not asked.
+    pub fn agreed(&mut self, given: &Picture, (planes, words): &Written) -> bool {
+        let (mut own, mut own_words) = (given.planes.clone(), given.words.clone());
+        self.picture.read(own.each_mut().map(|plane| &mut plane[..]), &mut own_words);
+        let same = own.iter().zip(planes).all(|(own, plane)| plane.is_empty() || own == plane);
+        given.words.len() > 1 << 16 || same && own_words == *words
     }
 }
 

@@ -40,13 +40,13 @@ fn count(row: &str, column: &str, mut work: impl FnMut()) {
 /// Deblocking of each kind of picture: the Rust's, the product's in both formats, by bands, by a map of edge rows, and that map filled.
 fn of_deblocking(side: usize) {
     for kind in deblock::kinds() {
-        let (row, given) = (&kind.what[..], deblock::drawn(&mut Rng::new(1), &kind, side));
-        let mut rust = deblock::Theirs::new(&given);
+        let (row, picture) = (&kind.what[..], deblock::drawn(&mut Rng::new(1), &kind, side));
+        let mut rust = deblock::Theirs::new(&picture);
         count(row, "Rust", || rust.run());
-        let mut rows = vec![0; given.words.len()];
-        count(row, "map", || deblock::fill(&given, &mut rows));
-        let grey = given.clone().grey();
-        for (given, colour) in [(&given, "colour"), (&grey, "grey")] {
+        let mut rows = vec![0; picture.words.len()];
+        count(row, "map", || deblock::fill(&picture, &mut rows));
+        let grey = picture.clone().grey();
+        for (given, colour) in [(&picture, "colour"), (&grey, "grey")] {
             let fresh = (given.planes.clone(), given.words.clone());
             let (mut whole, mut by_bands, mut by_rows) = (fresh.clone(), fresh.clone(), fresh);
             let (mut edges, mut banded, mut mapped) = (0, 0, 0);
@@ -54,6 +54,7 @@ fn of_deblocking(side: usize) {
             count(row, &format!("{colour}, bands"), || banded = deblock::finish_by_bands(given, &mut by_bands));
             count(row, &format!("{colour}, rows"), || mapped = deblock::finish(given, &rows, &mut by_rows));
             assert!(edges == banded && edges == mapped && whole == by_bands && whole == by_rows);
+            assert!(rust.agreed(&picture, &whole), "the two sides made another picture");
         }
     }
 }
