@@ -1,8 +1,8 @@
 //! Deblocking by bands.
 use crate::deblock::{Maps, Settings};
+use crate::lend;
 use crate::picture::Picture;
 use crate::refusal::{answer, Refusal};
-use crate::sys;
 
 /// A picture that is deblocked by bands, from the top: which band comes next. A band is 64 luma rows, the last one maybe fewer; they are
 /// numbered from 0. Two of them are in memory at a time: the band that a call does, and the band above it.
@@ -98,40 +98,11 @@ impl Bands {
         let (mut vertical, mut horizontal) = (0, 0);
         // Each pointer comes from a slice that lives through the call, with its own length, from a local, or from the position.
         let number = unsafe {
-            sys::lomsakeun_deblock_band(
-                &mut self.next,
-                band,
-                w,
-                h,
-                y.as_mut_ptr(),
-                y.len(),
-                u.as_mut_ptr(),
-                u.len(),
-                v.as_mut_ptr(),
-                v.len(),
-                words.as_mut_ptr(),
-                words.len(),
-                splits.as_ptr(),
-                splits.len(),
-                motion.as_ptr(),
-                motion.len(),
-                refs.as_ptr(),
-                refs.len(),
-                keep.as_ptr(),
-                keep.len(),
-                table0.as_ptr(),
-                table0.len(),
-                table1.as_ptr(),
-                table1.len(),
-                strengths.as_ptr(),
-                strengths.len(),
-                settings.limit,
-                settings.u_offset,
-                settings.v_offset,
-                colour,
-                &mut vertical,
-                &mut horizontal,
-            )
+            lend!(lomsakeun_deblock_band(
+                &mut self.next, band, w, h, mut y, mut u, mut v, mut words, in splits, in motion, in refs, in keep,
+                in table0, in table1, in strengths, settings.limit, settings.u_offset, settings.v_offset, colour,
+                &mut vertical, &mut horizontal
+            ))
         };
         answer(number, (vertical, horizontal))
     }

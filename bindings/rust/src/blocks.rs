@@ -1,6 +1,6 @@
 //! A block's samples: gathering, the five modes and residual addition.
+use crate::lend;
 use crate::refusal::{answer, Refusal};
-use crate::sys;
 
 /// A component of a 4:2:0 picture. The two chroma planes have one form.
 #[derive(Clone, Copy, Debug, PartialEq, Eq)]
@@ -30,21 +30,9 @@ pub fn get_nbr(
 ) -> Result<(), Refusal> {
     // Each pointer comes from a slice that lives through the call, with its own length.
     let number = unsafe {
-        sys::lomsakeun_get_nbr(
-            component == Component::Chroma,
-            w,
-            h,
-            plane.as_ptr(),
-            plane.len(),
-            map_scu.as_ptr(),
-            map_scu.len(),
-            x,
-            y,
-            side,
-            constrained,
-            run.as_mut_ptr(),
-            run.len(),
-        )
+        lend!(lomsakeun_get_nbr(
+            component == Component::Chroma, w, h, in plane, in map_scu, x, y, side, constrained, mut run
+        ))
     };
     answer(number, ())
 }
@@ -54,8 +42,7 @@ pub fn get_nbr(
 #[inline]
 pub fn ipred_b(mode: u8, side: usize, run: &[u16], block: &mut [u16]) -> Result<(), Refusal> {
     // As above.
-    let number =
-        unsafe { sys::lomsakeun_ipred_b(mode, side, run.as_ptr(), run.len(), block.as_mut_ptr(), block.len()) };
+    let number = unsafe { lend!(lomsakeun_ipred_b(mode, side, in run, mut block)) };
     answer(number, ())
 }
 
@@ -64,18 +51,7 @@ pub fn ipred_b(mode: u8, side: usize, run: &[u16], block: &mut [u16]) -> Result<
 #[inline]
 pub fn recon(coded: bool, side: usize, pred: &[u16], coef: &[i16], rec: &mut [u16]) -> Result<(), Refusal> {
     // As above.
-    let number = unsafe {
-        sys::lomsakeun_recon(
-            coded,
-            side,
-            pred.as_ptr(),
-            pred.len(),
-            coef.as_ptr(),
-            coef.len(),
-            rec.as_mut_ptr(),
-            rec.len(),
-        )
-    };
+    let number = unsafe { lend!(lomsakeun_recon(coded, side, in pred, in coef, mut rec)) };
     answer(number, ())
 }
 
@@ -97,21 +73,9 @@ pub fn recon_plane(
 ) -> Result<(), Refusal> {
     // As above.
     let number = unsafe {
-        sys::lomsakeun_recon_plane(
-            component == Component::Chroma,
-            w,
-            h,
-            x,
-            y,
-            side,
-            coded,
-            pred.as_ptr(),
-            pred.len(),
-            coef.as_ptr(),
-            coef.len(),
-            rec.as_mut_ptr(),
-            rec.len(),
-        )
+        lend!(lomsakeun_recon_plane(
+            component == Component::Chroma, w, h, x, y, side, coded, in pred, in coef, mut rec
+        ))
     };
     answer(number, ())
 }

@@ -1,6 +1,6 @@
 //! The derived chroma QP tables.
+use crate::lend;
 use crate::refusal::{answer, Refusal};
-use crate::sys;
 
 /// A table's points: how many count, and a and b of each, 58 numbers each.
 #[derive(Clone, Copy, Debug)]
@@ -26,24 +26,10 @@ pub fn derived_chroma_qp_mapping_tables(
 ) -> Result<(), Refusal> {
     // Each pointer comes from a slice that lives through the call, with its own length.
     let number = unsafe {
-        sys::lomsakeun_derived_chroma_qp_mapping_tables(
-            global_offset,
-            same_table,
-            first.count,
-            first.a.as_ptr(),
-            first.a.len(),
-            first.b.as_ptr(),
-            first.b.len(),
-            second.count,
-            second.a.as_ptr(),
-            second.a.len(),
-            second.b.as_ptr(),
-            second.b.len(),
-            t0.as_mut_ptr(),
-            t0.len(),
-            t1.as_mut_ptr(),
-            t1.len(),
-        )
+        lend!(lomsakeun_derived_chroma_qp_mapping_tables(
+            global_offset, same_table, first.count, in first.a, in first.b, second.count, in second.a, in second.b,
+            mut t0, mut t1
+        ))
     };
     answer(number, ())
 }

@@ -1,7 +1,7 @@
 //! Deblocking.
+use crate::lend;
 use crate::picture::Picture;
 use crate::refusal::{answer, Refusal};
-use crate::sys;
 
 /// What deblocking reads of each unit and root.
 #[derive(Clone, Copy, Debug)]
@@ -57,40 +57,11 @@ pub fn deblock_by_rows(
     let (mut vertical, mut horizontal) = (0, 0);
     // Each pointer comes from a slice that lives through the call, with its own length, or from a local.
     let number = unsafe {
-        sys::lomsakeun_deblock_by_rows(
-            w,
-            h,
-            y.as_mut_ptr(),
-            y.len(),
-            u.as_mut_ptr(),
-            u.len(),
-            v.as_mut_ptr(),
-            v.len(),
-            words.as_mut_ptr(),
-            words.len(),
-            splits.as_ptr(),
-            splits.len(),
-            motion.as_ptr(),
-            motion.len(),
-            refs.as_ptr(),
-            refs.len(),
-            keep.as_ptr(),
-            keep.len(),
-            rows.as_ptr(),
-            rows.len(),
-            table0.as_ptr(),
-            table0.len(),
-            table1.as_ptr(),
-            table1.len(),
-            strengths.as_ptr(),
-            strengths.len(),
-            settings.limit,
-            settings.u_offset,
-            settings.v_offset,
-            colour,
-            &mut vertical,
-            &mut horizontal,
-        )
+        lend!(lomsakeun_deblock_by_rows(
+            w, h, mut y, mut u, mut v, mut words, in splits, in motion, in refs, in keep, in rows, in table0,
+            in table1, in strengths, settings.limit, settings.u_offset, settings.v_offset, colour, &mut vertical,
+            &mut horizontal
+        ))
     };
     answer(number, (vertical, horizontal))
 }

@@ -1,7 +1,7 @@
 //! The block driver.
+use crate::lend;
 use crate::picture::{Picture, Planes};
 use crate::refusal::{answer, Refusal};
-use crate::sys;
 
 /// What a picture's blocks are made from.
 #[derive(Clone, Copy, Debug)]
@@ -32,36 +32,10 @@ pub fn reconstruct(blocks: Blocks, picture: Picture, modes: &mut [u8], keep: &mu
     let (colour, [y, u, v]) = planes.lent();
     // Each pointer comes from a slice that lives through the call, with its own length.
     let number = unsafe {
-        sys::lomsakeun_reconstruct(
-            w,
-            h,
-            colour,
-            splits.as_ptr(),
-            splits.len(),
-            leaves.as_ptr(),
-            leaves.len(),
-            residual.as_ptr(),
-            residual.len(),
-            pred_y.as_ptr(),
-            pred_y.len(),
-            pred_u.as_ptr(),
-            pred_u.len(),
-            pred_v.as_ptr(),
-            pred_v.len(),
-            constrained,
-            y.as_mut_ptr(),
-            y.len(),
-            u.as_mut_ptr(),
-            u.len(),
-            v.as_mut_ptr(),
-            v.len(),
-            words.as_mut_ptr(),
-            words.len(),
-            modes.as_mut_ptr(),
-            modes.len(),
-            keep.as_mut_ptr(),
-            keep.len(),
-        )
+        lend!(lomsakeun_reconstruct(
+            w, h, colour, in splits, in leaves, in residual, in pred_y, in pred_u, in pred_v, constrained, mut y,
+            mut u, mut v, mut words, mut modes, mut keep
+        ))
     };
     answer(number, ())
 }

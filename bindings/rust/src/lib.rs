@@ -43,6 +43,7 @@ mod blocks;
 mod chroma;
 mod deblock;
 mod driver;
+mod lend;
 mod mend;
 mod neighbours;
 mod pack;

@@ -1,6 +1,6 @@
 //! A torn split map, mended.
+use crate::lend;
 use crate::refusal::{answer, Refusal};
-use crate::sys;
 
 /// How many numbers the list of changes has for each root: five for each of at most 85.
 pub const CHANGES_LENGTH: usize = 425;
@@ -28,19 +28,7 @@ pub struct Change {
 pub fn mend(w: usize, h: usize, splits: &[u8], out: &mut [u8], list: &mut [u16]) -> Result<usize, Refusal> {
     let mut count = 0;
     // The pointers come from slices that live through the call, with their own lengths, and from a local; the borrows keep them apart.
-    let number = unsafe {
-        sys::lomsakeun_mend(
-            w,
-            h,
-            splits.as_ptr(),
-            splits.len(),
-            out.as_mut_ptr(),
-            out.len(),
-            list.as_mut_ptr(),
-            list.len(),
-            &mut count,
-        )
-    };
+    let number = unsafe { lend!(lomsakeun_mend(w, h, in splits, mut out, mut list, &mut count)) };
     answer(number, count)
 }
 

@@ -1,6 +1,6 @@
 //! What a block's neighbours are: availability and mode ranks.
+use crate::lend;
 use crate::refusal::{answer, Refusal};
-use crate::sys;
 
 /// Which neighbours of a block are there.
 #[derive(Clone, Copy, Debug, Default, PartialEq, Eq)]
@@ -53,8 +53,7 @@ pub fn get_avail_intra(
 ) -> Result<Neighbours, Refusal> {
     let mut mask = 0;
     // The pointers come from a slice with its own length and from a local.
-    let number =
-        unsafe { sys::lomsakeun_get_avail_intra(w, h, map_scu.as_ptr(), map_scu.len(), x, y, side, &mut mask) };
+    let number = unsafe { lend!(lomsakeun_get_avail_intra(w, h, in map_scu, x, y, side, &mut mask)) };
     answer(number, Neighbours::from_mask(mask))
 }
 
@@ -70,8 +69,7 @@ pub fn get_avail_inter(
 ) -> Result<Neighbours, Refusal> {
     let mut mask = 0;
     // As above.
-    let number =
-        unsafe { sys::lomsakeun_get_avail_inter(w, h, map_scu.as_ptr(), map_scu.len(), x, y, side, &mut mask) };
+    let number = unsafe { lend!(lomsakeun_get_avail_inter(w, h, in map_scu, x, y, side, &mut mask)) };
     answer(number, Neighbours::from_mask(mask))
 }
 
@@ -89,21 +87,6 @@ pub fn get_mpm(
 ) -> Result<[u8; 5], Refusal> {
     let mut ranks = [0; 5];
     // Each pointer comes from a slice or an array that lives through the call, with its own length.
-    let number = unsafe {
-        sys::lomsakeun_get_mpm(
-            w,
-            h,
-            map_scu.as_ptr(),
-            map_scu.len(),
-            map_ipm.as_ptr(),
-            map_ipm.len(),
-            table.as_ptr(),
-            table.len(),
-            x,
-            y,
-            ranks.as_mut_ptr(),
-            ranks.len(),
-        )
-    };
+    let number = unsafe { lend!(lomsakeun_get_mpm(w, h, in map_scu, in map_ipm, in table, x, y, mut ranks)) };
     answer(number, ranks)
 }

@@ -1,6 +1,6 @@
 //! A split map in its compact form: a writer and a reader over a lent part of a buffer, each with its position in bits.
+use crate::lend;
 use crate::refusal::{answer, Refusal};
-use crate::sys;
 
 /// The split map of a picture of `w` by `h` goes into `buf` by its digits, from position `*at` on, in bits: it starts on a byte, and `*at` moves
 /// on behind it. On a refusal buffer and position are as they were. Refusals: those of [`check`](crate::check), then [`Bits`](Refusal::Bits)
@@ -8,8 +8,7 @@ use crate::sys;
 #[inline]
 pub fn put_map(w: usize, h: usize, splits: &[u8], buf: &mut [u8], at: &mut usize) -> Result<(), Refusal> {
     // The pointers come from slices that live through the call, with their own lengths; the borrows keep them apart.
-    let number =
-        unsafe { sys::lomsakeun_put_map(w, h, splits.as_ptr(), splits.len(), buf.as_mut_ptr(), buf.len(), at) };
+    let number = unsafe { lend!(lomsakeun_put_map(w, h, in splits, mut buf, at)) };
     answer(number, ())
 }
 
@@ -20,7 +19,7 @@ pub fn put_map(w: usize, h: usize, splits: &[u8], buf: &mut [u8], at: &mut usize
 #[inline]
 pub fn get_map(w: usize, h: usize, src: &[u8], at: &mut usize, map: &mut [u8]) -> Result<(), Refusal> {
     // As above.
-    let number = unsafe { sys::lomsakeun_get_map(w, h, src.as_ptr(), src.len(), at, map.as_mut_ptr(), map.len()) };
+    let number = unsafe { lend!(lomsakeun_get_map(w, h, in src, at, mut map)) };
     answer(number, ())
 }
 

@@ -1,6 +1,6 @@
 //! A map of edge rows, kept right while motion and flags are edited unit by unit.
+use crate::lend;
 use crate::refusal::{answer, Refusal};
-use crate::sys;
 
 /// A unit's motion: the references of list 0 and list 1, and x and y of each.
 #[derive(Clone, Copy, Debug, Default, PartialEq, Eq)]
@@ -51,20 +51,7 @@ pub fn fill_rows(
     rows: &mut [u8],
 ) -> Result<(), Refusal> {
     // The pointers come from slices that live through the call, with their own lengths; the borrows keep them apart.
-    let number = unsafe {
-        sys::lomsakeun_fill_rows(
-            w,
-            h,
-            words.as_ptr(),
-            words.len(),
-            motion.as_ptr(),
-            motion.len(),
-            refs.as_ptr(),
-            refs.len(),
-            rows.as_mut_ptr(),
-            rows.len(),
-        )
-    };
+    let number = unsafe { lend!(lomsakeun_fill_rows(w, h, in words, in motion, in refs, mut rows)) };
     answer(number, ())
 }
 
@@ -85,26 +72,10 @@ pub fn set_motion(
 ) -> Result<(), Refusal> {
     // As above.
     let number = unsafe {
-        sys::lomsakeun_set_motion(
-            w,
-            h,
-            x,
-            y,
-            moved.x0,
-            moved.y0,
-            moved.x1,
-            moved.y1,
-            moved.refi0,
-            moved.refi1,
-            words.as_ptr(),
-            words.len(),
-            motion.as_mut_ptr(),
-            motion.len(),
-            refs.as_mut_ptr(),
-            refs.len(),
-            rows.as_mut_ptr(),
-            rows.len(),
-        )
+        lend!(lomsakeun_set_motion(
+            w, h, x, y, moved.x0, moved.y0, moved.x1, moved.y1, moved.refi0, moved.refi1, in words, mut motion,
+            mut refs, mut rows
+        ))
     };
     answer(number, ())
 }
@@ -126,22 +97,7 @@ pub fn set_flag(
 ) -> Result<(), Refusal> {
     // As above.
     let number = unsafe {
-        sys::lomsakeun_set_flag(
-            w,
-            h,
-            x,
-            y,
-            flag == Flag::Coded,
-            on,
-            words.as_mut_ptr(),
-            words.len(),
-            motion.as_ptr(),
-            motion.len(),
-            refs.as_ptr(),
-            refs.len(),
-            rows.as_mut_ptr(),
-            rows.len(),
-        )
+        lend!(lomsakeun_set_flag(w, h, x, y, flag == Flag::Coded, on, mut words, in motion, in refs, mut rows))
     };
     answer(number, ())
 }

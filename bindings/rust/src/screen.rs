@@ -1,7 +1,7 @@
 //! The ward screen: 8-bit rows of a crop window, one at a time.
+use crate::lend;
 use crate::picture::Planes;
 use crate::refusal::{answer, Refusal};
-use crate::sys;
 
 /// The two runs over a window.
 #[derive(Clone, Copy, Debug, PartialEq, Eq)]
@@ -75,29 +75,10 @@ impl Turn {
         let (colour, [y, u, v]) = shown.planes.lent();
         // Each pointer comes from a slice that lives through the call, with its own length, and `out` is borrowed alone; the others are locals.
         let number = unsafe {
-            sys::lomsakeun_ward_row(
-                turn.run == Run::Preview,
-                &mut turn.plane,
-                &mut turn.row,
-                plane,
-                row,
-                colour,
-                shown.w,
-                shown.h,
-                y.as_ptr(),
-                y.len(),
-                u.as_ptr(),
-                u.len(),
-                v.as_ptr(),
-                v.len(),
-                window.left,
-                window.top,
-                window.right,
-                window.bottom,
-                out.as_mut_ptr(),
-                out.len(),
-                &mut written,
-            )
+            lend!(lomsakeun_ward_row(
+                turn.run == Run::Preview, &mut turn.plane, &mut turn.row, plane, row, colour, shown.w, shown.h,
+                in y, in u, in v, window.left, window.top, window.right, window.bottom, mut out, &mut written
+            ))
         };
         match answer(number, written) {
             Ok(written) => Ok((turn, written)),

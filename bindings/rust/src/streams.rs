@@ -1,7 +1,7 @@
 //! YUV4MPEG2 streams of 10 bits, `C420p10`: a header, a frame, and the first frame of a stream.
+use crate::lend;
 use crate::picture::Planes;
 use crate::refusal::{answer, Refusal};
-use crate::sys;
 
 /// The length of the buffer that a header is written to.
 pub const HEADER_LENGTH: usize = 256;
@@ -44,27 +44,34 @@ impl std::fmt::Display for Misread {
 
 impl std::error::Error for Misread {}
 
+/// What a call says that reads a header.
+#[derive(Default)]
+struct Told {
+    w: usize,
+    h: usize,
+    rate: (usize, usize),
+    aspect: (usize, usize),
+    next: usize,
+    at: usize,
+}
+
+impl Told {
+    #[inline]
+    fn answer(self, number: u8) -> Result<(Header, usize), Misread> {
+        let Told { w, h, rate, aspect, next, at } = self;
+        answer(number, (Header { w, h, rate, aspect }, next)).map_err(|refusal| Misread { refusal, at })
+    }
+}
+
 /// The header at the start of a stream, of which at most 256 bytes are read, and the place after it. Refusals: [`Stream`](Refusal::Stream),
 /// [`Size`](Refusal::Size).
 #[inline]
 pub fn read_header(stream: &[u8]) -> Result<(Header, usize), Misread> {
-    let (mut w, mut h, mut f, mut g, mut a, mut b, mut next, mut at) = (0, 0, 0, 0, 0, 0, 0, 0);
+    let mut told = Told::default();
+    let Told { w, h, rate: (f, g), aspect: (a, b), next, at } = &mut told;
     // The pointer comes from a slice that lives through the call, with its own length; the others are locals.
-    let number = unsafe {
-        sys::lomsakeun_read_header(
-            stream.as_ptr(),
-            stream.len(),
-            &mut w,
-            &mut h,
-            &mut f,
-            &mut g,
-            &mut a,
-            &mut b,
-            &mut next,
-            &mut at,
-        )
-    };
-    answer(number, (Header { w, h, rate: (f, g), aspect: (a, b) }, next)).map_err(|refusal| Misread { refusal, at })
+    let number = unsafe { lend!(lomsakeun_read_header(in stream, w, h, f, g, a, b, next, at)) };
+    told.answer(number)
 }
 
 /// The header of a picture's stream, at the start of [`HEADER_LENGTH`] bytes; answers how many it has. `colour`: the picture has chroma. Refusals:
@@ -74,8 +81,7 @@ pub fn write_header(colour: bool, header: Header, out: &mut [u8]) -> Result<usiz
     let mut count = 0;
     let Header { w, h, rate: (f, g), aspect: (a, b) } = header;
     // As above, and a local.
-    let number =
-        unsafe { sys::lomsakeun_write_header(colour, w, h, f, g, a, b, out.as_mut_ptr(), out.len(), &mut count) };
+    let number = unsafe { lend!(lomsakeun_write_header(colour, w, h, f, g, a, b, mut out, &mut count)) };
     answer(number, count)
 }
 
@@ -93,23 +99,8 @@ pub fn read_frame(
     let (mut next, mut at) = (0, 0);
     let (_, [y, u, v]) = planes.lent();
     // As above: the planes are three slices that are borrowed as mutable, so that none overlaps another.
-    let number = unsafe {
-        sys::lomsakeun_read_frame(
-            stream.as_ptr(),
-            stream.len(),
-            place,
-            w,
-            h,
-            y.as_mut_ptr(),
-            y.len(),
-            u.as_mut_ptr(),
-            u.len(),
-            v.as_mut_ptr(),
-            v.len(),
-            &mut next,
-            &mut at,
-        )
-    };
+    let number =
+        unsafe { lend!(lomsakeun_read_frame(in stream, place, w, h, mut y, mut u, mut v, &mut next, &mut at)) };
     answer(number, next).map_err(|refusal| Misread { refusal, at })
 }
 
@@ -119,21 +110,7 @@ pub fn read_frame(
 pub fn write_frame(w: usize, h: usize, planes: Planes<&[u16]>, out: &mut [u8]) -> Result<(), Refusal> {
     let (colour, [y, u, v]) = planes.lent();
     // As above.
-    let number = unsafe {
-        sys::lomsakeun_write_frame(
-            colour,
-            w,
-            h,
-            y.as_ptr(),
-            y.len(),
-            u.as_ptr(),
-            u.len(),
-            v.as_ptr(),
-            v.len(),
-            out.as_mut_ptr(),
-            out.len(),
-        )
-    };
+    let number = unsafe { lend!(lomsakeun_write_frame(colour, w, h, in y, in u, in v, mut out)) };
     answer(number, ())
 }
 
@@ -142,27 +119,9 @@ pub fn write_frame(w: usize, h: usize, planes: Planes<&[u16]>, out: &mut [u8]) -
 #[inline]
 pub fn import_frame(stream: &[u8], planes: Planes<&mut [u16]>) -> Result<(Header, usize), Misread> {
     let (_, [y, u, v]) = planes.lent();
-    let (mut w, mut h, mut f, mut g, mut a, mut b, mut next, mut at) = (0, 0, 0, 0, 0, 0, 0, 0);
+    let mut told = Told::default();
+    let Told { w, h, rate: (f, g), aspect: (a, b), next, at } = &mut told;
     // As above.
-    let number = unsafe {
-        sys::lomsakeun_import_frame(
-            stream.as_ptr(),
-            stream.len(),
-            y.as_mut_ptr(),
-            y.len(),
-            u.as_mut_ptr(),
-            u.len(),
-            v.as_mut_ptr(),
-            v.len(),
-            &mut w,
-            &mut h,
-            &mut f,
-            &mut g,
-            &mut a,
-            &mut b,
-            &mut next,
-            &mut at,
-        )
-    };
-    answer(number, (Header { w, h, rate: (f, g), aspect: (a, b) }, next)).map_err(|refusal| Misread { refusal, at })
+    let number = unsafe { lend!(lomsakeun_import_frame(in stream, mut y, mut u, mut v, w, h, f, g, a, b, next, at)) };
+    told.answer(number)
 }

@@ -1,6 +1,6 @@
 //! The split tree and its edges, and the listing of a sheet.
+use crate::lend;
 use crate::refusal::{answer, Refusal};
-use crate::sys;
 
 /// The length of a root's list of leaves: three numbers for each of at most 256.
 pub const LEAVES_LENGTH: usize = 768;
@@ -13,7 +13,7 @@ pub const LISTING_LENGTH: usize = 81920;
 #[inline]
 pub fn check(w: usize, h: usize, splits: &[u8]) -> Result<(), Refusal> {
     // The pointer comes from a slice that lives through the call, with its own length.
-    answer(unsafe { sys::lomsakeun_check(w, h, splits.as_ptr(), splits.len()) }, ())
+    answer(unsafe { lend!(lomsakeun_check(w, h, in splits)) }, ())
 }
 
 /// The leaves of the root at (x, y), in the order of the walk: x, y and side of each go to `out`, of [`LEAVES_LENGTH`] numbers. Answers how
@@ -22,9 +22,7 @@ pub fn check(w: usize, h: usize, splits: &[u8]) -> Result<(), Refusal> {
 pub fn leaves(w: usize, h: usize, splits: &[u8], x: usize, y: usize, out: &mut [u16]) -> Result<usize, Refusal> {
     let mut count = 0;
     // As above, and a local.
-    let number = unsafe {
-        sys::lomsakeun_leaves(w, h, splits.as_ptr(), splits.len(), x, y, out.as_mut_ptr(), out.len(), &mut count)
-    };
+    let number = unsafe { lend!(lomsakeun_leaves(w, h, in splits, x, y, mut out, &mut count)) };
     answer(number, count)
 }
 
@@ -33,7 +31,7 @@ pub fn leaves(w: usize, h: usize, splits: &[u8], x: usize, y: usize, out: &mut [
 pub fn visiting_rank(x: usize, y: usize) -> Result<u8, Refusal> {
     let mut rank = 0;
     // A local.
-    let number = unsafe { sys::lomsakeun_visiting_rank(x, y, &mut rank) };
+    let number = unsafe { lend!(lomsakeun_visiting_rank(x, y, &mut rank)) };
     answer(number, rank)
 }
 
@@ -51,19 +49,9 @@ pub fn list_edges(
     let (mut vertical_count, mut horizontal_count) = (0, 0);
     // As above, and two locals.
     let number = unsafe {
-        sys::lomsakeun_list_edges(
-            w,
-            h,
-            splits.as_ptr(),
-            splits.len(),
-            limit,
-            vertical.as_mut_ptr(),
-            vertical.len(),
-            horizontal.as_mut_ptr(),
-            horizontal.len(),
-            &mut vertical_count,
-            &mut horizontal_count,
-        )
+        lend!(lomsakeun_list_edges(
+            w, h, in splits, limit, mut vertical, mut horizontal, &mut vertical_count, &mut horizontal_count
+        ))
     };
     answer(number, (vertical_count, horizontal_count))
 }
@@ -74,7 +62,6 @@ pub fn list_edges(
 pub fn listing(input: &[u8], out: &mut [u8]) -> Result<usize, Refusal> {
     let mut length = 0;
     // As above.
-    let number =
-        unsafe { sys::lomsakeun_listing(input.as_ptr(), input.len(), out.as_mut_ptr(), out.len(), &mut length) };
+    let number = unsafe { lend!(lomsakeun_listing(in input, mut out, &mut length)) };
     answer(number, length)
 }
