@@ -1,6 +1,6 @@
 //! The product's archive, called on slices that are watched.
 use crate::cases::tape::{Line, Number};
-pub use lomsakeun::sys;
+pub use lomsakeun::{lend, sys};
 
 /// How a slice is lent.
 #[derive(Clone, Copy, PartialEq)]
@@ -36,12 +36,18 @@ impl<T: Number> Lent<T> {
         self.buffer.len() - 2 * self.pad
     }
 
-    pub fn ptr(&self) -> *const T {
+    pub fn as_ptr(&self) -> *const T {
         self.buffer[self.pad..].as_ptr()
     }
 
-    pub fn mut_ptr(&mut self) -> *mut T {
+    pub fn as_mut_ptr(&mut self) -> *mut T {
         self.buffer[self.pad..].as_mut_ptr()
+    }
+
+    /// The slice itself.
+    pub fn lent(&mut self) -> &mut [T] {
+        let end = self.pad + self.len();
+        &mut self.buffer[self.pad..end]
     }
 
     /// What the slice holds after the call, if all around it is as it was.

@@ -48,7 +48,7 @@ impl Case for Avail {
         let call = if self.inter { sys::lomsakeun_get_avail_inter } else { sys::lomsakeun_get_avail_intra };
         let mut mask = 0xa5;
         let (w, h, x, y, side) = (self.w, self.h, self.x, self.y, self.side);
-        let number = unsafe { call(w, h, words.ptr(), words.len(), x, y, side, &mut mask) };
+        let number = unsafe { call(w, h, words.as_ptr(), words.len(), x, y, side, &mut mask) };
         words.kept(&self.words)?;
         Ok(line(number as u32, [0, 1, 2, 3, 4, 5, 6, 7].map(|bit| mask >> bit & 1 == 1)))
     }

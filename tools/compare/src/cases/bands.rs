@@ -1,9 +1,11 @@
 //! Deblocking by bands: one call, and a picture by all its calls.
 use super::deblock::Picture;
+#[cfg(feature = "archive")]
+use super::deblock::Slices;
 use super::tape::{Case, Line};
 use crate::model::bands as model;
 #[cfg(feature = "archive")]
-use crate::product::{sys, Answer, Lending, Lent};
+use crate::product::{lend, Answer, Lending};
 
 /// One call: the position, the band, and what is lent for it. The lent picture's sides are those of the whole.
 #[derive(Clone)]
@@ -56,58 +58,18 @@ impl Case for Band {
     #[cfg(feature = "archive")]
     fn product(&self, lending: Lending) -> Answer {
         let lent = &self.lent;
-        let [mut y, mut u, mut v] = lent.planes.each_ref().map(|plane| Lent::new(lending, plane));
-        let mut words = Lent::new(lending, &lent.words);
-        let (splits, motion) = (Lent::new(lending, &lent.splits), Lent::new(lending, &lent.motion));
-        let (refs, strengths) = (Lent::new(lending, &lent.refs), Lent::new(lending, &lent.strengths));
-        let keep = Lent::new(lending, &lent.keep);
-        let [t0, t1] = lent.tables.each_ref().map(|table| Lent::new(lending, table));
+        let mut own = Slices::new(lending, lent);
+        let Slices { planes: [y, u, v], words, splits, motion, refs, keep, tables: [t0, t1], strengths } = &mut own;
+        let [u_off, v_off] = lent.offsets.map(|offset| offset as i8);
         let (mut next, mut vertical, mut horizontal) = (self.next, 77, 78);
         let number = unsafe {
-            sys::lomsakeun_deblock_band(
-                &mut next,
-                self.band,
-                lent.w,
-                lent.h,
-                y.mut_ptr(),
-                y.len(),
-                u.mut_ptr(),
-                u.len(),
-                v.mut_ptr(),
-                v.len(),
-                words.mut_ptr(),
-                words.len(),
-                splits.ptr(),
-                splits.len(),
-                motion.ptr(),
-                motion.len(),
-                refs.ptr(),
-                refs.len(),
-                keep.ptr(),
-                keep.len(),
-                t0.ptr(),
-                t0.len(),
-                t1.ptr(),
-                t1.len(),
-                strengths.ptr(),
-                strengths.len(),
-                lent.limit as u8,
-                lent.offsets[0] as i8,
-                lent.offsets[1] as i8,
-                lent.colour,
-                &mut vertical,
-                &mut horizontal,
-            )
+            lend!(lomsakeun_deblock_band(
+                &mut next, self.band, lent.w, lent.h, mut y, mut u, mut v, mut words, in splits, in motion, in refs,
+                in keep, in t0, in t1, in strengths, lent.limit as u8, u_off, v_off, lent.colour, &mut vertical,
+                &mut horizontal
+            ))
         };
-        splits.kept(&lent.splits)?;
-        motion.kept(&lent.motion)?;
-        refs.kept(&lent.refs)?;
-        keep.kept(&lent.keep)?;
-        t0.kept(&lent.tables[0])?;
-        t1.kept(&lent.tables[1])?;
-        strengths.kept(&lent.strengths)?;
-        let line = Line::new().num(number).num(vertical).num(horizontal).num(next);
-        Ok(line.all(y.after()?).all(u.after()?).all(v.after()?).all(words.after()?))
+        own.after(lent, Line::new().num(number).num(vertical).num(horizontal).num(next))
     }
 }
 
@@ -287,12 +249,8 @@ impl Case for Bands {
     }
 
     /// The whole picture.
-    fn rust(&self) -> Option<Line> {
-        self.picture.rust()
-    }
-
-    fn in_domain(&self) -> bool {
-        self.picture.in_domain()
+    fn asked(&self) -> Option<&dyn Case> {
+        Some(&self.picture)
     }
 
     /// By bands; the whole picture's call must answer the same.

@@ -53,12 +53,8 @@ impl Case for ByRows {
         line
     }
 
-    fn rust(&self) -> Option<Line> {
-        self.picture.rust()
-    }
-
-    fn in_domain(&self) -> bool {
-        self.picture.in_domain()
+    fn asked(&self) -> Option<&dyn Case> {
+        Some(&self.picture)
     }
 
     #[cfg(feature = "archive")]

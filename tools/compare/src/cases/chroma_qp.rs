@@ -3,7 +3,7 @@ use super::data::{spoil, stretch, wrong_lengths};
 use super::tape::{Case, Line, Tape};
 use crate::model::chroma as model;
 #[cfg(feature = "archive")]
-use crate::product::{sys, Answer, Lending, Lent};
+use crate::product::{lend, Answer, Lending, Lent};
 use crate::rng::Rng;
 use oracle::chroma as rust;
 
@@ -58,24 +58,9 @@ impl Case for Derive {
         let (a1, b1) = (Lent::new(lending, &p1.a), Lent::new(lending, &p1.b));
         let [mut t0, mut t1] = self.tables.each_ref().map(|table| Lent::new(lending, table));
         let number = unsafe {
-            sys::lomsakeun_derived_chroma_qp_mapping_tables(
-                self.global,
-                self.same,
-                p0.count,
-                a0.ptr(),
-                a0.len(),
-                b0.ptr(),
-                b0.len(),
-                p1.count,
-                a1.ptr(),
-                a1.len(),
-                b1.ptr(),
-                b1.len(),
-                t0.mut_ptr(),
-                t0.len(),
-                t1.mut_ptr(),
-                t1.len(),
-            )
+            lend!(lomsakeun_derived_chroma_qp_mapping_tables(
+                self.global, self.same, p0.count, in a0, in b0, p1.count, in a1, in b1, mut t0, mut t1
+            ))
         };
         a0.kept(&p0.a)?;
         b0.kept(&p0.b)?;

@@ -4,7 +4,7 @@ use super::tape::{Case, Line};
 use super::trees::{self, Taste};
 use crate::model::deblock::{self as model, Given};
 #[cfg(feature = "archive")]
-use crate::product::{sys, Answer, Lending, Lent};
+use crate::product::{lend, Answer, Lending, Lent};
 use crate::rng::Rng;
 use oracle::deblock as rust;
 
@@ -48,97 +48,28 @@ impl Picture {
         Picture { planes: [y, vec![], vec![]], tables: [vec![], vec![]], offsets: [0, 0], colour: false, ..self }
     }
 
-    #[cfg(feature = "archive")]
     /// The product's answer, by a map of edge rows if there is one.
+    #[cfg(feature = "archive")]
     pub fn lent(&self, rows: Option<&[u8]>, lending: Lending) -> Answer {
-        let [mut y, mut u, mut v] = self.planes.each_ref().map(|plane| Lent::new(lending, plane));
-        let mut words = Lent::new(lending, &self.words);
-        let (splits, motion) = (Lent::new(lending, &self.splits), Lent::new(lending, &self.motion));
-        let (refs, strengths) = (Lent::new(lending, &self.refs), Lent::new(lending, &self.strengths));
-        let keep = Lent::new(lending, &self.keep);
-        let map = Lent::new(lending, rows.unwrap_or(&[]));
-        let [t0, t1] = self.tables.each_ref().map(|table| Lent::new(lending, table));
+        let (mut own, map) = (Slices::new(lending, self), Lent::new(lending, rows.unwrap_or(&[])));
+        let Slices { planes: [y, u, v], words, splits, motion, refs, keep, tables: [t0, t1], strengths } = &mut own;
+        let (w, h, limit, colour) = (self.w, self.h, self.limit as u8, self.colour);
+        let [u_off, v_off] = self.offsets.map(|offset| offset as i8);
         let (mut vertical, mut horizontal) = (77, 78);
         let number = unsafe {
             match rows {
-                None => sys::lomsakeun_deblock(
-                    self.w,
-                    self.h,
-                    y.mut_ptr(),
-                    y.len(),
-                    u.mut_ptr(),
-                    u.len(),
-                    v.mut_ptr(),
-                    v.len(),
-                    words.mut_ptr(),
-                    words.len(),
-                    splits.ptr(),
-                    splits.len(),
-                    motion.ptr(),
-                    motion.len(),
-                    refs.ptr(),
-                    refs.len(),
-                    keep.ptr(),
-                    keep.len(),
-                    t0.ptr(),
-                    t0.len(),
-                    t1.ptr(),
-                    t1.len(),
-                    strengths.ptr(),
-                    strengths.len(),
-                    self.limit as u8,
-                    self.offsets[0] as i8,
-                    self.offsets[1] as i8,
-                    self.colour,
-                    &mut vertical,
-                    &mut horizontal,
-                ),
-                Some(_) => sys::lomsakeun_deblock_by_rows(
-                    self.w,
-                    self.h,
-                    y.mut_ptr(),
-                    y.len(),
-                    u.mut_ptr(),
-                    u.len(),
-                    v.mut_ptr(),
-                    v.len(),
-                    words.mut_ptr(),
-                    words.len(),
-                    splits.ptr(),
-                    splits.len(),
-                    motion.ptr(),
-                    motion.len(),
-                    refs.ptr(),
-                    refs.len(),
-                    keep.ptr(),
-                    keep.len(),
-                    map.ptr(),
-                    map.len(),
-                    t0.ptr(),
-                    t0.len(),
-                    t1.ptr(),
-                    t1.len(),
-                    strengths.ptr(),
-                    strengths.len(),
-                    self.limit as u8,
-                    self.offsets[0] as i8,
-                    self.offsets[1] as i8,
-                    self.colour,
-                    &mut vertical,
-                    &mut horizontal,
-                ),
+                None => lend!(lomsakeun_deblock(
+                    w, h, mut y, mut u, mut v, mut words, in splits, in motion, in refs, in keep, in t0, in t1,
+                    in strengths, limit, u_off, v_off, colour, &mut vertical, &mut horizontal
+                )),
+                Some(_) => lend!(lomsakeun_deblock_by_rows(
+                    w, h, mut y, mut u, mut v, mut words, in splits, in motion, in refs, in keep, in map, in t0, in t1,
+                    in strengths, limit, u_off, v_off, colour, &mut vertical, &mut horizontal
+                )),
             }
         };
-        splits.kept(&self.splits)?;
-        motion.kept(&self.motion)?;
-        refs.kept(&self.refs)?;
-        keep.kept(&self.keep)?;
         map.kept(rows.unwrap_or(&[]))?;
-        t0.kept(&self.tables[0])?;
-        t1.kept(&self.tables[1])?;
-        strengths.kept(&self.strengths)?;
-        let line = Line::new().num(number).num(vertical).num(horizontal);
-        Ok(line.all(y.after()?).all(u.after()?).all(v.after()?).all(words.after()?))
+        own.after(self, Line::new().num(number).num(vertical).num(horizontal))
     }
 
     /// Its numbers, in the order of the call's parameters.
@@ -154,6 +85,47 @@ impl Picture {
     pub fn answer(number: u32, counts: (usize, usize), planes: &[Vec<u16>; 3], words: &[u32]) -> Line {
         let line = Line::new().num(number).num(counts.0).num(counts.1);
         planes.iter().fold(line, |line, plane| line.all(plane)).all(words)
+    }
+}
+
+/// A picture's slices, lent.
+#[cfg(feature = "archive")]
+pub struct Slices {
+    pub planes: [Lent<u16>; 3],
+    pub words: Lent<u32>,
+    pub splits: Lent<u8>,
+    pub motion: Lent<i16>,
+    pub refs: Lent<i8>,
+    pub keep: Lent<u8>,
+    pub tables: [Lent<i8>; 2],
+    pub strengths: Lent<u8>,
+}
+
+#[cfg(feature = "archive")]
+impl Slices {
+    pub fn new(lending: Lending, of: &Picture) -> Slices {
+        Slices {
+            planes: of.planes.each_ref().map(|plane| Lent::new(lending, plane)),
+            words: Lent::new(lending, &of.words),
+            splits: Lent::new(lending, &of.splits),
+            motion: Lent::new(lending, &of.motion),
+            refs: Lent::new(lending, &of.refs),
+            keep: Lent::new(lending, &of.keep),
+            tables: of.tables.each_ref().map(|table| Lent::new(lending, table)),
+            strengths: Lent::new(lending, &of.strengths),
+        }
+    }
+
+    /// The line with the planes and the words after the call, if every slice that is read is as it was.
+    pub fn after(&self, of: &Picture, line: Line) -> Answer {
+        self.splits.kept(&of.splits)?;
+        self.motion.kept(&of.motion)?;
+        self.refs.kept(&of.refs)?;
+        self.keep.kept(&of.keep)?;
+        self.tables.iter().zip(&of.tables).try_for_each(|(table, before)| table.kept(before))?;
+        self.strengths.kept(&of.strengths)?;
+        let [y, u, v] = &self.planes;
+        Ok(line.all(y.after()?).all(u.after()?).all(v.after()?).all(self.words.after()?))
     }
 }
 

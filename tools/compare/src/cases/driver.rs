@@ -6,7 +6,7 @@ use super::trees::{self, Taste};
 use crate::model::driver::{self as model, Given};
 use crate::model::{plane_len, walk};
 #[cfg(feature = "archive")]
-use crate::product::{sys, Answer, Lending, Lent};
+use crate::product::{lend, Answer, Lending, Lent};
 use crate::rng::Rng;
 use oracle::{gather, predict, residual};
 
@@ -140,36 +140,10 @@ impl Case for Driver {
         let (mut words, mut modes) = (Lent::new(lending, &self.words), Lent::new(lending, &self.modes));
         let mut keep = Lent::new(lending, &self.keep);
         let number = unsafe {
-            sys::lomsakeun_reconstruct(
-                self.w,
-                self.h,
-                self.colour,
-                splits.ptr(),
-                splits.len(),
-                records.ptr(),
-                records.len(),
-                residuals.ptr(),
-                residuals.len(),
-                py.ptr(),
-                py.len(),
-                pu.ptr(),
-                pu.len(),
-                pv.ptr(),
-                pv.len(),
-                self.constrained,
-                y.mut_ptr(),
-                y.len(),
-                u.mut_ptr(),
-                u.len(),
-                v.mut_ptr(),
-                v.len(),
-                words.mut_ptr(),
-                words.len(),
-                modes.mut_ptr(),
-                modes.len(),
-                keep.mut_ptr(),
-                keep.len(),
-            )
+            lend!(lomsakeun_reconstruct(
+                self.w, self.h, self.colour, in splits, in records, in residuals, in py, in pu, in pv,
+                self.constrained, mut y, mut u, mut v, mut words, mut modes, mut keep
+            ))
         };
         splits.kept(&self.splits)?;
         records.kept(&self.records)?;

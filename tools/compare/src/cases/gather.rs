@@ -3,7 +3,7 @@ use super::data::*;
 use super::tape::{Case, Line, Tape};
 use crate::model::{self, gather as model_gather};
 #[cfg(feature = "archive")]
-use crate::product::{sys, Answer, Lending, Lent};
+use crate::product::{lend, Answer, Lending, Lent};
 use crate::rng::Rng;
 use oracle::gather as rust;
 
@@ -52,21 +52,10 @@ impl Case for Gather {
         let (plane, words) = (Lent::new(lending, &self.plane), Lent::new(lending, &self.words));
         let mut run = Lent::new(lending, &self.run);
         let number = unsafe {
-            sys::lomsakeun_get_nbr(
-                self.chroma,
-                self.w,
-                self.h,
-                plane.ptr(),
-                plane.len(),
-                words.ptr(),
-                words.len(),
-                self.x,
-                self.y,
-                self.side,
-                self.constrained,
-                run.mut_ptr(),
-                run.len(),
-            )
+            lend!(lomsakeun_get_nbr(
+                self.chroma, self.w, self.h, in plane, in words, self.x, self.y, self.side, self.constrained,
+                mut run
+            ))
         };
         plane.kept(&self.plane)?;
         words.kept(&self.words)?;

@@ -3,7 +3,7 @@ use super::data::stretch;
 use super::sheet;
 use super::tape::{Case, Line};
 use crate::model::{sheet as model, LENGTH};
-use crate::product::{sys, Answer, Lending, Lent};
+use crate::product::{lend, Answer, Lending, Lent};
 use crate::rng::Rng;
 
 /// The length of the buffer.
@@ -28,20 +28,11 @@ impl Case for Listing {
         Line::new().num(0u8).num(text.len()).all(text.as_bytes())
     }
 
-    fn rust(&self) -> Option<Line> {
-        None
-    }
-
-    fn in_domain(&self) -> bool {
-        false
-    }
-
     fn product(&self, lending: Lending) -> Answer {
         let input = Lent::new(lending, &self.input);
         let mut out = Lent::new(lending, &self.out);
         let mut length = 77;
-        let number =
-            unsafe { sys::lomsakeun_listing(input.ptr(), input.len(), out.mut_ptr(), out.len(), &mut length) };
+        let number = unsafe { lend!(lomsakeun_listing(in input, mut out, &mut length)) };
         input.kept(&self.input)?;
         let after = out.after()?;
         if length > after.len() || after[length..] != self.out[length..] {

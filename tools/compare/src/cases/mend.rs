@@ -5,7 +5,7 @@ use super::tape::{Case, Line, Tape};
 use super::trees;
 use crate::model::mend as model;
 #[cfg(feature = "archive")]
-use crate::product::{sys, Answer, Lending, Lent};
+use crate::product::{lend, Answer, Lending, Lent};
 use crate::rng::Rng;
 
 #[derive(Clone)]
@@ -28,14 +28,6 @@ impl Case for Mend {
         Line::new().num(number).num(count).all(&out).all(&list)
     }
 
-    fn rust(&self) -> Option<Line> {
-        None
-    }
-
-    fn in_domain(&self) -> bool {
-        false
-    }
-
     #[cfg(feature = "archive")]
     fn product(&self, lending: Lending) -> Answer {
         let (number, count, out, list) = self.called(lending, &self.splits)?;
@@ -54,19 +46,7 @@ impl Mend {
         let mut out = Lent::new(lending, &self.out);
         let mut list = Lent::new(lending, &self.list);
         let mut count = 77;
-        let number = unsafe {
-            sys::lomsakeun_mend(
-                self.w,
-                self.h,
-                splits.ptr(),
-                splits.len(),
-                out.mut_ptr(),
-                out.len(),
-                list.mut_ptr(),
-                list.len(),
-                &mut count,
-            )
-        };
+        let number = unsafe { lend!(lomsakeun_mend(self.w, self.h, in splits, mut out, mut list, &mut count)) };
         splits.kept(bytes)?;
         Ok((number, count, out.after()?.to_vec(), list.after()?.to_vec()))
     }
@@ -74,7 +54,7 @@ impl Mend {
     /// The walk accepts what was written, and mending it again copies it and lists nothing.
     fn again(&self, lending: Lending, mended: &[u8]) -> Result<(), String> {
         let lent = Lent::new(lending, mended);
-        let number = unsafe { sys::lomsakeun_check(self.w, self.h, lent.ptr(), lent.len()) };
+        let number = unsafe { lend!(lomsakeun_check(self.w, self.h, in lent)) };
         let same = self.called(lending, mended)? == (0, 0, mended.to_vec(), self.list.clone());
         if number == 0 && same {
             Ok(())

@@ -5,7 +5,7 @@ use super::tape::{Case, Line, Tape};
 use super::trees;
 use crate::model::pack as model;
 #[cfg(feature = "archive")]
-use crate::product::{sys, Answer, Lending, Lent};
+use crate::product::{lend, Answer, Lending, Lent};
 use crate::rng::Rng;
 
 /// What stood in a slice that is to be written.
@@ -35,22 +35,12 @@ impl Case for Put {
         Line::new().num(number).num(at).all(&buf)
     }
 
-    fn rust(&self) -> Option<Line> {
-        None
-    }
-
-    fn in_domain(&self) -> bool {
-        false
-    }
-
     #[cfg(feature = "archive")]
     fn product(&self, lending: Lending) -> Answer {
         let splits = Lent::new(lending, &self.splits);
         let mut buf = Lent::new(lending, &self.buf);
         let mut at = self.at;
-        let number = unsafe {
-            sys::lomsakeun_put_map(self.w, self.h, splits.ptr(), splits.len(), buf.mut_ptr(), buf.len(), &mut at)
-        };
+        let number = unsafe { lend!(lomsakeun_put_map(self.w, self.h, in splits, mut buf, &mut at)) };
         splits.kept(&self.splits)?;
         Ok(Line::new().num(number).num(at).all(buf.after()?))
     }
@@ -116,22 +106,12 @@ impl Case for Get {
         Line::new().num(number).num(at).all(&map)
     }
 
-    fn rust(&self) -> Option<Line> {
-        None
-    }
-
-    fn in_domain(&self) -> bool {
-        false
-    }
-
     #[cfg(feature = "archive")]
     fn product(&self, lending: Lending) -> Answer {
         let src = Lent::new(lending, &self.src);
         let mut map = Lent::new(lending, &self.map);
         let mut at = self.at;
-        let number = unsafe {
-            sys::lomsakeun_get_map(self.w, self.h, src.ptr(), src.len(), &mut at, map.mut_ptr(), map.len())
-        };
+        let number = unsafe { lend!(lomsakeun_get_map(self.w, self.h, in src, &mut at, mut map)) };
         src.kept(&self.src)?;
         Ok(Line::new().num(number).num(at).all(map.after()?))
     }

@@ -3,7 +3,7 @@ use super::data::*;
 use super::tape::{Case, Line, Tape};
 use crate::model::predict as model;
 #[cfg(feature = "archive")]
-use crate::product::{sys, Answer, Lending, Lent};
+use crate::product::{lend, Answer, Lending, Lent};
 use crate::rng::Rng;
 use oracle::predict as rust;
 
@@ -41,8 +41,7 @@ impl Case for Predict {
         let run = Lent::new(lending, &self.run);
         let mut block = Lent::new(lending, &self.block);
         let (mode, side) = (self.mode as u8, self.side);
-        let number =
-            unsafe { sys::lomsakeun_ipred_b(mode, side, run.ptr(), run.len(), block.mut_ptr(), block.len()) };
+        let number = unsafe { lend!(lomsakeun_ipred_b(mode, side, in run, mut block)) };
         run.kept(&self.run)?;
         Ok(Line::new().num(number).all(block.after()?))
     }

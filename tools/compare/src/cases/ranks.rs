@@ -3,7 +3,7 @@ use super::data::*;
 use super::tape::{Case, Line, Tape};
 use crate::model::ranks as model;
 #[cfg(feature = "archive")]
-use crate::product::{sys, Answer, Lending, Lent};
+use crate::product::{lend, Answer, Lending, Lent};
 use crate::rng::Rng;
 use oracle::ranks as rust;
 
@@ -47,20 +47,7 @@ impl Case for Ranks {
         let stale = [201, 202, 203, 204, 205];
         let mut ranks = Lent::new(lending, &stale);
         let number = unsafe {
-            sys::lomsakeun_get_mpm(
-                self.w,
-                self.h,
-                words.ptr(),
-                words.len(),
-                modes.ptr(),
-                modes.len(),
-                table.ptr(),
-                table.len(),
-                self.sx,
-                self.sy,
-                ranks.mut_ptr(),
-                ranks.len(),
-            )
+            lend!(lomsakeun_get_mpm(self.w, self.h, in words, in modes, in table, self.sx, self.sy, mut ranks))
         };
         words.kept(&self.words)?;
         modes.kept(&self.modes)?;

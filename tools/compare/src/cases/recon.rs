@@ -3,7 +3,7 @@ use super::data::*;
 use super::tape::{Case, Line, Tape};
 use crate::model::{self, residual as model_residual};
 #[cfg(feature = "archive")]
-use crate::product::{sys, Answer, Lending, Lent};
+use crate::product::{lend, Answer, Lending, Lent};
 use crate::rng::Rng;
 use oracle::residual as rust;
 
@@ -42,18 +42,7 @@ impl Case for Block {
     fn product(&self, lending: Lending) -> Answer {
         let (pred, coef) = (Lent::new(lending, &self.prediction), Lent::new(lending, &self.residual));
         let mut rec = Lent::new(lending, &self.block);
-        let number = unsafe {
-            sys::lomsakeun_recon(
-                self.coded,
-                self.side,
-                pred.ptr(),
-                pred.len(),
-                coef.ptr(),
-                coef.len(),
-                rec.mut_ptr(),
-                rec.len(),
-            )
-        };
+        let number = unsafe { lend!(lomsakeun_recon(self.coded, self.side, in pred, in coef, mut rec)) };
         pred.kept(&self.prediction)?;
         coef.kept(&self.residual)?;
         Ok(Line::new().num(number).all(rec.after()?))
@@ -195,21 +184,9 @@ impl Case for Plane {
         let (pred, coef) = (Lent::new(lending, &self.prediction), Lent::new(lending, &self.residual));
         let mut rec = Lent::new(lending, &self.plane);
         let number = unsafe {
-            sys::lomsakeun_recon_plane(
-                self.chroma,
-                self.w,
-                self.h,
-                self.x,
-                self.y,
-                self.side,
-                self.coded,
-                pred.ptr(),
-                pred.len(),
-                coef.ptr(),
-                coef.len(),
-                rec.mut_ptr(),
-                rec.len(),
-            )
+            lend!(lomsakeun_recon_plane(
+                self.chroma, self.w, self.h, self.x, self.y, self.side, self.coded, in pred, in coef, mut rec
+            ))
         };
         pred.kept(&self.prediction)?;
         coef.kept(&self.residual)?;

@@ -4,7 +4,7 @@ use super::deblock::{deblock_words, motion, refs};
 use super::tape::{Case, Line, Tape};
 use crate::model::rows::{Edit, Held};
 #[cfg(feature = "archive")]
-use crate::product::{sys, Answer, Lending, Lent};
+use crate::product::{lend, Answer, Lending, Lent};
 use crate::rng::Rng;
 
 /// An edit, and the unit that it is of.
@@ -50,14 +50,6 @@ impl Case for Rows {
         }
     }
 
-    fn rust(&self) -> Option<Line> {
-        None
-    }
-
-    fn in_domain(&self) -> bool {
-        false
-    }
-
     #[cfg(feature = "archive")]
     fn product(&self, lending: Lending) -> Answer {
         let held = &self.held;
@@ -65,8 +57,7 @@ impl Case for Rows {
         let mut motion = Lent::new(lending, &held.motion);
         let mut refs = Lent::new(lending, &held.refs);
         let mut rows = Lent::new(lending, &held.rows);
-        let (nw, nm, nr, n) = (words.len(), motion.len(), refs.len(), rows.len());
-        let slices = ((words.mut_ptr(), nw), (motion.mut_ptr(), nm), (refs.mut_ptr(), nr), (rows.mut_ptr(), n));
+        let slices = (words.lent(), motion.lent(), refs.lent(), rows.lent());
         let line = Line::new().num(call(self.w, self.h, self.edit, slices));
         match self.edit {
             None => {
@@ -88,20 +79,21 @@ impl Case for Rows {
     }
 }
 
-/// Words, motion, references and the map, each by its pointer and its length.
+/// Words, motion, references and the map.
 #[cfg(feature = "archive")]
-type Slices = ((*mut u32, usize), (*mut i16, usize), (*mut i8, usize), (*mut u8, usize));
+type Slices<'a> = (&'a mut [u32], &'a mut [i16], &'a mut [i8], &'a mut [u8]);
 
 #[cfg(feature = "archive")]
-fn call(w: usize, h: usize, edit: Option<Placed>, slices: Slices) -> u8 {
-    let ((words, nw), (motion, nm), (refs, nr), (rows, n)) = slices;
+fn call(w: usize, h: usize, edit: Option<Placed>, (words, motion, refs, rows): Slices) -> u8 {
     match edit {
-        None => unsafe { sys::lomsakeun_fill_rows(w, h, words, nw, motion, nm, refs, nr, rows, n) },
+        None => unsafe { lend!(lomsakeun_fill_rows(w, h, in words, in motion, in refs, mut rows)) },
         Some(((x, y), Edit::Motion([x0, y0, x1, y1], [r0, r1]))) => unsafe {
-            sys::lomsakeun_set_motion(w, h, x, y, x0, y0, x1, y1, r0, r1, words, nw, motion, nm, refs, nr, rows, n)
+            lend!(lomsakeun_set_motion(
+                w, h, x, y, x0, y0, x1, y1, r0, r1, in words, mut motion, mut refs, mut rows
+            ))
         },
         Some(((x, y), Edit::Flag(bit, on))) => unsafe {
-            sys::lomsakeun_set_flag(w, h, x, y, bit == 24, on, words, nw, motion, nm, refs, nr, rows, n)
+            lend!(lomsakeun_set_flag(w, h, x, y, bit == 24, on, mut words, in motion, in refs, mut rows))
         },
     }
 }
@@ -187,15 +179,9 @@ impl Series {
         Line::new().num(0u8).all(&held.words).all(&held.motion).all(&held.refs).all(&held.rows)
     }
 
-    fn asked(&self, held: &mut Held, edit: Option<Placed>) -> Result<(), String> {
+    fn ask(&self, held: &mut Held, edit: Option<Placed>) -> Result<(), String> {
         let Held { words, motion, refs, rows } = held;
-        let slices = (
-            (words.as_mut_ptr(), words.len()),
-            (motion.as_mut_ptr(), motion.len()),
-            (refs.as_mut_ptr(), refs.len()),
-            (rows.as_mut_ptr(), rows.len()),
-        );
-        match call(self.w, self.h, edit, slices) {
+        match call(self.w, self.h, edit, (words, motion, refs, rows)) {
             0 => Ok(()),
             number => Err(format!("refused with {number}")),
         }
@@ -223,21 +209,13 @@ impl Case for Series {
         Series::all(&held)
     }
 
-    fn rust(&self) -> Option<Line> {
-        None
-    }
-
-    fn in_domain(&self) -> bool {
-        false
-    }
-
     fn product(&self, _: Lending) -> Answer {
         let mut held = self.held.clone();
-        self.asked(&mut held, None)?;
+        self.ask(&mut held, None)?;
         for (i, &placed) in self.edits.iter().enumerate() {
-            self.asked(&mut held, Some(placed))?;
+            self.ask(&mut held, Some(placed))?;
             let mut anew = Held { rows: vec![255; held.rows.len()], ..held.clone() };
-            self.asked(&mut anew, None)?;
+            self.ask(&mut anew, None)?;
             if anew.rows != held.rows {
                 return Err(format!("after edit {i} the map is not the one filled anew"));
             }

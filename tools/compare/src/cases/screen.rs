@@ -3,7 +3,7 @@ use super::data::{overdo, samples, size, spoil, stretch};
 use super::tape::{Case, Line, Tape};
 use crate::model::screen::{self as model, Shown, Turn};
 #[cfg(feature = "archive")]
-use crate::product::{sys, Answer, Lending, Lent};
+use crate::product::{lend, Answer, Lending, Lent};
 use crate::rng::Rng;
 
 #[derive(Clone)]
@@ -29,14 +29,6 @@ impl Case for Row {
         Line::new().num(found.err().unwrap_or(0)).num(turn.plane).num(turn.row).num(written).all(&out)
     }
 
-    fn rust(&self) -> Option<Line> {
-        None
-    }
-
-    fn in_domain(&self) -> bool {
-        false
-    }
-
     #[cfg(feature = "archive")]
     fn product(&self, lending: Lending) -> Answer {
         let Row { turn, asked, shown, out: before } = self;
@@ -45,29 +37,10 @@ impl Case for Row {
         let (mut plane, mut row, mut written) = (turn.plane, turn.row, 0);
         let ([w, h], [left, top, right, bottom]) = (shown.sides, shown.window);
         let number = unsafe {
-            sys::lomsakeun_ward_row(
-                turn.preview,
-                &mut plane,
-                &mut row,
-                asked.0,
-                asked.1,
-                shown.colour,
-                w,
-                h,
-                y.ptr(),
-                y.len(),
-                u.ptr(),
-                u.len(),
-                v.ptr(),
-                v.len(),
-                left,
-                top,
-                right,
-                bottom,
-                out.mut_ptr(),
-                out.len(),
-                &mut written,
-            )
+            lend!(lomsakeun_ward_row(
+                turn.preview, &mut plane, &mut row, asked.0, asked.1, shown.colour, w, h, in y, in u, in v, left,
+                top, right, bottom, mut out, &mut written
+            ))
         };
         for (lent, plane) in [&y, &u, &v].into_iter().zip(&shown.planes) {
             lent.kept(plane)?;

@@ -3,7 +3,7 @@ use super::data::{samples, size, spoil, stale, stretch};
 use super::tape::{Case, Line, Tape};
 use crate::model::streams::{self as model, Planes};
 #[cfg(feature = "archive")]
-use crate::product::{sys, Answer, Lending, Lent};
+use crate::product::{lend, Answer, Lending, Lent};
 use crate::rng::Rng;
 
 /// A call. On a tape each has its number, the first of its line.
@@ -74,14 +74,6 @@ impl Case for Call {
         }
     }
 
-    fn rust(&self) -> Option<Line> {
-        None
-    }
-
-    fn in_domain(&self) -> bool {
-        false
-    }
-
     #[cfg(feature = "archive")]
     fn product(&self, lending: Lending) -> Answer {
         match self {
@@ -89,28 +81,15 @@ impl Case for Call {
                 let lent = Lent::new(lending, stream);
                 let mut n = [0usize; 8];
                 let [w, h, f, g, a, b, next, at] = &mut n;
-                let number =
-                    unsafe { sys::lomsakeun_read_header(lent.ptr(), lent.len(), w, h, f, g, a, b, next, at) };
+                let number = unsafe { lend!(lomsakeun_read_header(in lent, w, h, f, g, a, b, next, at)) };
                 lent.kept(stream)?;
                 Ok(Line::new().num(number).num(n[7]).all(&n[..7]))
             }
             Call::WriteHeader(colour, [w, h], [f, g, a, b], before) => {
                 let mut out = Lent::new(lending, before);
                 let mut count = 0;
-                let number = unsafe {
-                    sys::lomsakeun_write_header(
-                        *colour,
-                        *w,
-                        *h,
-                        *f,
-                        *g,
-                        *a,
-                        *b,
-                        out.mut_ptr(),
-                        out.len(),
-                        &mut count,
-                    )
-                };
+                let number =
+                    unsafe { lend!(lomsakeun_write_header(*colour, *w, *h, *f, *g, *a, *b, mut out, &mut count)) };
                 Ok(Line::new().num(number).num(count).all(out.after()?))
             }
             Call::ReadFrame(stream, place, [w, h], planes) => {
@@ -118,21 +97,7 @@ impl Case for Call {
                 let [mut y, mut u, mut v] = planes.each_ref().map(|plane| Lent::new(lending, plane));
                 let (mut next, mut at) = (0, 0);
                 let number = unsafe {
-                    sys::lomsakeun_read_frame(
-                        lent.ptr(),
-                        lent.len(),
-                        *place,
-                        *w,
-                        *h,
-                        y.mut_ptr(),
-                        y.len(),
-                        u.mut_ptr(),
-                        u.len(),
-                        v.mut_ptr(),
-                        v.len(),
-                        &mut next,
-                        &mut at,
-                    )
+                    lend!(lomsakeun_read_frame(in lent, *place, *w, *h, mut y, mut u, mut v, &mut next, &mut at))
                 };
                 lent.kept(stream)?;
                 let line = Line::new().num(number).num(at).num(next);
@@ -141,21 +106,7 @@ impl Case for Call {
             Call::WriteFrame(colour, [w, h], planes, before) => {
                 let [y, u, v] = planes.each_ref().map(|plane| Lent::new(lending, plane));
                 let mut out = Lent::new(lending, before);
-                let number = unsafe {
-                    sys::lomsakeun_write_frame(
-                        *colour,
-                        *w,
-                        *h,
-                        y.ptr(),
-                        y.len(),
-                        u.ptr(),
-                        u.len(),
-                        v.ptr(),
-                        v.len(),
-                        out.mut_ptr(),
-                        out.len(),
-                    )
-                };
+                let number = unsafe { lend!(lomsakeun_write_frame(*colour, *w, *h, in y, in u, in v, mut out)) };
                 for (lent, plane) in [&y, &u, &v].into_iter().zip(planes) {
                     lent.kept(plane)?;
                 }
@@ -167,24 +118,7 @@ impl Case for Call {
                 let mut n = [0usize; 8];
                 let [w, h, f, g, a, b, next, at] = &mut n;
                 let number = unsafe {
-                    sys::lomsakeun_import_frame(
-                        lent.ptr(),
-                        lent.len(),
-                        y.mut_ptr(),
-                        y.len(),
-                        u.mut_ptr(),
-                        u.len(),
-                        v.mut_ptr(),
-                        v.len(),
-                        w,
-                        h,
-                        f,
-                        g,
-                        a,
-                        b,
-                        next,
-                        at,
-                    )
+                    lend!(lomsakeun_import_frame(in lent, mut y, mut u, mut v, w, h, f, g, a, b, next, at))
                 };
                 lent.kept(stream)?;
                 let line = Line::new().num(number).num(n[7]).all(&n[..7]);

@@ -101,10 +101,18 @@ pub trait Case {
     fn input(&self) -> Line;
     /// The model's answer: the number, the values, every lent slice afterwards.
     fn model(&self) -> Line;
-    /// The Rust's answer in the same form; None where it panics.
-    fn rust(&self) -> Option<Line>;
+    /// The case that the Rust is asked in this one's place; none where it has no such call, unless `rust` and `in_domain` say otherwise.
+    fn asked(&self) -> Option<&dyn Case> {
+        None
+    }
+    /// The Rust's answer in the same form; None where it panics, or has no such call.
+    fn rust(&self) -> Option<Line> {
+        self.asked()?.rust()
+    }
     /// Whether an accepted input lies in the Rust's domain.
-    fn in_domain(&self) -> bool;
+    fn in_domain(&self) -> bool {
+        self.asked().is_some_and(|case| case.in_domain())
+    }
     /// The product's answer in the same form, or what was written that must not be.
     #[cfg(feature = "archive")]
     fn product(&self, lending: Lending) -> Answer;

@@ -4,7 +4,7 @@ use super::deblock::split_bytes;
 use super::tape::{Case, Line};
 use super::trees;
 use crate::model::tree as model;
-use crate::product::{sys, Answer, Lending, Lent};
+use crate::product::{lend, Answer, Lending, Lent};
 use crate::rng::Rng;
 
 /// A picture's size and its split bytes.
@@ -51,17 +51,9 @@ impl Case for Check {
         Line::new().num(model::check(self.0.w, self.0.h, &self.0.splits))
     }
 
-    fn rust(&self) -> Option<Line> {
-        None
-    }
-
-    fn in_domain(&self) -> bool {
-        false
-    }
-
     fn product(&self, lending: Lending) -> Answer {
         let splits = Lent::new(lending, &self.0.splits);
-        let number = unsafe { sys::lomsakeun_check(self.0.w, self.0.h, splits.ptr(), splits.len()) };
+        let number = unsafe { lend!(lomsakeun_check(self.0.w, self.0.h, in splits)) };
         splits.kept(&self.0.splits)?;
         Ok(Line::new().num(number))
     }
@@ -100,30 +92,12 @@ impl Case for Leaves {
         Line::new().num(number).num(count).all(&out)
     }
 
-    fn rust(&self) -> Option<Line> {
-        None
-    }
-
-    fn in_domain(&self) -> bool {
-        false
-    }
-
     fn product(&self, lending: Lending) -> Answer {
         let splits = Lent::new(lending, &self.tree.splits);
         let mut out = Lent::new(lending, &self.out);
         let mut count = 77;
         let number = unsafe {
-            sys::lomsakeun_leaves(
-                self.tree.w,
-                self.tree.h,
-                splits.ptr(),
-                splits.len(),
-                self.x,
-                self.y,
-                out.mut_ptr(),
-                out.len(),
-                &mut count,
-            )
+            lend!(lomsakeun_leaves(self.tree.w, self.tree.h, in splits, self.x, self.y, mut out, &mut count))
         };
         splits.kept(&self.tree.splits)?;
         Ok(Line::new().num(number).num(count).all(out.after()?))
@@ -169,17 +143,9 @@ impl Case for Rank {
         Line::new().num(number).num(rank)
     }
 
-    fn rust(&self) -> Option<Line> {
-        None
-    }
-
-    fn in_domain(&self) -> bool {
-        false
-    }
-
     fn product(&self, _: Lending) -> Answer {
         let mut rank = 77;
-        let number = unsafe { sys::lomsakeun_visiting_rank(self.x, self.y, &mut rank) };
+        let number = unsafe { lend!(lomsakeun_visiting_rank(self.x, self.y, &mut rank)) };
         Ok(Line::new().num(number).num(rank))
     }
 }
@@ -240,19 +206,9 @@ impl Case for Lists {
         let [mut vertical, mut horizontal] = self.buffers.each_ref().map(|buffer| Lent::new(lending, buffer));
         let (mut m, mut n) = (77, 78);
         let number = unsafe {
-            sys::lomsakeun_list_edges(
-                self.tree.w,
-                self.tree.h,
-                splits.ptr(),
-                splits.len(),
-                self.limit as u8,
-                vertical.mut_ptr(),
-                vertical.len(),
-                horizontal.mut_ptr(),
-                horizontal.len(),
-                &mut m,
-                &mut n,
-            )
+            lend!(lomsakeun_list_edges(
+                self.tree.w, self.tree.h, in splits, self.limit as u8, mut vertical, mut horizontal, &mut m, &mut n
+            ))
         };
         splits.kept(&self.tree.splits)?;
         let line = Line::new().num(number).num(m).num(n);
