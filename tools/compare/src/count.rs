@@ -285,21 +285,26 @@ fn read(said: &str, dir: &Path) -> Counts {
     counts
 }
 
-/// Counts one work or all of them, and prints the tables, or puts each where a page has its mark.
+/// Counts one work or all of them, and prints the tables, or puts each where a page has its mark. False for a name that is no work's, and for a page that
+/// lacks a mark.
 pub fn tables(name: &str, side: usize, page: Option<&str>) -> bool {
-    let mut known = false;
-    for (work, _) in WORKS.into_iter().filter(|(work, _)| name == "all" || name == *work) {
-        known = true;
+    let works = WORKS.map(|(work, _)| work);
+    if name != "all" && !works.contains(&name) {
+        eprintln!("no work is called {name}: there are {} and all", works.join(", "));
+        return false;
+    }
+    let mut good = true;
+    for work in works.into_iter().filter(|work| name == "all" || name == *work) {
         let counts = run(work, side);
         for layout in LAYOUTS.iter().filter(|layout| layout.work == work) {
             let text = counts.table(layout);
             match page {
-                Some(page) => put(page, layout.table, &text),
+                Some(page) => good &= put(page, layout.table, &text),
                 None => println!("{}\n\n{text}\n", mark(layout.table)),
             }
         }
     }
-    known
+    good
 }
 
 /// The line above a counted table.
@@ -307,14 +312,15 @@ fn mark(table: &str) -> String {
     format!("<!-- count {table} -->")
 }
 
-/// Puts a table into a page: in the place of the one that follows its mark.
-fn put(page: &str, table: &str, text: &str) {
+/// Puts a table into a page: in the place of the one that follows its mark. False where there is no mark.
+fn put(page: &str, table: &str, text: &str) -> bool {
     let old = fs::read_to_string(page).expect("the page");
     let Some(at) = old.find(&mark(table)).map(|at| at + mark(table).len()) else {
-        println!("{page} has no mark for {table}");
-        return;
+        eprintln!("{page} has no line {} for its table", mark(table));
+        return false;
     };
     let rest = old[at..].trim_start_matches('\n');
     let after: Vec<&str> = rest.split('\n').skip_while(|line| line.starts_with('|')).collect();
     fs::write(page, format!("{}\n\n{text}\n{}", &old[..at], after.join("\n"))).expect("the page, written");
+    true
 }
