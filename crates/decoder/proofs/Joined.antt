@@ -18,7 +18,7 @@ use Rattle.driver_rules.proofs.Checks.{all-passed}
 use Rattle.driver_rules.proofs.Finished.{last, finished}
 use Rattle.df_check.specs.Checks as deblocking
 use Rattle.df_check.proofs.Formats.{none-before}
-use Rattle.decoder.specs.Joined.{Follows, Lent}
+use Rattle.decoder.specs.Joined.{Follows, Lent, Joined}
 
 module _ (i : driver.Input) (fine : driver.check i ≡ Done) where
   left : driver.outcome i ≡ driver.done i
@@ -99,6 +99,9 @@ module _ (i : driver.Input) (fine : driver.check i ≡ Done) where
         let e = finished i fine in
         rw (ap samplesOk is-y ∙ e .y-small, ap samplesOk is-u ∙ e .u-small, ap samplesOk is-v ∙ e .v-small)
 
-    pub joined : deblocking.checkOf j ≡ Done
+    accepts : deblocking.checkOf j ≡ Done
     unfolding deblocking.checkOf deblocking.fromLengths
-    joined = rw (mul-zero (j .w), none-before (j .settings .format) (j .w), mul-zero (j .w / 4), sides, lengths, l .settings, walked, marks, qps, samples)
+    accepts = rw (mul-zero (j .w), none-before (j .settings .format) (j .w), mul-zero (j .w / 4), sides, lengths, l .settings, walked, marks, qps, samples)
+
+pub joined : Joined
+joined = accepts

@@ -10,3 +10,4 @@ pub mod Streams
 pub mod Taking
 pub mod Unread
 pub mod Values
+pub mod Words

@@ -1,10 +1,10 @@
--- Every public call that may refuse, in one place; `Values` has the others.
+-- Every public call that may refuse, in one place, but those of edge rows (`Rows`) and of streams (`Streams`); `Values` has those that refuse nothing.
 --     NAME-once        over the contract as the checker reads it from the source: the arguments determine the answer and every slice that the call may write
 --     NAME-refusals    the refusals that the call gives, in the order of its ladder, each with an input that meets it and, where one input can, what every later
 --                      rung refuses too, so that in another order another number would come out; of a call that gives none, nothing
--- The answer is determined, and not its reading alone, because each reading tells all answers apart: `answer-apart` (def), `reading-apart` (avail, df,
--- sheet_lines, sheet), `rank-apart` (rank), `leaves-apart`, `list-apart` (split), `marks-apart` (marks), `placed-apart` (pack), `mended-apart` (mend),
--- and `number-apart` (def).
+-- The answer is determined, and not its reading alone, because each reading tells all answers apart: `answer-apart`, `number-apart` (def), `reading-apart`
+-- (avail, df_laws, sheet_lines, sheet), `banded-apart` (df_laws), `rank-apart` (rank), `leaves-apart`, `list-apart` (split), `marks-apart` (marks),
+-- `placed-apart` (pack) and `mended-apart` (mend).
 -- Assumes nothing.
 use Prim.Native.Nat.{ℕ, _+_, _-_, _*_, _/_}
 use mathlib.Core.Logic.{inl, inr}
@@ -14,7 +14,7 @@ use mathlib.Core.List.{List, [], _∷_, _++_, map}
 use denote.Ref.{RefT, now, ptr}
 use lib.Dec.{ltb, leb, eqb}
 use lib.IntN.{ℤ, pos, negsuc}
-use lib.ListN.{length, replicate}
+use lib.ListN.{length, set, replicate, take}
 use Rattle.laws.proofs.Calls.{one-outcome}
 use Rattle.laws.specs.Bits.{fieldOf, withField}
 use Rattle.laws.specs.Call.{unless, allOf}
@@ -538,18 +538,47 @@ driven f n w splits words leaves sample =
       keep = 0 ∷ [];
     }
 
+-- three units side by side: every block is cut, but that the last unit's block of 8 has the byte b. Two leaves come before it, so that records are judged there
+abbrev last-byte : ℕ → List ℕ
+last-byte b = set (root 1) 787 b
+
+-- that picture, w wide: its split bytes, its words, and the kind, QP and mask of its three records; every sample of the lent luma prediction is 1024
+abbrev drawn : (w : ℕ) → (splits words : List ℕ) → (kind qp mask : ℕ) → driver.Input
+drawn w splits words kind qp mask =
+    let leaf = kind ∷ qp ∷ mask ∷ 0 ∷ [] in
+    record {
+      given = record {
+        w = w;
+        h = 4;
+        format = Colour;
+        constrained = false;
+        leaves = leaf ++ (leaf ++ leaf);
+        residual = [];
+        pred-y = replicate 48 1024;
+        pred-u = replicate 12 0;
+        pred-v = replicate 12 0;
+      };
+      splits = splits;
+      y = replicate 48 0;
+      u = replicate 12 0;
+      v = replicate 12 0;
+      words = words;
+      modes = replicate 3 0;
+      keep = replicate 3 0;
+    }
+
 -- an input for each rung
 abbrev drivings : List driver.Input
 drivings =
-    driven Colour 4 0 [] [] [] 1024
-    ∷ driven Colour 4 4 [] [] [] 1024
-    ∷ driven Colour 4 4 (root 2) [] [] 1024
-    ∷ driven Colour 4 4 (root 2) (0 ∷ []) [] 1024
-    ∷ driven Colour 4 4 (root 0) (0 ∷ []) [] 1024
-    ∷ driven Colour 4 4 (root 1) (0 ∷ []) [] 1024
-    ∷ driven Colour 4 4 (root 1) (0 ∷ []) (6 ∷ 52 ∷ 0 ∷ 0 ∷ []) 1024
-    ∷ driven Colour 4 4 (root 1) (0 ∷ []) (5 ∷ 52 ∷ 0 ∷ 0 ∷ []) 1024
-    ∷ driven Colour 4 4 (root 1) (0 ∷ []) (5 ∷ 51 ∷ 0 ∷ 0 ∷ []) 1024
+    drawn 13 (last-byte 2) [] 6 52 8
+    ∷ drawn 12 (take 1023 (last-byte 2)) [] 6 52 8
+    ∷ drawn 12 (last-byte 2) [] 6 52 8
+    ∷ drawn 12 (last-byte 2) (replicate 3 0) 6 52 8
+    ∷ drawn 12 (last-byte 0) (replicate 3 0) 6 52 8
+    ∷ drawn 12 (root 1) (replicate 3 0) 6 52 8
+    ∷ drawn 12 (root 1) (replicate 3 0) 6 52 0
+    ∷ drawn 12 (root 1) (replicate 3 0) 5 52 0
+    ∷ drawn 12 (root 1) (replicate 3 0) 5 51 0
     ∷ []
 
 abbrev by-driver : List Refusal
@@ -715,9 +744,14 @@ take-map-refusals =
           (rung (sizeOk (i .w) (i .h)) Size _
           (rung (eqb (length (i .map)) (1024 * rootCount (i .w) (i .h))) Length _
           (rung (take-map.placesOk (i .from) (i .to)) Bits _ (picture-takes (i .w / 4) (i .h / 4) (take-map.digits i)))));
-      shown = digits-of 0 0 0 [] ∷ digits-of 4 0 0 [] ∷ digits-of 4 1 0 (root 0) ∷ digits-of 4 0 0 (root 0) ∷ digits-of 4 0 8 (root 0) ∷ [];
+      shown = digits-of 5 1 0 [] ∷ digits-of 4 1 0 [] ∷ digits-of 4 1 0 (root 0) ∷ digits-of 4 0 0 (root 0) ∷ digits-of 4 0 8 (root 0) ∷ [];
       given = refl;
     }
+
+-- it does not refuse always: four digits 1 cut the root down to one unit
+pub take-map-accepted : take-map.outcome (record { w = 4; h = 4; src = 240 ∷ []; from = 0; to = 4; map = root 0 }) .number ≡ 0
+unfolding take-map.outcome take-map.check take-map.placesOk sizeOk descendBy descentsBy descendOn byByte inTurn onward leafWalk bitAt fieldOf tabulateFrom
+take-map-accepted = refl
 
 -- a writer and a reader come from no table of the checker: these are over the contract's own words
 pub write-map-once : (i : Writer) (w h : ℕ) (s : List ℕ) (r r′ : Answer) (x x′ : Writer) → Wrote i w h s r x → Wrote i w h s r′ x′ → (r ≡ r′) × (x ≡ x′)
@@ -747,7 +781,7 @@ mend-refusals =
       only = λ i.
           by-checks (λ o. o .reading .number) (mend.refused i) (mend.done i) (Size ∷ Length ∷ []) (mend.check i) (λ r. refl) refl
           (rung (sizeOk (i .w) (i .h)) Size _ (rung (mend.lengthsOk (i .w) (i .h) (length (i .splits)) (length (i .out)) (length (i .list))) Length _ last));
-      shown = mending 0 ∷ mending 4 ∷ [];
+      shown = mending 5 ∷ mending 4 ∷ [];
       given = refl;
     }
 
@@ -859,7 +893,7 @@ unfolding by-rows.outcome by-rows.check by-rows.rowsLengthOk by-rows.rowsOk righ
 deblock-by-rows-refusals =
     record {
       only = λ i. by-checks (λ o. o .reading .number) (deblock.refused (i .given)) (deblock.done (i .given)) with-rows (by-rows.check i) (λ r. refl) refl (by-rows-stop i);
-      shown = map (lending []) filterings ++ (lending (1 ∷ []) (filtering 4 (root 1) 5 0 0 0) ∷ []);
+      shown = map (lending (1 ∷ [])) (filterings ++ (filtering 4 (root 1) 5 0 0 0 ∷ []));
       given = refl;
     }
 
@@ -909,12 +943,12 @@ deblock-band-once κs a r r′ x x′ p q = settled band.outcome (λ o. o .readi
 pub checked-band-once : Sole 6 checked-band-kinds.ps checked-band-kinds.r checked-band-reads.Post (λ κs r x. r)
 checked-band-once κs a r r′ x x′ p q = one-outcome band-checks.checkOf _ _ _ p q
 
--- the band of such a picture, for the call that the position has next
-abbrev banding : deblock.Input → ℕ → band.Input
-banding i k =
+-- band 0 of such a picture, where the position has a band next
+abbrev banding : deblock.Input → (next : ℕ) → band.Input
+banding i next =
     record {
-      next = 0;
-      band = k;
+      next = next;
+      band = 0;
       w = i .w;
       h = i .h;
       y = i .y;
@@ -1018,8 +1052,8 @@ sheet-refusals =
           (sheet-rung (not (oldOf s)) Old 0 _
           (digits-said (eqb (limitOf s) 5) (widthOf s / 4) (heightOf s / 4) (digitsOf s))))) .by;
       shown =
-          []
-          ∷ sheet-of (48 ∷ []) (54 ∷ []) sourceEdge []
+          (sheet-of (54 ∷ []) (55 ∷ []) sourceEdge [] ++ newline)
+          ∷ sheet-of (54 ∷ []) (55 ∷ []) sourceEdge []
           ∷ sheet-of (52 ∷ []) (55 ∷ []) sourceEdge []
           ∷ sheet-of (52 ∷ []) (54 ∷ []) sourceEdge []
           ∷ sheet-of (52 ∷ []) (54 ∷ []) ownEdge []

@@ -78,7 +78,7 @@ set-motion-refusals =
       only = λ i.
           by-checks (λ o. o .number) (move.refused i) (move.done i) (Size ∷ Length ∷ Block ∷ []) (move.check i) (λ r. refl) refl
           (unit-stops (i .w) (i .h) (length (i .words)) (length (i .motion)) (length (i .refs)) (length (i .rows)) (i .x) (i .y));
-      shown = moving 0 [] 0 ∷ moving 4 [] 0 ∷ moving 4 (0 ∷ []) 1 ∷ [];
+      shown = moving 0 [] 1 ∷ moving 4 [] 1 ∷ moving 4 (0 ∷ []) 1 ∷ [];
       given = refl;
     }
 
@@ -96,7 +96,7 @@ set-flag-refusals =
       only = λ i.
           by-checks (λ o. o .number) (flag.refused i) (flag.done i) (Size ∷ Length ∷ Block ∷ []) (flag.check i) (λ r. refl) refl
           (unit-stops (i .w) (i .h) (length (i .words)) (length (i .motion)) (length (i .refs)) (length (i .rows)) (i .x) (i .y));
-      shown = flagging 0 [] 0 ∷ flagging 4 [] 0 ∷ flagging 4 (0 ∷ []) 1 ∷ [];
+      shown = flagging 0 [] 1 ∷ flagging 4 [] 1 ∷ flagging 4 (0 ∷ []) 1 ∷ [];
       given = refl;
     }
 

@@ -4,6 +4,7 @@ use Prim.Native.Nat.{_*_}
 use mathlib.Core.Bool.{true}
 use mathlib.Core.Path.{_≡_}
 use Rattle.def.specs.Picture.{unitCount}
+use Rattle.def.specs.declared.Answer.the-variants.{Done}
 use Rattle.driver_rules.specs.Call as driver
 use Rattle.df_check.specs.Checks as deblocking
 
@@ -27,3 +28,7 @@ pub record Lent (j : deblocking.Input) : Type 0 where
   pub table1 : j .table1 ≡ deblocking.tableLength (j .settings .format)
   pub strengths : j .strengths ≡ 208
   pub settings : deblocking.settingsOk (j .settings) ≡ true
+
+-- then it is accepted, whatever QPs the leaf records hold
+abbrev pub Joined : Type 0
+Joined = (i : driver.Input) → driver.check i ≡ Done → (j : deblocking.Input) → Follows i j → Lent j → deblocking.checkOf j ≡ Done

@@ -2,3 +2,4 @@ pub mod Face
 pub mod Joined
 pub mod Numbers
 pub mod Promise
+pub mod Words
