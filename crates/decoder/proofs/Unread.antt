@@ -1,6 +1,6 @@
 -- Other bytes are never read, of the calls over planes: the outcome is the same for two split maps, of one length, that agree where the walk of the first reaches;
 -- for a band it is the band's own walk.
---     deblock-same, deblock-band-same, reconstruct-same
+--     deblock-same, deblock-by-rows-same, deblock-band-same, reconstruct-same
 -- `check`, `leaves`, `list_edges` and `root_list` are in `reach_rules`.
 -- Assumes nothing.
 use Prim.Native.Nat.{ℕ, _+_, _-_, _*_, _/_}
@@ -23,7 +23,9 @@ use Rattle.df_check.specs.BandCheck as band-checks
 use Rattle.df_check.specs.Checks as checks
 use Rattle.df_check.proofs.Passed.{passed, rest-passed}
 use Rattle.df.specs.Band as band
+use Rattle.df.specs.ByRows as by-rows
 use Rattle.df.specs.Deblock as deblock
+use Rattle.df.proofs.ByRows.{picture-fine}
 use Rattle.driver_rules.specs.Call as driver
 use Rattle.driver_rules.proofs.Checks.{all-passed}
 
@@ -62,6 +64,20 @@ module _ (i : deblock.Input) (t : List ℕ) (n : length t ≡ length (i .splits)
   deblock-same =
       after-same (deblock.refused i) (deblock.done i) (deblock.done deblock-other) (deblock.check i) (deblock.check deblock-other) checks-same
       (λ e. rw (deblock-tree .leaves (passed (deblock.checked i) e .walk)))
+
+  -- by a map of edge rows
+  abbrev by-map : deblock.Input → List ℕ → by-rows.Input
+  by-map j rows = record { given = j; rows = rows }
+
+  rows-checks-same : (rows : List ℕ) → by-rows.check (by-map deblock-other rows) ≡ by-rows.check (by-map i rows)
+  unfolding by-rows.check by-rows.rowsOk
+  rows-checks-same rows = rw checks-same
+
+  pub deblock-by-rows-same : (rows : List ℕ) → by-rows.outcome (by-map deblock-other rows) ≡ by-rows.outcome (by-map i rows)
+  unfolding by-rows.outcome
+  deblock-by-rows-same rows =
+      after-same (deblock.refused i) (deblock.done i) (deblock.done deblock-other) (by-rows.check (by-map i rows)) (by-rows.check (by-map deblock-other rows)) (rows-checks-same rows)
+      (λ e. rw (deblock-tree .leaves (passed (deblock.checked i) (picture-fine (by-map i rows) e) .walk)))
 
 -- ---- deblocking by bands
 
