@@ -1,6 +1,6 @@
 // The face: every public call and type of the product under one name, and nothing of its own. By the paper's modules:
-//     shared            pel2scu, in_component, get_if, get_qp, get_cbfl, get_cod, set_cod, clr_cod, leaf_word, size_ok, block_side_ok,
-//                       component_side_ok, block_ok, unit_ok, samples_ok, refusal_number, answer_number
+//     shared            pel2scu, in_component, in_format, get_if, get_qp, get_cbfl, get_cod, set_cod, clr_cod, leaf_word, size_ok, roots_along,
+//                       block_side_ok, component_side_ok, block_ok, unit_ok, samples_ok, refusal_number, answer_number
 //     1 chroma QP       derived_chroma_qp_mapping_tables; checked_points, start_qp, delta_in, delta_out
 //     2 availability    get_avail_intra, get_avail_inter
 //     3 mode ranks      get_mpm, get_mpm_number
@@ -16,7 +16,7 @@
 //     a torn map        mend
 //     streams           read_header, write_header, read_frame, write_frame, import_frame
 // Inside are those that a caller needs none of. They are public because another crate calls them, and total like the rest: checked_points, start_qp, delta_in,
-// delta_out, checked_leaves, coded_y, coded_u, coded_v, mode_of, word_of, root_leaves, root_list, list_marks, take_marks, mark_place, mark_byte, root_count, checked,
+// delta_out, checked_leaves, coded_y, coded_u, coded_v, mode_of, word_of, roots_along, root_leaves, root_list, list_marks, take_marks, mark_place, mark_byte, root_count, checked,
 // checked_band, entries, mask_of, line, lanes, motion_row, read.
 pub use avail::Avail;
 pub use avail::Neighbours;

@@ -79,9 +79,9 @@ row-refusals =
           (rung (call.turnOk (i .turn) (i .plane) (i .row) (i .format) (i .window)) OutOfTurn _
           (rung (call.rowOk (i .turn) (i .w) (i .window) (call.lentPlane i)) Sample _ last)))));
       shown =
-          asking Full 0 1 0 1024 []
-          ∷ asking Full 4 1 0 1024 []
-          ∷ asking Full 4 1 0 1024 (replicate 4 0)
+          asking Full 0 1 3 1024 []
+          ∷ asking Full 4 1 3 1024 []
+          ∷ asking Full 4 1 3 1024 (replicate 4 0)
           ∷ asking Full 4 1 4 1024 (replicate 4 0)
           ∷ asking Full 4 0 4 1024 (replicate 4 0)
           ∷ [];
