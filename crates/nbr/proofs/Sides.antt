@@ -2,9 +2,10 @@
 --     four    a block's place is a multiple of 4
 --     scaled-le    in a component's samples a length is no longer
 --     sided    what follows for both components
+--     unit-scaled, unit-sided, unit-sizes    a unit's side
 -- Assumes nothing.
 use Prim.Native.Nat.{ℕ, _+_, _-_, _*_, _/_, _%_, _≤_, _<_}
-use mathlib.Core.Path.{_≡_}
+use mathlib.Core.Path.{_≡_, refl}
 use mathlib.Core.Bool.{true}
 use native.Mathlib.Nat.{div-le-self}
 use native.Mathlib.Omega.{arith}
@@ -55,6 +56,11 @@ sided Chroma p q e f h =
       along = λ k. omega arith;
       room = λ k z. omega arith;
     }
+
+-- a unit's side is 4 in the component's samples
+pub unit-scaled : (c : Component) → 4 / scaleOf c ≡ unitSide c
+unit-scaled Luma = refl
+unit-scaled Chroma = refl
 
 -- a unit's side, and the samples of both arms
 pub record UnitSided (c : Component) (side : ℕ) : Type 0 where

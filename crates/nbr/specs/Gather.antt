@@ -11,6 +11,7 @@ use Rattle.laws.specs.Scan.{allBelow}
 use Rattle.def.specs.Answers.{afterChecks}
 use Rattle.def.specs.Blocks.{blockOk}
 use Rattle.def.specs.Components.{scaleOf, planeLength}
+pub use Rattle.def.specs.Components.{unitSide}
 use Rattle.def.specs.Picture.{sizeOk, unitCount}
 use Rattle.def.specs.Refusals.{numberOf}
 use Rattle.def.specs.Word.{intraOf, doneOf}
@@ -38,10 +39,6 @@ pub record Input : Type 0 where
   pub run : List ℕ
 
 -- ---- in the component's own samples
-
--- a unit's side: 4 in luma, 2 in chroma
-abbrev pub unitSide : Component → ℕ
-unitSide c = 4 / scaleOf c
 
 -- the plane's width, and the block's column, row and side
 abbrev pub across : Around → ℕ
