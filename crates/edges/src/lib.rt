@@ -27,16 +27,16 @@ use split::Listed;
 use split::Walked;
 
 // An edge, at `cross` across the pass's edges and `along` along them: its x and y go to the list.
-fn put_edge(horizontal: bool, cross: usize, along: usize, out: &mut [u16], at: usize)
-    requires { ⌜ (cross ≤ 8192) × (along ≤ 8192) × (cross % 4 ≡ 0) × (along % 4 ≡ 0) × (at + 2 ≤ length (now out)) ⌝ }
-    ensures { λ _. ⌜ now (out .exit) ≡ sets (now (out .entry)) at (edgeNumbers (edgeAt (passOf horizontal) (cross / 4) (along / 4))) ⌝ }
+fn put_edge(horizontal: bool, cross: Pel, along: Pel, out: &mut [u16], at: usize)
+    requires { ⌜ (cross .0 ≤ 8192) × (along .0 ≤ 8192) × (cross .0 % 4 ≡ 0) × (along .0 % 4 ≡ 0) × (at + 2 ≤ length (now out)) ⌝ }
+    ensures { λ _. ⌜ now (out .exit) ≡ sets (now (out .entry)) at (edgeNumbers (edgeAt (passOf horizontal) (cross .0 / 4) (along .0 / 4))) ⌝ }
 {
     if horizontal {
-        out[at] = along as u16;
-        out[at + 1] = cross as u16;
+        out[at] = along.0 as u16;
+        out[at + 1] = cross.0 as u16;
     } else {
-        out[at] = cross as u16;
-        out[at + 1] = along as u16;
+        out[at] = cross.0 as u16;
+        out[at + 1] = along.0 as u16;
     }
 }
 
@@ -52,11 +52,9 @@ fn put_stretch(
     requires { ⌜ Starts (cross .0) (along .0) n × (at + 2 * n ≤ length (now out)) ⌝ }
     ensures { λ r. ⌜ Put (stretchNumbers horizontal (cross .0) (along .0) n) (now (out .entry)) at (now (out .exit)) r ⌝ }
 {
-    let c = cross.0;
-    let a = along.0;
     let mut j = 0;
     while j < n {
-        put_edge(horizontal, c, a + 4 * j, out, at + 2 * j);
+        put_edge(horizontal, cross, Pel(along.0 + 4 * j), out, at + 2 * j);
         j += 1;
     }
     at + 2 * n
@@ -109,10 +107,10 @@ fn number_at(list: &[u16], i: usize) -> usize
 }
 
 // The place across a pass's edges: x, or y where they are horizontal. Handed y and x, it is the place along them.
-fn across(horizontal: bool, x: usize, y: usize) -> Pel
-    ensures { λ r. ⌜ r .0 ≡ pick horizontal y x ⌝ }
+fn across(horizontal: bool, x: Pel, y: Pel) -> Pel
+    ensures { λ r. ⌜ r .0 ≡ pick horizontal (y .0) (x .0) ⌝ }
 {
-    if horizontal { Pel(y) } else { Pel(x) }
+    if horizontal { y } else { x }
 }
 
 // A pass's edges of the first n leaves of a list: they lie `top` rows of units further down than the list says.
@@ -131,8 +129,8 @@ fn leaves_edges(
     let mut k = at;
     let mut j = 0;
     while j < n {
-        let x = number_at(list, 3 * j);
-        let y = number_at(list, 3 * j + 1) + 4 * top;
+        let x = Pel(number_at(list, 3 * j));
+        let y = Pel(number_at(list, 3 * j + 1) + 4 * top);
         let side = number_at(list, 3 * j + 2);
         let cross = across(horizontal, x, y);
         let along = across(horizontal, y, x);

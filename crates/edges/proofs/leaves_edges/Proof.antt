@@ -16,10 +16,10 @@ abbrev μ-loop : tie.MeasureT-loop
 μ-loop list n horizontal halved top out₀ at k₀ j₀ out k j = n - j
 
 -- a leaf's row, as it lies in what is lent
-mul-y : tie.Need-mul-y Inv-loop μ-loop
+mul-y : tie.Need-mul-number-at-3 Inv-loop μ-loop
 mul-y c = omega (arith, c .before .before .before .before .before .before .pre .0 .leaves (c .before .before .before .loop .j) (c .before .before .loop-test .taken) .bottom)
 
-add-y : tie.Need-add-y Inv-loop μ-loop
+add-y : tie.Need-add-number-at-2 Inv-loop μ-loop
 add-y c = omega (arith, c .before .before .before .before .before .before .pre .0 .leaves (c .before .before .before .loop .j) (c .before .before .loop-test .taken) .bottom, c .number-at2 .ensures)
 
 leaf-edges-requires : tie.Need-leaf-edges-requires Inv-loop μ-loop

@@ -14,13 +14,15 @@ slice-write-out-4 c = simp length-set (omega arith)
 
 returns : tie.Need-returns
 returns c =
-    let a = c .before .args in
-    edge-across (a .out .now) (a .at) (a .cross) (a .along) (c .before .pre .2) (c .before .pre .3) (a .horizontal) (c .if1 .taken)
+    let t = c .before .before in
+    let a = t .before .args in
+    edge-across (a .out .now) (a .at) (a .cross .0) (a .along .0) (t .before .pre .2) (t .before .pre .3) (a .horizontal) (t .if1 .taken)
 
 returns-2 : tie.Need-returns-2
 returns-2 c =
-    let a = c .before .args in
-    edge-down (a .out .now) (a .at) (a .cross) (a .along) (c .before .pre .2) (c .before .pre .3) (a .horizontal) (c .if1 .left)
+    let t = c .before .before in
+    let a = t .before .args in
+    edge-down (a .out .now) (a .at) (a .cross .0) (a .along .0) (t .before .pre .2) (t .before .pre .3) (a .horizontal) (t .if1 .left)
 
 pub put-edge-spec : {M : Type 1} → statement M
 put-edge-spec =

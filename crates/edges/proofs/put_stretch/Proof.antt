@@ -10,16 +10,16 @@ use Rattle.edges.proofs.put_stretch.Statement.{statement}
 use Rattle.edges.proofs.put_stretch.Tie as tie
 
 abbrev Inv-loop : tie.InvT-loop
-Inv-loop horizontal n out₀ at c a j₀ out j =
-    (j ≤ n) × (length out ≡ length out₀) × Starts c a n × (at + 2 * n ≤ length out₀) × (out ≡ sets out₀ at (stretchNumbers horizontal c a j))
+Inv-loop horizontal cross along n out₀ at j₀ out j =
+    (j ≤ n) × (length out ≡ length out₀) × Starts (cross .0) (along .0) n × (at + 2 * n ≤ length out₀) × (out ≡ sets out₀ at (stretchNumbers horizontal (cross .0) (along .0) j))
 
 abbrev μ-loop : tie.MeasureT-loop
-μ-loop horizontal n out₀ at c a j₀ out j = n - j
+μ-loop horizontal cross along n out₀ at j₀ out j = n - j
 
 loop-again : tie.Need-loop-again Inv-loop μ-loop
 loop-again c =
-    let l = c .before .before .before .before .before .loop in
-    let a = c .before .before .before .before .before .before .before .args in
+    let l = c .before .before .before .before .before .before .loop in
+    let a = c .before .before .before .before .before .before .before .before .args in
     let v = l .inv in
     let e = c .before .before .put-edge in (
       omega arith,
