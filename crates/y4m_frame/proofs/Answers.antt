@@ -15,6 +15,7 @@ use lib.ListN.{length, drop, length-append, drop-of-length-le}
 use lib.Seq.{sets-eq}
 use Rattle.laws.specs.Call.{Gives, unless}
 use Rattle.laws.proofs.Calls.{all-at, stops, goes-on, at-refusal, past-refusal}
+use Rattle.def.specs.Formats.{colourLength}
 use Rattle.def.specs.Picture.{sizeOk, lumaLength, chromaLength}
 use Rattle.def.specs.Refusals.{numberOf}
 use Rattle.def.specs.declared.Answer.{Answer}
@@ -27,7 +28,7 @@ use Rattle.def.proofs.Ladders.{passes}
 use Rattle.edges.specs.Put.{Put}
 use Rattle.edges.proofs.Puts.{put-then}
 use Rattle.y4m_rules.specs.Words.{frameLine}
-use Rattle.y4m_rules.specs.Frames.{chromaOf, frameLength, bytesOf, frameText, planeAt, lineOk, linePlace, yFrom, uFrom, vFrom, frameEnd, planesOk}
+use Rattle.y4m_rules.specs.Frames.{frameLength, bytesOf, frameText, planeAt, lineOk, linePlace, yFrom, uFrom, vFrom, frameEnd, planesOk}
 use Rattle.y4m_rules.proofs.Frames.{bytes-long}
 use Rattle.y4m_frame.specs.ReadCall as reading
 use Rattle.y4m_frame.specs.WriteCall as writing
@@ -142,11 +143,11 @@ pub writable : (c : Format) (w h : ℕ) (y u v : List ℕ) (out : ℕ) → writi
 unfolding writing.checkOf writing.lengthsOk
 writable c w h y u v out e =
     let a = passes (sizeOk w h) _ _ e in
-    let tests = eqb (length y) (lumaLength w h) ∷ eqb (length u) (chromaOf c w h) ∷ eqb (length v) (chromaOf c w h) ∷ eqb out (frameLength c w h) ∷ [] in
+    let tests = eqb (length y) (lumaLength w h) ∷ eqb (length u) (colourLength c w h) ∷ eqb (length v) (colourLength c w h) ∷ eqb out (frameLength c w h) ∷ [] in
     let b = passes _ _ _ (a .rest) in
     let yl = eqb-true (length y) (lumaLength w h) (all-at tests 0 (b .holds)) in
-    let ul = eqb-true (length u) (chromaOf c w h) (all-at tests 1 (b .holds)) in
-    let vl = eqb-true (length v) (chromaOf c w h) (all-at tests 2 (b .holds)) in
+    let ul = eqb-true (length u) (colourLength c w h) (all-at tests 1 (b .holds)) in
+    let vl = eqb-true (length v) (colourLength c w h) (all-at tests 2 (b .holds)) in
     let ol : out ≡ frameLength c w h = eqb-true out (frameLength c w h) (all-at tests 3 (b .holds)) in
     record { out-long = omega (arith, yl, ul, vl, ol) }
 

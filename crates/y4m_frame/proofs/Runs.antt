@@ -15,6 +15,7 @@ use borrow.Author.Tests.{eq-eqb, ne-eqb}
 use lib.Dec.{eqb}
 use lib.ListN.{length, take, drop, getD, set, drop-of-length-le}
 use lib.Seq.{drop-cons, take-suc}
+use Rattle.def.specs.Formats.{colourLength}
 use Rattle.def.specs.declared.Format.{Format}
 use Rattle.def.specs.declared.Format.the-variants.{Grey, Colour}
 use Rattle.laws.specs.Scan.{allBelow}
@@ -25,7 +26,7 @@ use Rattle.samples.specs.Samples.{sampleOk, samplesOk}
 use Rattle.edges.specs.Put.{Put}
 use Rattle.edges.proofs.Puts.{put-as, put-then}
 use Rattle.sheet.proofs.Puts.{put-byte}
-use Rattle.y4m_rules.specs.Frames.{chromaOf, bytesOf, sampleAt, planeAt, matches}
+use Rattle.y4m_rules.specs.Frames.{bytesOf, sampleAt, planeAt, matches}
 use Rattle.y4m_frame.specs.WriteCall.{lengthsOk}
 
 -- ---- a key, byte by byte
@@ -102,11 +103,11 @@ quarter w h p q =
 
 -- ---- the lengths of a written frame
 
-pub lengths : (c : Format) (w h y u v out n : ℕ) → n ≡ chromaOf c w h
+pub lengths : (c : Format) (w h y u v out n : ℕ) → n ≡ colourLength c w h
     → (((eqb y (w * h) && eqb u n) && eqb v n) && eqb out (6 + 2 * (w * h + 2 * n))) ≡ lengthsOk c w h y u v out
 unfolding lengthsOk
 lengths c w h y u v out n e = rw e
 
-pub small-chroma : (c : Format) (w h n : ℕ) → w ≤ 4096 → h ≤ 4096 → n ≡ chromaOf c w h → n ≤ 4194304
+pub small-chroma : (c : Format) (w h n : ℕ) → w ≤ 4096 → h ≤ 4096 → n ≡ colourLength c w h → n ≤ 4194304
 small-chroma Grey w h n p q e = omega arith
 small-chroma Colour w h n p q e = omega (arith, quarter w h p q)

@@ -7,6 +7,7 @@ use lib.Dec.{eqb}
 use lib.ListN.{length}
 use Rattle.laws.specs.Call.{unless, allOf}
 use Rattle.def.specs.Answers.{afterChecks}
+use Rattle.def.specs.Formats.{colourLength}
 use Rattle.def.specs.Picture.{sizeOk, lumaLength}
 use Rattle.def.specs.Refusals.{numberOf}
 use Rattle.def.specs.declared.Answer.{Answer}
@@ -15,7 +16,7 @@ use Rattle.def.specs.declared.Format.{Format}
 use Rattle.def.specs.declared.Refusal.{Refusal}
 use Rattle.def.specs.declared.Refusal.the-variants.{Size, Length, Setting, Sample}
 use Rattle.samples.specs.Samples.{samplesOk}
-use Rattle.y4m_rules.specs.Frames.{colourOk, chromaOf, frameLength, frameText}
+use Rattle.y4m_rules.specs.Frames.{colourOk, frameLength, frameText}
 
 pub record Input : Type 0 where
   pub format : Format
@@ -32,7 +33,7 @@ pub record Outcome : Type 0 where
 
 -- the planes have the lengths of their format, and the bytes are those of the frame
 unfoldable pub lengthsOk : (c : Format) (w h y u v out : ℕ) → Bool
-lengthsOk c w h y u v out = allOf (eqb y (lumaLength w h) ∷ eqb u (chromaOf c w h) ∷ eqb v (chromaOf c w h) ∷ eqb out (frameLength c w h) ∷ [])
+lengthsOk c w h y u v out = allOf (eqb y (lumaLength w h) ∷ eqb u (colourLength c w h) ∷ eqb v (colourLength c w h) ∷ eqb out (frameLength c w h) ∷ [])
 
 unfoldable pub planesOk : (y u v : List ℕ) → Bool
 planesOk y u v = allOf (samplesOk y ∷ samplesOk u ∷ samplesOk v ∷ [])

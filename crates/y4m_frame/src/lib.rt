@@ -5,7 +5,8 @@ ghost use Prim.Native.Nat.{_+_, _*_, _/_, _≤_};
 ghost use lib.ListN.{length};
 ghost use Rattle.laws.specs.Call.{Gives};
 ghost use Rattle.def.specs.Answers.{answerNumber};
-ghost use Rattle.y4m_rules.specs.Frames.{chromaOf, colourOk, frameEnd, planesOk};
+ghost use Rattle.def.specs.Formats.{colourLength};
+ghost use Rattle.y4m_rules.specs.Frames.{colourOk, frameEnd, planesOk};
 ghost use Rattle.y4m_frame.specs.ReadCall as reading;
 ghost use Rattle.y4m_frame.specs.WriteCall as writing;
 use def::Answer;
@@ -30,12 +31,9 @@ pub enum FrameRead {
 // Samples of a chroma plane, by the chroma format.
 fn chroma_length(format: Format, w: usize, h: usize) -> usize
     requires { ⌜ (w ≤ 4096) × (h ≤ 4096) ⌝ }
-    ensures { λ r. ⌜ r ≡ chromaOf format w h ⌝ }
+    ensures { λ r. ⌜ r ≡ colourLength format w h ⌝ }
 {
-    match format {
-        Format::Grey => 0,
-        Format::Colour => (w / 2) * (h / 2),
-    }
+    def::in_format(format, w / 2 * (h / 2))
 }
 
 // ---- reading

@@ -7,7 +7,9 @@ use lib.Dec.{eqb}
 use lib.ListN.{length, drop, getD}
 use Rattle.laws.specs.Call.{allOf}
 use Rattle.laws.specs.Index.{pick, tabulate}
-use Rattle.def.specs.Picture.{lumaLength, chromaLength}
+use Rattle.def.specs.Formats.{colourLength}
+pub use Rattle.def.specs.Formats.{colourLength as chromaOf}
+use Rattle.def.specs.Picture.{lumaLength}
 use Rattle.def.specs.declared.Format.{Format}
 use Rattle.def.specs.declared.Format.the-variants.{Grey, Colour}
 use Rattle.samples.specs.Samples.{samplesOk}
@@ -20,14 +22,9 @@ abbrev pub colourOk : Format → Bool
 colourOk Grey = false
 colourOk Colour = true
 
--- samples of a chroma plane, by the chroma format: a grey picture has none
-abbrev pub chromaOf : Format → ℕ → ℕ → ℕ
-chromaOf Grey w h = 0
-chromaOf Colour w h = chromaLength w h
-
 -- samples of the three planes
 abbrev pub samplesIn : Format → ℕ → ℕ → ℕ
-samplesIn c w h = lumaLength w h + 2 * chromaOf c w h
+samplesIn c w h = lumaLength w h + 2 * colourLength c w h
 
 -- bytes of a frame, its line with them
 abbrev pub frameLength : Format → ℕ → ℕ → ℕ

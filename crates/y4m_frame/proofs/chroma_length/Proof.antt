@@ -5,11 +5,8 @@ use Rattle.y4m_frame.proofs.Runs.{quarter}
 use Rattle.y4m_frame.proofs.chroma_length.Statement.{statement}
 use Rattle.y4m_frame.proofs.chroma_length.Tie as tie
 
-mul-result : tie.Need-mul-result
-mul-result c = let s = c .before .before in omega (arith, quarter (s .args .w) (s .args .h) (s .pre .0) (s .pre .1))
-
-returns-2 : tie.Need-returns-2
-returns-2 c = rw (c .enum-told2 .given .1)
+mul-in-format : tie.Need-mul-in-format
+mul-in-format c = omega (arith, quarter (c .args .w) (c .args .h) (c .pre .0) (c .pre .1))
 
 pub chroma-length-spec : {M : Type 1} → statement M
-chroma-length-spec = tie.close (tie.spec (λ c. search needs) (λ c. search needs) mul-result (λ c. search needs) returns-2)
+chroma-length-spec = tie.close (tie.spec mul-in-format (λ c κs. search needs) (λ c. c .in-format .ensures))
