@@ -82,7 +82,8 @@ fn fill_list(map: &mut [u8], list: &[u16], n: usize)
     }
 }
 
-// The bytes of root i by the bits from one place up to another, which are not refused: how many digits it has.
+// The bytes of root i by the bits from one place up to another, which are not refused: how many digits it has. The list is the caller's, so that it is not
+// cleared for each root.
 fn fill_root(
     w: usize,
     h: usize,
@@ -90,17 +91,17 @@ fn fill_root(
     from: usize,
     to: usize,
     i: usize,
+    list: &mut [u16],
     map: &mut [u8],
 ) -> usize
-    requires { ⌜ (sizeOk w h ≡ true) × (i < rootCount w h) × (length (now map) ≡ 1024) × (rootDescent (w / 4) (h / 4) i (bitsFrom (now src) from (to - from)) .walk .answer ≡ Done) ⌝ }
+    requires { ⌜ (sizeOk w h ≡ true) × (i < rootCount w h) × (length (now map) ≡ 1024) × (length (now list) ≡ 85) × (rootDescent (w / 4) (h / 4) i (bitsFrom (now src) from (to - from)) .walk .answer ≡ Done) ⌝ }
     ensures { λ r. ⌜ (r ≡ length (rootDescent (w / 4) (h / 4) i (bitsFrom (now (src .entry)) from (to - from)) .marks)) × (now (map .exit) ≡ putAll (rootDescent (w / 4) (h / 4) i (bitsFrom (now (src .entry)) from (to - from)) .marks) (replicate 1024 0)) ⌝ }
 {
-    let mut list = [0u16; 85];
-    match take_marks(w, h, src, from, to, i, &mut list) {
+    match take_marks(w, h, src, from, to, i, list) {
         // the digits are not refused here
         Marked::Refused(r) => 0,
         Marked::Done(n) => {
-            fill_list(map, &list, n);
+            fill_list(map, list, n);
             n
         }
     }
@@ -112,12 +113,14 @@ pub(crate) fn fill_map(w: usize, h: usize, src: &[u8], from: usize, to: usize, m
     ensures { λ _. ⌜ now (map .exit) ≡ mapOf (w / 4) (h / 4) (bitsFrom (now (src .entry)) from (to - from)) ⌝ }
 {
     let count = root_count(w, h);
+    let mut list = [0u16; 85];
     let mut used = 0;
     let mut i = 0;
     while i < count {
         let start = 1024 * i;
         let end = start + 1024;
-        let n = fill_root(w, h, src, from + used, to, i, &mut map[start..end]);
+        let part = &mut map[start..end];
+        let n = fill_root(w, h, src, from + used, to, i, &mut list, part);
         used += n;
         i += 1;
     }

@@ -41,18 +41,17 @@ fn judge_root(bytes: &[u8], list: &[u16], n: usize) -> Answer
     Answer::Done
 }
 
-// How many digits root i has, or why its walk is refused.
-fn root_digits(w: usize, h: usize, splits: &[u8], i: usize) -> Marked
-    requires { ⌜ Mapped w h (length (now splits)) × (i < rootCount w h) ⌝ }
+// How many digits root i has, or why its walk is refused. The list is the caller's, so that it is not cleared for each root.
+fn root_digits(w: usize, h: usize, splits: &[u8], i: usize, list: &mut [u16]) -> Marked
+    requires { ⌜ Mapped w h (length (now splits)) × (i < rootCount w h) × (length (now list) ≡ 85) ⌝ }
     ensures { λ r. ⌜ r ≡ counted (length (rootDigits (now (splits .entry)) (w / 4) (h / 4) i)) (rootWalk (now (splits .entry)) (w / 4) (h / 4) i .answer) ⌝ }
 {
     let start = 1024 * i;
     let end = start + 1024;
-    let mut list = [0u16; 85];
-    match list_marks(w, h, splits, i, &mut list) {
+    match list_marks(w, h, splits, i, list) {
         // none of the call's tests fails here
         Marked::Refused(r) => Marked::Refused(r),
-        Marked::Done(n) => match judge_root(&splits[start..end], &list, n) {
+        Marked::Done(n) => match judge_root(&splits[start..end], list, n) {
             Answer::Refused(r) => Marked::Refused(r),
             Answer::Done => Marked::Done(n),
         },
@@ -65,10 +64,11 @@ pub(crate) fn map_digits(w: usize, h: usize, splits: &[u8]) -> Marked
     ensures { λ r. ⌜ r ≡ counted (length (pictureDigits (now (splits .entry)) (w / 4) (h / 4))) (pictureWalk (now (splits .entry)) (w / 4) (h / 4) .answer) ⌝ }
 {
     let roots = root_count(w, h);
+    let mut list = [0u16; 85];
     let mut digits = 0;
     let mut i = 0;
     while i < roots {
-        match root_digits(w, h, splits, i) {
+        match root_digits(w, h, splits, i, &mut list) {
             Marked::Refused(r) => {
                 return Marked::Refused(r);
             }
@@ -93,17 +93,24 @@ fn put_list(buf: &mut [u8], at: usize, list: &[u16], n: usize)
     }
 }
 
-// The digits of root i, whose walk is not refused, put as bits from a place on: how many they are.
-fn put_root(w: usize, h: usize, splits: &[u8], i: usize, buf: &mut [u8], at: usize) -> usize
-    requires { ⌜ Mapped w h (length (now splits)) × (i < rootCount w h) × (rootWalk (now splits) (w / 4) (h / 4) i .answer ≡ Done) × (at ≤ 4611686018427736064) ⌝ }
+// The digits of root i, whose walk is not refused, put as bits from a place on: how many they are. The list is the caller's, as above.
+fn put_root(
+    w: usize,
+    h: usize,
+    splits: &[u8],
+    i: usize,
+    list: &mut [u16],
+    buf: &mut [u8],
+    at: usize,
+) -> usize
+    requires { ⌜ Mapped w h (length (now splits)) × (i < rootCount w h) × (length (now list) ≡ 85) × (rootWalk (now splits) (w / 4) (h / 4) i .answer ≡ Done) × (at ≤ 4611686018427736064) ⌝ }
     ensures { λ r. ⌜ (r ≡ length (rootDigits (now (splits .entry)) (w / 4) (h / 4) i)) × (now (buf .exit) ≡ withBits (now (buf .entry)) at (digitAt (rootDigits (now (splits .entry)) (w / 4) (h / 4) i)) r) ⌝ }
 {
-    let mut list = [0u16; 85];
-    match list_marks(w, h, splits, i, &mut list) {
+    match list_marks(w, h, splits, i, list) {
         // none of the call's tests fails here
         Marked::Refused(r) => 0,
         Marked::Done(n) => {
-            put_list(buf, at, &list, n);
+            put_list(buf, at, list, n);
             n
         }
     }
@@ -115,10 +122,11 @@ pub(crate) fn put_digits(w: usize, h: usize, splits: &[u8], buf: &mut [u8], at: 
     ensures { λ _. ⌜ now (buf .exit) ≡ withBits (now (buf .entry)) at (digitAt (pictureDigits (now (splits .entry)) (w / 4) (h / 4))) (length (pictureDigits (now (splits .entry)) (w / 4) (h / 4))) ⌝ }
 {
     let roots = root_count(w, h);
+    let mut list = [0u16; 85];
     let mut used = 0;
     let mut i = 0;
     while i < roots {
-        let n = put_root(w, h, splits, i, buf, at + used);
+        let n = put_root(w, h, splits, i, &mut list, buf, at + used);
         used += n;
         i += 1;
     }

@@ -19,14 +19,15 @@ use Rattle.pack.proofs.write.put_digits.Statement.{statement}
 use Rattle.pack.proofs.write.put_digits.Tie as tie
 
 abbrev Inv-loop : tie.InvT-loop
-Inv-loop w h splits buf₀ at roots used₀ i₀ buf used i =
+Inv-loop w h splits buf₀ at roots list₀ used₀ i₀ buf list used i =
     (i ≤ roots)
     × (length buf ≡ length buf₀)
     × (used ≡ length (digitsOf splits (w / 4) (h / 4) i))
     × (buf ≡ withBits buf₀ at (digitAt (pictureDigits splits (w / 4) (h / 4))) used)
+    × (length list ≡ 85)
 
 abbrev μ-loop : tie.MeasureT-loop
-μ-loop w h splits buf₀ at roots used₀ i₀ buf used i = roots - i
+μ-loop w h splits buf₀ at roots list₀ used₀ i₀ buf list used i = roots - i
 
 -- the number of roots, in samples and in units
 all : (c : tie.After-root-count Inv-loop μ-loop) → c .root-count .result ≡ roots (c .before .before .before .args .w / 4) (c .before .before .before .args .h / 4)
@@ -50,40 +51,43 @@ near c =
 
 loop-holds : tie.Need-loop-holds Inv-loop μ-loop
 unfolding joined
-loop-holds c = (zero-le, refl, refl, sym (with-none _ _ _))
+loop-holds c = (zero-le, refl, refl, sym (with-none _ _ _), refl)
 
 put-root-requires : tie.Need-put-root-requires Inv-loop μ-loop
 put-root-requires c κs = (
-  c .before .before .before .before .before .before .pre .0,
-  inside (c .before),
-  each-done _ _ (c .before .before .before .before .before .before .pre .1) _ (inside-units (c .before)),
-  near (c .before),
+  c .before .before .before .before .before .before .before .pre .0,
+  inside (c .before .before),
+  c .before .before .before .loop .inv .4,
+  each-done _ _ (c .before .before .before .before .before .before .before .pre .1) _ (inside-units (c .before .before)),
+  near (c .before .before),
 )
 
-used-next : (c : tie.After-put-root Inv-loop μ-loop) → let a = c .before .before .before .before .before .before .before .args in
-    c .before .before .before .loop .used + c .put-root .result ≡ length (digitsOf (a .splits .now) (a .w / 4) (a .h / 4) (c .before .before .before .loop .i + 1))
+used-next : (c : tie.After-put-root Inv-loop μ-loop) → let a = c .before .before .before .before .before .before .before .before .args in
+    c .before .before .before .before .loop .used + c .put-root .result ≡ length (digitsOf (a .splits .now) (a .w / 4) (a .h / 4) (c .before .before .before .before .loop .i + 1))
 used-next c =
-    let v = c .before .before .before .loop .inv in
+    let v = c .before .before .before .before .loop .inv in
     ap (λ (n : ℕ). n + c .put-root .result) (v .2) ∙ ap (λ (n : ℕ). length
-    (digitsOf (c .before .before .before .before .before .before .before .args .splits .now)
-    (c .before .before .before .before .before .before .before .args .w / 4) (c .before .before .before .before .before .before .before .args .h / 4)
-    (c .before .before .before .loop .i)) + n) (c .put-root .ensures .0)
-    ∙ sym (more-long _ _ _ _ (inside-units (c .before .before)))
+    (digitsOf (c .before .before .before .before .before .before .before .before .args .splits .now)
+    (c .before .before .before .before .before .before .before .before .args .w / 4) (c .before .before .before .before .before .before .before .before .args .h / 4)
+    (c .before .before .before .before .loop .i)) + n) (c .put-root .ensures .0)
+    ∙ sym (more-long _ _ _ _ (inside-units (c .before .before .before)))
 
 add-used : tie.Need-add-used Inv-loop μ-loop
 add-used c =
-    let a = c .before .before .before .before .before .before .before .before .before .args in
-    let f = few-digits (a .splits .now) (a .w / 4) (a .h / 4) (c .before .before .before .before .before .loop .i + 1) in
-    omega (arith, used-next (c .before .before), f, inside (c .before .before .before .before), few-of _ _ (c .before .before .before .before .before .before .before .before .before .pre .0 .size))
+    let a = c .before .before .before .before .before .before .before .before .before .before .before .args in
+    let f = few-digits (a .splits .now) (a .w / 4) (a .h / 4) (c .before .before .before .before .before .before .before .loop .i + 1) in
+    let g = few-of _ _ (c .before .before .before .before .before .before .before .before .before .before .before .pre .0 .size) in
+    omega (arith, used-next (c .before .before .before), f, inside (c .before .before .before .before .before .before), g)
 
 loop-again : tie.Need-loop-again Inv-loop μ-loop
 loop-again c =
-    let v = c .before .before .before .before .before .loop .inv in
-    let m = c .before .before .put-root in (
-      omega (arith, c .before .before .before .before .loop-test .taken),
-      m .kept .1 .1 .1 .1 .0 ∙ v .1,
-      used-next (c .before .before),
-      put-next _ _ _ _ (inside-units (c .before .before .before .before)) _ _ _ _ _ _ (v .2) (m .ensures .0) (v .3) (m .ensures .1),
+    let v = c .before .before .before .before .before .before .before .loop .inv in
+    let m = c .before .before .before .put-root in (
+      omega (arith, c .before .before .before .before .before .before .loop-test .taken),
+      m .kept .1 .1 .1 .1 .1 .0 ∙ v .1,
+      used-next (c .before .before .before),
+      put-next _ _ _ _ (inside-units (c .before .before .before .before .before .before)) _ _ _ _ _ _ (v .2) (m .ensures .0) (v .3) (m .ensures .1),
+      m .kept .1 .1 .1 .1 .0 ∙ v .4,
     )
 
 returns : tie.Need-returns Inv-loop μ-loop
@@ -94,6 +98,9 @@ returns c =
     v .3 ∙ ap (withBits (a .buf .now) (a .at) (digitAt (pictureDigits (a .splits .now) (a .w / 4) (a .h / 4))))
     (v .2 ∙ ap (λ (n : ℕ). length (digitsOf (a .splits .now) (a .w / 4) (a .h / 4) n)) e)
 
+add-put-root : tie.Need-add-put-root Inv-loop μ-loop
+add-put-root c = omega (arith, near (c .before .before))
+
 pub put-digits-spec : {M : Type 1} → statement M
 put-digits-spec =
     tie.close
@@ -102,7 +109,8 @@ put-digits-spec =
     μ-loop
     (λ c κs. search needs)
     loop-holds
-    (λ c. omega (arith, near (c .before)))
+    (λ c. search needs)
+    add-put-root
     put-root-requires
     add-used
     (λ c. search needs)
