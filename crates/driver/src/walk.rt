@@ -88,21 +88,8 @@ fn pack(list: &[u16], n: usize, leaves: &mut [u16])
     }
 }
 
-// The leaves of root i into a list, and how many they are. The walk of the picture was checked, and is not refused here.
-fn root_leaves(w: usize, h: usize, splits: &[u8], i: usize, list: &mut [u16]) -> usize
-    requires { ⌜ Accepted w h (now splits) × (i < rootCount w h) × (length (now list) ≡ 768) ⌝ }
-    ensures { λ r. ⌜ Listed w h (now (splits .entry)) i (now (list .exit)) r ⌝ }
-{
-    let across = def::roots_along(w);
-    let x = Pel(64 * (i % across));
-    let y = Pel(64 * (i / across));
-    match split::leaves(w, h, splits, x, y, list) {
-        Walked::Done(n) => n,
-        Walked::Refused(_) => 0,
-    }
-}
-
 // The leaves of root i, a number each. Their list lies in the room of the blocks until it is packed, and takes no place of its own on the stack.
+// The walk of the picture was checked: the call does not refuse.
 fn pack_root(
     w: usize,
     h: usize,
@@ -116,7 +103,9 @@ fn pack_root(
 {
     let long = 768;
     let list = &mut room[0..long];
-    let n = root_leaves(w, h, splits, i, &mut *list);
+    let Walked::Done(n) = split::root_leaves(w, h, splits, i, &mut *list) else {
+        return 0;
+    };
     pack(&*list, n, leaves);
     n
 }

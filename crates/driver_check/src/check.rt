@@ -1,18 +1,16 @@
 // What the driver refuses, and in which order: 1, 2, then 4 or 5 as the walk meets them, 13, 9, 6, 7.
 ghost use mathlib.Core.Path.{_≡_};
-ghost use Prim.Native.Nat.{_+_, _*_, _≤_, _<_};
+ghost use Prim.Native.Nat.{_+_, _*_, _≤_};
 ghost use lib.ListN.{length};
-ghost use Rattle.def.specs.Picture.{rootCount};
 ghost use Rattle.def.proofs.Sizes.{Sized};
 ghost use Rattle.split.specs.Stored.{leavesFrom};
-ghost use Rattle.driver_rules.specs.Asked.{Sides, Accepted, Listed};
+ghost use Rattle.driver_rules.specs.Asked.{Sides, Accepted};
 ghost use Rattle.driver_rules.specs.Call.{colourLength, readOk, writtenOk, leavesOf, recordsOk, lentOk, dataCheck, checkOf};
 ghost use Rattle.driver_rules.specs.Records.{bytesOk, mostMask, placeOf, first, passed};
 use crate::records::leaf_end;
 use crate::records::mask_at;
 use def::Answer;
 use def::Format;
-use def::Pel;
 use def::Refusal;
 use split::Walked;
 
@@ -38,21 +36,7 @@ fn past_leaves(leaves: &[u8], list: &[u16], n: usize, from: Place) -> Place
     Place { at, k: k + n }
 }
 
-// The leaves of root i into a list, and how many they are. The walk of the picture was checked, and is not refused here.
-fn root_leaves(w: usize, h: usize, splits: &[u8], i: usize, list: &mut [u16]) -> usize
-    requires { ⌜ Accepted w h (now splits) × (i < rootCount w h) × (length (now list) ≡ 768) ⌝ }
-    ensures { λ r. ⌜ Listed w h (now (splits .entry)) i (now (list .exit)) r ⌝ }
-{
-    let across = def::roots_along(w);
-    let x = Pel(64 * (i % across));
-    let y = Pel(64 * (i / across));
-    match split::leaves(w, h, splits, x, y, list) {
-        Walked::Done(n) => n,
-        Walked::Refused(_) => 0,
-    }
-}
-
-// Past all leaves of a picture.
+// Past all leaves of a picture. Its walk was checked: no root is refused here.
 fn past_picture(w: usize, h: usize, splits: &[u8], leaves: &[u8]) -> Place
     requires { ⌜ Accepted w h (now splits) ⌝ }
     ensures { λ r. ⌜ (placeOf (r .at) (r .k) ≡ passed (now (leaves .entry)) (leavesOf w h (now (splits .entry))) first) × (r .k ≤ 1048576) ⌝ }
@@ -61,7 +45,9 @@ fn past_picture(w: usize, h: usize, splits: &[u8], leaves: &[u8]) -> Place
     let mut list = [0u16; 768];
     let mut place = Place { at: 0, k: 0 };
     for i in 0..roots {
-        let n = root_leaves(w, h, splits, i, &mut list);
+        let Walked::Done(n) = split::root_leaves(w, h, splits, i, &mut list) else {
+            return place;
+        };
         place = past_leaves(leaves, &list, n, place);
     }
     place
