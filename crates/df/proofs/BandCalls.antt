@@ -24,24 +24,22 @@ use Rattle.samples.specs.Samples.{samplesOk}
 use Rattle.samples.proofs.Samples.{sample-any}
 use Rattle.split.specs.Edges.{Pass, vertical, horizontal, Edge}
 use Rattle.split.specs.Picture.{pictureWalk}
-use Rattle.strength.specs.Entries.{entriesOf}
-use Rattle.strength.proofs.Strengths.{luma-entry, u-entry, v-entry}
 use Rattle.df_check.proofs.Bands.{band-size, few-above, few-rows}
 use Rattle.df_check.proofs.Passed.{word-any, mark-any}
-use Rattle.df_rules.specs.Filter.{Planes, inY, inU, inV, finished}
+use Rattle.df_rules.specs.Filter.{Planes, finished}
 use Rattle.df_rules.specs.Lent.{LentPicture}
 use Rattle.split.specs.Accepted.{Accepted}
-use Rattle.df_rules.specs.Places.{unitQ, unitP}
 use Rattle.df_rules.specs.Window.{Samples}
 use Rattle.df_rules.specs.Visit.{allDone}
-use Rattle.df_rules.specs.Strength.{Maps, rowAt, qpAt, strengthOf, strength}
-use Rattle.df_rules.proofs.Planes.{planes-finished, no-samples, finished-none}
-use Rattle.df_rules.proofs.Strengths.{row-few}
+use Rattle.df_rules.specs.Strength.{Maps}
+use Rattle.df_rules.proofs.Planes.{no-samples, finished-none}
 use Rattle.bands_rules.specs.Bands.{edgeDown, listFrom, mapPart, mapsPart, placesOf, doneFrom, BothPassesFrom}
 use Rattle.df_check.specs.Rows.{rowsAbove}
 use Rattle.bands_rules.proofs.Lists.{Lies, list-in}
 use Rattle.bands_rules.proofs.Parts.{Keeps, finished-part, list-down}
 use Rattle.df.specs.Band as band
+use Rattle.df.specs.Plan.{entriesIn}
+use Rattle.df.proofs.Entries.{by-format}
 use Rattle.df.proofs.Lengths.{stepOf, places-step}
 use Rattle.df.proofs.Told.{Told, told, is-done}
 
@@ -122,8 +120,8 @@ module _ (j : band.Input) (fine : band.check j ≡ Done) (pos : 1 ≤ band.wide 
   abbrev t : Told j
   t = told j fine
 
-  abbrev entriesIn : List ℕ
-  entriesIn = entriesOf (j .strengths) (j .table0) (j .settings .«u_offset») (j .table1) (j .settings .«v_offset»)
+  abbrev entries : List ℕ
+  entries = entriesIn f (j .strengths) (j .table0) (j .settings .«u_offset») (j .table1) (j .settings .«v_offset»)
 
   -- the maps from the first row that is handed to the passes on
   abbrev m : Maps
@@ -140,27 +138,17 @@ module _ (j : band.Input) (fine : band.check j ≡ Done) (pos : 1 ≤ band.wide 
   few : (q : ℕ) → qpOf (getD (m .words) q 0) ≤ 51
   few = word-any (m .words) (t .qps)
 
-  module _ (d : Pass) (e : Edge) (i : List·Memᴰ e (list d)) where
-    same-y : strength m entriesIn inY d w e ≡ strength m (j .strengths) (band.qpY j) d w e
-    unfolding strengthOf
-    same-y = ap (λ (k : ℕ). 4 * k) (luma-entry _ _ _ _ _ (rowAt m (unitQ w e) (unitP d w e)) (qpAt m (unitQ w e)) (row-few m (unitQ w e) (unitP d w e)) (few (unitQ w e)))
-
-    same-u : strength m entriesIn inU d w e ≡ strength m (j .strengths) (band.qpU j) d w e
-    unfolding strengthOf
-    same-u = ap (λ (k : ℕ). 4 * k) (u-entry _ _ _ _ _ (rowAt m (unitQ w e) (unitP d w e)) (qpAt m (unitQ w e)) (row-few m (unitQ w e) (unitP d w e)) (few (unitQ w e)))
-
-    same-v : strength m entriesIn inV d w e ≡ strength m (j .strengths) (band.qpV j) d w e
-    unfolding strengthOf
-    same-v = ap (λ (k : ℕ). 4 * k) (v-entry _ _ _ _ _ (rowAt m (unitQ w e) (unitP d w e)) (qpAt m (unitQ w e)) (row-few m (unitQ w e) (unitP d w e)) (few (unitQ w e)))
-
   -- the parts that were handed to the passes, in the words of the rule
-  parts-done : (p q : Planes) (words : List ℕ) (ver hor : ℕ) → BothPassesFrom m entriesIn w top (list vertical) (list horizontal) p q words ver hor
+  parts-done : (p q : Planes) (k : ℕ) (words : List ℕ) (ver hor : ℕ) → length (p .u) ≡ inFormat f k → length (p .v) ≡ inFormat f k
+      → BothPassesFrom m entries w top (list vertical) (list horizontal) p q words ver hor
       → q ≡ record {
         y = finished m (j .strengths) (band.qpY j) Luma w (list vertical) (list horizontal) (p .y);
         u = finished m (j .strengths) (band.qpU j) Chroma w (list vertical) (list horizontal) (p .u);
         v = finished m (j .strengths) (band.qpV j) Chroma w (list vertical) (list horizontal) (p .v);
       }
-  parts-done p q words ver hor b = b .planes ∙ planes-finished m entriesIn w list (j .strengths) (band.qpY j) (band.qpU j) (band.qpV j) same-y same-u same-v p
+  parts-done p q k words ver hor nu nv b =
+      b .planes
+      ∙ by-format (j .strengths) (j .table0) (j .settings .«u_offset») (j .table1) (j .settings .«v_offset») m w list f entries refl (t .long-strengths) few p k nu nv
 
   -- ---- and what is lent, whole
 
@@ -224,15 +212,20 @@ module _ (j : band.Input) (fine : band.check j ≡ Done) (pos : 1 ≤ band.wide 
       ∙ sym (finished-none (band.mapsOf j) (j .strengths) at Chroma w (band.passEdges vertical j) (band.passEdges horizontal j))))
   colour-whole Colour at p z e l same = plane-whole Chroma at p z e l same
 
+  -- what is left of it
+  dropped : (g : Format) (a b c : ℕ) (xs : List ℕ) → c ≡ inFormat g a → length xs ≡ inFormat g b → length (drop c xs) ≡ inFormat g (b - a)
+  dropped Grey a b c xs e l = length-drop c xs ∙ omega (arith, l)
+  dropped Colour a b c xs e l = length-drop c xs ∙ (λ i. l i - e i)
+
   -- what `band_passes` leaves of the slices is what the rule says. a and c: the samples that were not handed on, of luma and of a chroma plane
   pub band-done : (a c : ℕ) → a ≡ placesOf Luma w skip → c ≡ inFormat f (placesOf Chroma w skip) → (y u v words : List ℕ) (ver hor : ℕ)
       → take a y ≡ take a (j .y) → take c u ≡ take c (j .u) → take c v ≡ take c (j .v) → take (skip * w) words ≡ take (skip * w) (j .words)
-      → BothPassesFrom m entriesIn w top (list vertical) (list horizontal)
+      → BothPassesFrom m entries w top (list vertical) (list horizontal)
       (record { y = drop a (j .y); u = drop c (j .u); v = drop c (j .v) }) (record { y = drop a y; u = drop c u; v = drop c v }) (drop (skip * w) words) ver hor
       → (record { reading = record { number = 0; vertical = ver; horizontal = hor; next = j .next + 1 }; y = y; u = u; v = v; words = words }) ≡ band.outcome j
   band-done a c ea ec y u v words ver hor ty tu tv tw b =
       let same = maps-same (t .long-words) (t .long-motion) (t .long-refs) (t .long-keep) in
-      let done = parts-done _ _ _ _ _ b in
+      let done = parts-done _ _ _ _ _ _ (dropped f _ _ c (j .u) ec (t .long-u)) (dropped f _ _ c (j .v) ec (t .long-v)) b in
       let split : (a : ℕ) (l : List ℕ) → l ≡ take a l ++ drop a l = λ a l. sym (take-append-drop a l) in
       let ey = split a y ∙ ap₂ _++_ ty (ap (λ (q : Planes). q .y) done) ∙ plane-whole Luma (band.qpY j) (j .y) a ea (t .long-y) same in
       let eu = split c u ∙ ap₂ _++_ tu (ap (λ (q : Planes). q .u) done) ∙ colour-whole f (band.qpU j) (j .u) c ec (t .long-u) same in
@@ -344,7 +337,7 @@ module _ (j : band.Input) (fine : band.check j ≡ Done) (pos : 1 ≤ band.wide 
         within : (a b : ℕ) {c : ℕ} → a + b ≡ c → a ≤ c
         within a b e = omega arith
 
-    pub done-by : {l : List ℕ} → l ≡ entriesIn → (y u v words : List ℕ) (ver hor : ℕ)
+    pub done-by : {l : List ℕ} → l ≡ entries → (y u v words : List ℕ) (ver hor : ℕ)
         → (take (16 * (s * w)) y ≡ take (16 * (s * w)) (j .y)) × (take (inFormat f (4 * (s * w))) u ≡ take (inFormat f (4 * (s * w))) (j .u))
         × (take (inFormat f (4 * (s * w))) v ≡ take (inFormat f (4 * (s * w))) (j .v)) × (take (s * w) words ≡ take (s * w) (j .words))
         × BothPassesFrom

@@ -1,8 +1,8 @@
--- The call: what its checks tell of the picture, the strengths in the words of the rule, and its outcome.
+-- The call: what its checks tell of the picture, and its outcome.
 -- Assumes nothing.
 use Prim.Native.Nat.{ℕ, _*_, _/_, _≤_}
 use mathlib.Core.Path.{_≡_, sym, ap, _∙_}
-use mathlib.Core.List.{List, List·Memᴰ}
+use mathlib.Core.List.{List}
 use native.Mathlib.Nat.{mul-comm}
 use native.Mathlib.Omega.{arith}
 use lib.ListN.{length}
@@ -12,23 +12,15 @@ use Rattle.def.specs.declared.Answer.{Answer}
 use Rattle.def.specs.declared.Answer.the-variants.{Done as Fine, Refused as Bad}
 use Rattle.def.specs.declared.Refusal.{Refusal}
 use Rattle.def.proofs.Sizes.{Sized, sized}
-use Rattle.split.specs.Edges.{Pass, vertical, horizontal, Edge}
-use Rattle.strength.specs.Entries.{entriesOf}
-use Rattle.strength.proofs.Strengths.{luma-entry, u-entry, v-entry}
+use Rattle.split.specs.Edges.{vertical, horizontal}
 use Rattle.df_check.proofs.Passed.{Passed, passed}
-use Rattle.df_rules.specs.Filter.{Planes, inY, inU, inV, filterAll}
+use Rattle.df_rules.specs.Filter.{Planes}
 use Rattle.df_rules.specs.Lent.{LentPicture, BothPasses}
 use Rattle.split.specs.Accepted.{Accepted}
-use Rattle.df_rules.specs.Places.{unitQ, unitP}
-use Rattle.df_rules.specs.Strength.{rowAt, qpAt, strengthOf, strength}
-use Rattle.df_rules.proofs.Planes.{planes-finished}
-use Rattle.df_rules.proofs.Strengths.{row-few}
-use Rattle.df.specs.Deblock.{Input, readingOf, checked, check, passEdges, qpY, qpU, qpV, mapsOf, outcome}
+use Rattle.df.specs.Deblock.{Input, readingOf, checked, check, passEdges, mapsOf, outcome}
+use Rattle.df.specs.Plan.{entriesIn}
 use Rattle.df.specs.declared.Deblocked.the-variants.{Done, Refused}
-
--- the strength entries
-abbrev pub entriesIn : Input → List ℕ
-entriesIn i = entriesOf (i .strengths) (i .table0) (i .settings .«u_offset») (i .table1) (i .settings .«v_offset»)
+use Rattle.df.proofs.Entries.{by-format}
 
 module _ (i : Input) (fine : check i ≡ Fine) where
   abbrev told : Passed (checked i)
@@ -72,41 +64,18 @@ module _ (i : Input) (fine : check i ≡ Fine) where
         all-v = told .v;
       }
 
-  -- ---- the strengths of an edge that a pass lists, by the entries and by the rule
-
-  module _ (d : Pass) (e : Edge) (m : List·Memᴰ e (passEdges d i)) where
-    abbrev q : ℕ
-    q = unitQ (i .w / 4) e
-
-    abbrev p : ℕ
-    p = unitP d (i .w / 4) e
-
-    few : qpAt (mapsOf i) q ≤ 51
-    few = told .qp q
-
-    same-y : strength (mapsOf i) (entriesIn i) inY d (i .w / 4) e ≡ strength (mapsOf i) (i .strengths) (qpY i) d (i .w / 4) e
-    unfolding strengthOf
-    same-y = ap (λ (n : ℕ). 4 * n) (luma-entry _ _ _ _ _ (rowAt (mapsOf i) q p) (qpAt (mapsOf i) q) (row-few (mapsOf i) q p) few)
-
-    same-u : strength (mapsOf i) (entriesIn i) inU d (i .w / 4) e ≡ strength (mapsOf i) (i .strengths) (qpU i) d (i .w / 4) e
-    unfolding strengthOf
-    same-u = ap (λ (n : ℕ). 4 * n) (u-entry _ _ _ _ _ (rowAt (mapsOf i) q p) (qpAt (mapsOf i) q) (row-few (mapsOf i) q p) few)
-
-    same-v : strength (mapsOf i) (entriesIn i) inV d (i .w / 4) e ≡ strength (mapsOf i) (i .strengths) (qpV i) d (i .w / 4) e
-    unfolding strengthOf
-    same-v = ap (λ (n : ℕ). 4 * n) (v-entry _ _ _ _ _ (rowAt (mapsOf i) q p) (qpAt (mapsOf i) q) (row-few (mapsOf i) q p) few)
-
   -- ---- the outcome
 
-  pub deblock-done : (t : List ℕ) (y u v words : List ℕ) (m n : ℕ) → t ≡ entriesIn i
+  pub deblock-done : (t : List ℕ) (y u v words : List ℕ) (m n : ℕ)
+      → t ≡ entriesIn (i .settings .format) (i .strengths) (i .table0) (i .settings .«u_offset») (i .table1) (i .settings .«v_offset»)
       → BothPasses (mapsOf i) t (i .w / 4) (passEdges vertical i) (passEdges horizontal i) (record { y = i .y; u = i .u; v = i .v }) (record { y = y; u = u; v = v }) words m n
       → (record { reading = readingOf (Done m n); y = y; u = u; v = v; words = words }) ≡ outcome i
   unfolding outcome
   deblock-done t y u v words m n e b =
       let start : Planes = record { y = i .y; u = i .u; v = i .v } in
       let planes = b .planes
-      ∙ (λ k. filterAll (mapsOf i) (e k) horizontal (i .w / 4) (passEdges horizontal i) (filterAll (mapsOf i) (e k) vertical (i .w / 4) (passEdges vertical i) start))
-      ∙ planes-finished (mapsOf i) (entriesIn i) (i .w / 4) (λ d. passEdges d i) (i .strengths) (qpY i) (qpU i) (qpV i) same-y same-u same-v start in
+      ∙ by-format (i .strengths) (i .table0) (i .settings .«u_offset») (i .table1) (i .settings .«v_offset») (mapsOf i) (i .w / 4) (λ d. passEdges d i)
+      (i .settings .format) t e (told .lengths .strengths) (told .qp) start (chromaLength (i .w) (i .h)) (told .lengths .u) (told .lengths .v) in
       rw fine
       (λ k. record {
         reading = readingOf (Done (b .ups-counted k) (b .levels-counted k));

@@ -2,6 +2,7 @@ pub mod BandCalls
 pub mod ByRows
 pub mod Calls
 pub mod Edges
+pub mod Entries
 pub mod Lanes
 pub mod Lengths
 pub mod Listed

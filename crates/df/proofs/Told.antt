@@ -56,6 +56,7 @@ pub record Told (j : band.Input) : Type 0 where
   pub long-motion : length (j .motion) ≡ 4 * ((band.top j + band.rows j) * band.wide j)
   pub long-refs : length (j .refs) ≡ 2 * ((band.top j + band.rows j) * band.wide j)
   pub long-keep : length (j .keep) ≡ (band.top j + band.rows j) * band.wide j
+  pub long-strengths : length (j .strengths) ≡ 208
   pub walk : pictureWalk (j .splits) (band.wide j) (band.rows j) .answer ≡ Done
   pub marks : keepOk (band.checkedMarks j) ≡ true
   pub qps : qpsOk (band.checkedWords j) ≡ true
@@ -93,6 +94,7 @@ told j e =
       long-motion = n .motion ∙ ap (λ (k : ℕ). 4 * k) (unit-places (j .w) r whole);
       long-refs = n .refs ∙ ap (λ (k : ℕ). 2 * k) (unit-places (j .w) r whole);
       long-keep = n .keep ∙ unit-places (j .w) r whole;
+      long-strengths = n .strengths;
       walk = ap (λ (k : ℕ). pictureWalk (j .splits) (band.wide j) k .answer) (sym units) ∙ rest .walk;
       marks = ap (λ (k : ℕ). keepOk (drop k (j .keep))) (sym (unit-places (j .w) (band.unchecked j) whole)) ∙ rest .marks;
       qps = ap (λ (k : ℕ). qpsOk (drop k (j .words))) (sym (unit-places (j .w) (band.unchecked j) whole)) ∙ rest .qps;

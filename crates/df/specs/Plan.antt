@@ -4,14 +4,16 @@ use Prim.Native.Nat.{ℕ, zero, suc, _+_, _*_, _/_, _%_, _≤_, _<_}
 use mathlib.Core.Bool.{Bool, true}
 use mathlib.Core.List.{List, [], _∷_, _++_, map}
 use mathlib.Core.Path.{_≡_}
-use lib.Dec.{eqb}
+use lib.Dec.{eqb, ltb}
 use lib.IntN.{ℤ}
 use lib.ListN.{length, getD}
 use Rattle.laws.specs.Bits.{fieldOf}
+use Rattle.laws.specs.Index.{pick, tabulate}
 use Rattle.def.specs.Formats.{inFormat}
 use Rattle.def.specs.Word.{qpOf}
 use Rattle.def.specs.declared.Component.{Component}
 use Rattle.def.specs.declared.Format.{Format}
+use Rattle.def.specs.declared.Format.the-variants.{Grey, Colour}
 use Rattle.line.specs.declared.Mask.{Mask}
 use Rattle.line.specs.Line.{maskOf}
 use Rattle.split.specs.Edges.{Pass, Edge, edge, edgesOf}
@@ -22,6 +24,7 @@ use Rattle.df_rules.specs.Lent.{Unit, Marked, AtUnit}
 use Rattle.df_rules.specs.Places.{stepAcross, unitQ, unitP}
 use Rattle.df_rules.specs.Strength.{Over, Maps, rowBy}
 use Rattle.df_rules.specs.Window.{Samples}
+use Rattle.strength.specs.Entries.{entriesOf}
 use Rattle.rows.specs.Rule.{hasSide, firstBit, ruleByte}
 use Rattle.split.specs.RootCall.{leafDown}
 
@@ -42,6 +45,18 @@ placeBy words motion refs q p = 52 * rowBy words motion refs q p + qpOf (getD wo
 
 abbrev pub placeAt : Maps → Pass → (w : ℕ) → Edge → ℕ
 placeAt m d w e = placeBy (m .words) (m .over .motion) (m .over .refs) (unitQ w e) (unitP d w e)
+
+-- luma's entries alone: 0 at the places of the chroma planes
+unfoldable pub lumaAt : (strengths : List ℕ) → ℕ → ℕ
+lumaAt strengths i = pick (ltb i 208) (getD strengths i 0) 0
+
+unfoldable pub lumaEntries : (strengths : List ℕ) → List ℕ
+lumaEntries strengths = tabulate 624 (lumaAt strengths)
+
+-- the entries of a picture: those of the three planes in colour, and luma's alone in grey
+unfoldable pub entriesIn : Format → (strengths : List ℕ) → (tableU : List ℤ) → (uOffset : ℤ) → (tableV : List ℤ) → (vOffset : ℤ) → List ℕ
+entriesIn Grey strengths tableU uOffset tableV vOffset = lumaEntries strengths
+entriesIn Colour strengths tableU uOffset tableV vOffset = entriesOf strengths tableU uOffset tableV vOffset
 
 -- ---- its keep marks, as one number: P's, and twice Q's
 

@@ -6,12 +6,11 @@ ghost use lib.ListN.{length};
 ghost use Rattle.laws.specs.Call.{Gives};
 ghost use Rattle.split.specs.Edges.{vertical, horizontal};
 ghost use Rattle.bands_rules.specs.Bands.{listFrom, BothPassesFrom};
-ghost use Rattle.strength.specs.Entries.{entriesOf};
 ghost use Rattle.df_rules.specs.Lent.{LentPicture};
 ghost use Rattle.split.specs.Accepted.{Accepted};
 ghost use Rattle.df_rules.specs.Visit.{allDone};
 ghost use Rattle.df.specs.Deblock as Deblock;
-ghost use Rattle.df.specs.Plan.{RowsLent};
+ghost use Rattle.df.specs.Plan.{RowsLent, lumaEntries, entriesIn};
 use crate::pass::deblock_pass;
 use crate::place::Pass;
 use def::Format;
@@ -38,11 +37,33 @@ pub enum Deblocked {
     Refused(Refusal),
 }
 
-// The strength entries of both passes, at the settings' offsets.
-pub(crate) fn entries_by(s: Settings, strengths: &[u8], table0: &[i8], table1: &[i8]) -> [u8; 624]
-    ensures { λ r. ⌜ r ≡ entriesOf (now (strengths .entry)) (now (table0 .entry)) (s .«u_offset») (now (table1 .entry)) (s .«v_offset») ⌝ }
+// Luma's entries alone, at 52 * row + QP; 0 at the places of the chroma planes.
+fn luma_entries(strengths: &[u8]) -> [u8; 624]
+    ensures { λ r. ⌜ r ≡ lumaEntries (now (strengths .entry)) ⌝ }
 {
-    entries(strengths, table0, s.u_offset, table1, s.v_offset)
+    let mut list = [0u8; 624];
+    let n = if strengths.len() < 208 {
+        strengths.len()
+    } else {
+        208
+    };
+    let mut i = 0;
+    while i < n {
+        list[i] = strengths[i];
+        i += 1;
+    }
+    list
+}
+
+// The strength entries of both passes, at the settings' offsets. In a grey picture no chroma entry is read.
+pub(crate) fn entries_by(s: Settings, strengths: &[u8], table0: &[i8], table1: &[i8]) -> [u8; 624]
+    ensures { λ r. ⌜ r ≡ entriesIn (s .format) (now (strengths .entry)) (now (table0 .entry)) (s .«u_offset») (now (table1 .entry)) (s .«v_offset») ⌝ }
+{
+    let format = s.format;
+    match format {
+        Format::Grey => luma_entries(strengths),
+        Format::Colour => entries(strengths, table0, s.u_offset, table1, s.v_offset),
+    }
 }
 
 // Sets done in every unit.

@@ -4,11 +4,11 @@ use borrow.Author.Needs.{needs}
 use denote.Ref.{now}
 use lib.ListN.{length}
 use Rattle.def.specs.declared.Answer.the-variants.{Done}
-use Rattle.strength.proofs.Strengths.{entries-long}
 use Rattle.bands_rules.proofs.Whole.{both-zero, lent-zero}
 use Rattle.df.specs.ByRows.{Input, check}
 use Rattle.df.proofs.ByRows.{by-refused, picture-fine, rows-lent, same-outcome}
 use Rattle.df.proofs.Calls.{accepted, lent-picture, deblock-done}
+use Rattle.df.proofs.Entries.{entries-long}
 use Rattle.df.proofs.by_rows.deblock_by_rows.Statement.{statement}
 use Rattle.df.proofs.by_rows.deblock_by_rows.Tie as tie
 
@@ -51,13 +51,14 @@ passes-by-requires c κs =
     let i = of (c .before .before .before .before .before .before .before .before .before .before .before .before .before .before .before .before .before .before .before .before .before .before) in
     let e = fine (c .before .before .before .before .before .before .before) in
     let f = picture-fine i e in
-    (lent-zero (lent-picture (i .given) f _ (ap length (c .before .before .before .before .before .before .entries-by .ensures) ∙ entries-long _ _ _ _ _)), accepted (i .given) f, rows-lent i e)
+    (lent-zero (lent-picture (i .given) f _ (ap length (c .before .before .before .before .before .before .entries-by .ensures) ∙ entries-long _ _ _ _ _ _)), accepted (i .given) f, rows-lent i e)
 
 returns-2 : tie.Need-returns-2
 unfolding of
 returns-2 c =
-    let i = of (c .before .before .before .before .before .before .before .before .before .before .before .before .before .before .before .before .before .before .before .before .before .before .before .before .before .before .before .before .before .before .before) in
-    let e = fine (c .before .before .before .before .before .before .before .before .before .before .before .before .before .before .before .before) in
+    let told = c .before .before .before .before .before .before .before .before .before .before .before .before .before .before .before .before in
+    let i = of (told .before .before .before .before .before .before .before .before .before .before .before .before .before .before .before) in
+    let e = fine told in
     deblock-done (i .given) (picture-fine i e) _ _ _ _ _ _ _
     (c .before .before .before .before .before .before .before .before .before .before .before .before .before .before .before .entries-by .ensures)
     (both-zero _ _ _ (c .before .before .before .before .before .before .before .before .passes-by .ensures))

@@ -78,22 +78,23 @@ current c = let s = c .before .before .before .before .before .before .before .b
 
 filter-luma-requires : tie.Need-filter-luma-requires Inv-loop μ-loop
 filter-luma-requires c κs =
-    let s = c .before .before .before .before .before .before .before .before .before .before .before .before .before .before .before .before .before .before .before .before .before .before .before in
-    let r = c .before .before .before .before .before .before .before .before .before .before .before .root-edges .ensures in
+    let turn = c .before .before .before .before .before .before .before .before .before .before .before in
+    let s = turn .before .before .before .before .before .before .before .before .before .before .before .before in
+    let r = turn .root-edges .ensures in
     let p = c .before .before .before .before .before .before .plan in (
-      luma-plane (current (c .before .before .before .before .before .before .before .before .before .before .before .before .before .before)),
+      luma-plane (current (turn .before .before .before)),
       record {
         long = omega (arith, r .long, r .few);
         fits = omega (
           arith,
           r .few,
-          c .before .before .before .before .before .before .before .before .before .before .before .before .before .before .loop .inv .5,
+          turn .before .before .before .loop .inv .5,
           p .kept .1 .1 .1 .1 .1 .1 .1 .1 .1 .0,
         );
         fits-marks = omega (
           arith,
           r .few,
-          c .before .before .before .before .before .before .before .before .before .before .before .before .before .before .loop .inv .6,
+          turn .before .before .before .loop .inv .6,
           p .kept .1 .1 .1 .1 .1 .1 .1 .1 .1 .1 .0,
         );
         units = r .units;
@@ -104,23 +105,24 @@ filter-luma-requires c κs =
 
 filter-colour-requires : tie.Need-filter-colour-requires Inv-loop μ-loop
 filter-colour-requires c κs =
-    let s = c .before .before .before .before .before .before .before .before .before .before .before .before .before .before .before .before .before .before .before .before .before .before .before .before .before .before .before .before .before .before .before in
-    let r = c .before .before .before .before .before .before .before .before .before .before .before .before .before .before .before .before .before .before .before .root-edges .ensures in
-    let p = c .before .before .before .before .before .before .before .before .before .before .before .before .before .before .plan in (
-      u-plane (current (c .before .before .before .before .before .before .before .before .before .before .before .before .before .before .before .before .before .before .before .before .before .before)),
-      v-plane (current (c .before .before .before .before .before .before .before .before .before .before .before .before .before .before .before .before .before .before .before .before .before .before)),
+    let turn = c .before .before .before .before .before .before .before .before .before .before .before .before .before .before in
+    let s = turn .before .before .before .before .before .before .before .before .before .before .before .before .before .before .before .before .before in
+    let r = turn .before .before .before .before .before .root-edges .ensures in
+    let p = turn .plan in (
+      u-plane (current (turn .before .before .before .before .before .before .before .before)),
+      v-plane (current (turn .before .before .before .before .before .before .before .before)),
       record {
         long = omega (arith, r .long, r .few);
         fits = omega (
           arith,
           r .few,
-          c .before .before .before .before .before .before .before .before .before .before .before .before .before .before .before .before .before .before .before .before .before .before .loop .inv .5,
+          turn .before .before .before .before .before .before .before .before .loop .inv .5,
           p .kept .1 .1 .1 .1 .1 .1 .1 .1 .1 .0,
         );
         fits-marks = omega (
           arith,
           r .few,
-          c .before .before .before .before .before .before .before .before .before .before .before .before .before .before .before .before .before .before .before .before .before .before .loop .inv .6,
+          turn .before .before .before .before .before .before .before .before .loop .inv .6,
           p .kept .1 .1 .1 .1 .1 .1 .1 .1 .1 .1 .0,
         );
         units = r .units;
@@ -130,37 +132,48 @@ filter-colour-requires c κs =
     )
 
 add-count : tie.Need-add-count Inv-loop μ-loop
-add-count c = omega (
-  arith,
-  few (c .before .before .before .before .before .before .before .before .before .before .before .before .before .before .before .before .before .before .before .before .before .before .before .before .before .before .before .before .before .before .before .before .before .before .before .before),
-  c .before .before .before .before .before .before .before .before .before .before .before .before .before .before .before .before .before .before .before .before .before .before .before .before .before .before .before .loop .inv .7 .few,
-  c .before .before .before .before .before .before .before .before .before .before .before .before .before .before .before .before .before .before .before .before .before .before .before .before .before .before .before .loop .inv .0,
-  c .before .before .before .before .before .before .before .before .before .before .before .before .before .before .before .before .before .before .before .before .before .before .before .before .root-edges .ensures .few,
-)
+add-count c =
+    let after = c .before .before .before .before .before .before .before .before .before .before .before .before in
+    let turn = after .before .before .before .before .before .before .before .before .before .before .before .before in
+    omega (
+      arith,
+      few (turn .before .before .before .before .before .before .before .before .before .before .before .before),
+      turn .before .before .before .loop .inv .7 .few,
+      turn .before .before .before .loop .inv .0,
+      turn .root-edges .ensures .few,
+    )
 
 add-i : tie.Need-add-i Inv-loop μ-loop
-add-i c = omega (
-  arith,
-  few (c .before .before .before .before .before .before .before .before .before .before .before .before .before .before .before .before .before .before .before .before .before .before .before .before .before .before .before .before .before .before .before .before .before .before .before .before),
-  c .before .before .before .before .before .before .before .before .before .before .before .before .before .before .before .before .before .before .before .before .before .before .before .before .before .before .loop-test .taken,
-)
+add-i c =
+    let after = c .before .before .before .before .before .before .before .before .before .before .before .before in
+    let turn = after .before .before .before .before .before .before .before .before .before .before .before .before .before .before in
+    omega (
+      arith,
+      few (turn .before .before .before .before .before .before .before .before .before .before),
+      turn .loop-test .taken,
+    )
 
 loop-less : tie.Need-loop-less Inv-loop μ-loop
-loop-less c = omega (
-  arith,
-  c .before .before .before .before .before .before .before .before .before .before .before .before .before .before .before .before .before .before .before .before .before .before .before .before .before .before .loop-test .taken,
-)
+loop-less c =
+    let after = c .before .before .before .before .before .before .before .before .before .before .before .before in
+    let turn = after .before .before .before .before .before .before .before .before .before .before .before .before .before .before in
+    omega (
+      arith,
+      turn .loop-test .taken,
+    )
 
 loop-again : tie.Need-loop-again Inv-loop μ-loop
 loop-again c =
-    let s = c .before .before .before .before .before .before .before .before .before .before .before .before .before .before .before .before .before .before .before .before .before .before .before .before .before .before .before .before .before .before .before .before .before .before .before .before in
-    let l = c .before .before .before .before .before .before .before .before .before .before .before .before .before .before .before .before .before .before .before .before .before .before .before .before .before .before .before .loop in
-    let ky = c .before .before .before .before .before .before .before .before .before .before .before .before .filter-luma .kept in
+    let turn = c .before .before .before .before .before .before .before .before .before .before .before .before in
+    let top = turn .before .before .before .before .before .before .before .before .before .before .before .before .before .before .before in
+    let s = top .before .before .before .before .before .before .before .before .before in
+    let l = turn .before .before .before .before .before .before .before .before .before .before .before .before .before .before .before .loop in
+    let ky = turn .filter-luma .kept in
     let k = c .before .before .before .before .filter-colour .kept in
-    let r = c .before .before .before .before .before .before .before .before .before .before .before .before .before .before .before .before .before .before .before .before .before .before .before .before .root-edges .ensures in
-    let p = c .before .before .before .before .before .before .before .before .before .before .before .before .before .before .before .before .before .before .before .plan in
+    let r = turn .before .before .before .before .before .before .before .before .before .before .before .before .root-edges .ensures in
+    let p = turn .before .before .before .before .before .before .before .plan in
     let f = c .before .before .before .before .filter-colour .ensures in (
-      omega (arith, c .before .before .before .before .before .before .before .before .before .before .before .before .before .before .before .before .before .before .before .before .before .before .before .before .before .before .loop-test .taken),
+      omega (arith, turn .before .before .before .before .before .before .before .before .before .before .before .before .before .before .loop-test .taken),
       ky .1 .1 .0 ∙ l .inv .1,
       k .1 .1 .1 .0 ∙ l .inv .2,
       k .1 .1 .1 .1 .0 ∙ l .inv .3,
@@ -168,7 +181,7 @@ loop-again c =
       p .kept .1 .1 .1 .1 .1 .1 .1 .1 .1 .0 ∙ l .inv .5,
       p .kept .1 .1 .1 .1 .1 .1 .1 .1 .1 .1 .0 ∙ l .inv .6,
       roots-more _ _ (passOf (s .args .pass)) _ _ _ _ _ (l .i) _ _ _ _ _ _ _ _ _ _ (r .few) (r .same) (s .pre .0 .marks) (p .ensures) (l .inv .7)
-          (c .before .before .before .before .before .before .before .before .before .before .before .before .filter-luma .ensures) (f .0) (f .1),
+          (turn .filter-luma .ensures) (f .0) (f .1),
     )
 
 returns : tie.Need-returns Inv-loop μ-loop

@@ -9,13 +9,13 @@ use denote.Ref.{now}
 use lib.ListN.{length}
 use Rattle.def.specs.declared.Answer.the-variants.{Done}
 use Rattle.def.proofs.Sizes.{sized}
-use Rattle.strength.proofs.Strengths.{entries-long}
 use Rattle.df_check.specs.Rows.{bandRows, rowsAbove}
 use Rattle.df_check.proofs.Bands.{few-rows}
 use Rattle.split.proofs.Roots.{some-wide}
 use Rattle.df.specs.Band.{Input, check, wide}
 use Rattle.df.proofs.BandCalls.{near, band-refused, asked, done-by}
 use Rattle.df.proofs.Told.{told, next-few}
+use Rattle.df.proofs.Entries.{entries-long}
 use Rattle.df.proofs.band.Bands.deblock_band.Statement.{statement}
 use Rattle.df.proofs.band.Bands.deblock_band.Tie as tie
 
@@ -87,7 +87,7 @@ sixteenth n = omega arith
 
 -- the entries are as many as the passes ask for
 long : (c : tie.After-entries-by) → length (c .entries-by .result) ≡ 624
-long c = ap length (c .entries-by .ensures) ∙ entries-long _ _ _ _ _
+long c = ap length (c .entries-by .ensures) ∙ entries-long _ _ _ _ _ _
 
 band-passes-requires : tie.Need-band-passes-requires
 unfolding inputOf
