@@ -1,11 +1,10 @@
 -- Units of the maps: what the test tells, and what `row_at` answers by it; and two units that move alike.
 --     unit-there, in-maps    the test passes exactly where the maps hold the unit
---     none-there, both-there    the answer, by what the test of the later of the two found
+--     none-q, none-p, both-there    the answer, by what the two tests found
 --     row-in    of two units of the maps it is the rule's
 --     alike    the same references and motion, and so row 3 by motion
 -- Assumes nothing.
-use Prim.Native.Nat.{ℕ, _+_, _*_, _/_, _≤_, _<_}
-use mathlib.Core.Logic.{_⊎_, inl, inr}
+use Prim.Native.Nat.{ℕ, _+_, _*_, _/_, _<_}
 use mathlib.Core.Path.{_≡_, sym, ap, _∙_}
 use mathlib.Core.Bool.{Bool, true, false}
 use mathlib.Core.List.{List, [], _∷_}
@@ -39,26 +38,23 @@ module _ (words : List ℕ) (motion refs : List ℤ) where
       let c : k < length refs / 2 = omega (arith, u .refi) in
       rw (lt-ltb k (length words) (u .word), lt-ltb k (length motion / 4) b, lt-ltb k (length refs / 2) c)
 
-  -- a unit before one of the maps is one of them
-  before : (j k : ℕ) → j ≤ k → There words motion refs k → There words motion refs j
-  before j k h u = record { word = omega (arith, u .word); mv = omega (arith, u .mv); refi = omega (arith, u .refi) }
-
   module _ (q p : ℕ) where
-    -- k is the later of the two: it is no unit, or both are
-    pub none-there : (k : ℕ) → (k ≡ q) ⊎ (k ≡ p) → inMaps (length words) (length motion) (length refs) k ≡ false → 0 ≡ rowIn words motion refs q p
+    pub none-q : inMaps (length words) (length motion) (length refs) q ≡ false → 0 ≡ rowIn words motion refs q p
     unfolding rowIn
-    none-there k (inl same) e = rw (ap (inMaps (length words) (length motion) (length refs)) (sym same) ∙ e)
-    none-there k (inr same) e =
-        let there = inMaps (length words) (length motion) (length refs) in
-        rw (and-false (there q) (there p) (ap there (sym same) ∙ e))
+    none-q e = rw e
 
-    pub both-there : (k : ℕ) → q ≤ k → p ≤ k → inMaps (length words) (length motion) (length refs) k ≡ true → There words motion refs q × There words motion refs p
-    both-there k a b e = let u = unit-there k e in (before q k a u, before p k b u)
+    pub none-p : inMaps (length words) (length motion) (length refs) p ≡ false → 0 ≡ rowIn words motion refs q p
+    unfolding rowIn
+    none-p e = rw (and-false (inMaps (length words) (length motion) (length refs) q) (inMaps (length words) (length motion) (length refs) p) e)
+
+    pub both-there : inMaps (length words) (length motion) (length refs) q ≡ true → inMaps (length words) (length motion) (length refs) p ≡ true
+        → rowBy words motion refs q p ≡ rowIn words motion refs q p
+    unfolding rowIn
+    both-there e f = rw (e, f)
 
     -- of two units of the maps it is the rule's
     pub row-in : There words motion refs q → There words motion refs p → rowIn words motion refs q p ≡ rowBy words motion refs q p
-    unfolding rowIn
-    row-in a b = rw (in-maps q a, in-maps p b)
+    row-in a b = sym (both-there (in-maps q a) (in-maps p b))
 
 pub alike : (motion refs : List ℤ) (q p : ℕ) (r m : Bool) → r ≡ sameRefs refs q p → r ≡ true → m ≡ sameMotion motion q p → m ≡ true
     → 3 ≡ motionRow (motionAt motion refs q) (motionAt motion refs p)

@@ -1,6 +1,5 @@
 // The strength row of the edge between two units of a picture's maps.
 // The Rust beside it: df.rs, evc_get_tbl_qp_to_st.
-ghost use mathlib.Core.Logic.{_⊎_};
 ghost use mathlib.Core.Path.{_≡_};
 ghost use Prim.Native.Nat.{_+_, _*_, _≤_};
 ghost use lib.ListN.{length};
@@ -101,18 +100,14 @@ fn row_between(words: &[u32], motion: &[i16], refs: &[i8], q: usize, p: usize) -
     by_motion(motion, refs, q, p)
 }
 
-fn larger(a: usize, b: usize) -> usize
-    ensures { λ r. ⌜ (a ≤ r) × (b ≤ r) × ((r ≡ a) ⊎ (r ≡ b)) ⌝ }
-{
-    if a < b { b } else { a }
-}
-
 // The same for any two numbers: 0 where one of them is no unit of the maps.
 pub fn row_at(words: &[u32], motion: &[i16], refs: &[i8], q: usize, p: usize) -> usize
     ensures { λ r. ⌜ (r ≡ rowIn (now (words .entry)) (now (motion .entry)) (now (refs .entry)) q p) × (r ≤ 3) ⌝ }
 {
-    let last = larger(q, p);
-    if !in_maps(words.len(), motion.len(), refs.len(), last) {
+    if !in_maps(words.len(), motion.len(), refs.len(), q) {
+        return 0;
+    }
+    if !in_maps(words.len(), motion.len(), refs.len(), p) {
         return 0;
     }
     row_between(words, motion, refs, q, p)
