@@ -1,8 +1,16 @@
-// What the programs that replay recorded cases share: the file with the cases, and answers printed, each number after a space.
+// What the programs that replay recorded cases share: the file with the cases, the step from one to the next, and answers printed, each number after a
+// space.
 // No contract can say what is read or written: what stands here is proved safe, and that a lent slice is only read.
 ghost use mathlib.Core.Path.{_≡_};
-ghost use Prim.Native.Nat.{_≤_};
+ghost use Prim.Native.Nat.{_-_, _≤_};
 ghost use lib.ListN.{length};
+
+// Room for the largest file of cases. A call keeps the checker from looking into the array.
+pub fn room() -> [u8; 6000000]
+    ensures { λ _. ⌜ Unit {0} ⌝ }
+{
+    [0u8; 6000000]
+}
 
 // Reads the file of cases into room, and answers how many bytes there were.
 pub fn load(room: &mut [u8]) -> usize
@@ -16,6 +24,20 @@ pub fn load(room: &mut [u8]) -> usize
     let n = io::read_full(file, room);
     libc::close(file);
     n
+}
+
+// Where the case after one starts that stands at `at` and ends at `end`, past the newline between them; or the end of all, where none follows. Fewer bytes
+// are left from there than from `at`, or none.
+pub fn after(s: &[u8], at: usize, end: usize) -> usize
+    ensures { λ r. ⌜ length (now (s .entry)) - r ≤ (length (now (s .entry)) - at) - 1 ⌝ }
+{
+    if end < at {
+        return s.len();
+    }
+    if s.len() <= end {
+        return s.len();
+    }
+    end + 1
 }
 
 // The first number of an answer's line.
