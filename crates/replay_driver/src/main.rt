@@ -22,14 +22,24 @@ fn one(s: &[u8], at: usize) -> usize {
     predictions(
         s,
         pr.next,
-        w.size,
-        h.size,
-        format,
-        constrained.size == 1,
+        Head {
+            w: w.size,
+            h: h.size,
+            format,
+            constrained: constrained.size == 1,
+        },
         &splits[..ns],
         &leaves[..nl],
         &residual[..nr],
     )
+}
+
+// What a call names beside its slices.
+struct Head {
+    w: usize,
+    h: usize,
+    format: Format,
+    constrained: bool,
 }
 
 fn format_of(colour: bool) -> Format {
@@ -40,10 +50,7 @@ fn format_of(colour: bool) -> Format {
 fn predictions(
     s: &[u8],
     at: usize,
-    w: usize,
-    h: usize,
-    format: Format,
-    constrained: bool,
+    head: Head,
     splits: &[u8],
     leaves: &[u8],
     residual: &[i16],
@@ -60,10 +67,7 @@ fn predictions(
     planes(
         s,
         pv.next,
-        w,
-        h,
-        format,
-        constrained,
+        head,
         splits,
         leaves,
         residual,
@@ -73,14 +77,11 @@ fn predictions(
     )
 }
 
-// Then the planes, and the unit words, the modes and the keep bytes last.
+// Then the planes.
 fn planes(
     s: &[u8],
     at: usize,
-    w: usize,
-    h: usize,
-    format: Format,
-    constrained: bool,
+    head: Head,
     splits: &[u8],
     leaves: &[u8],
     residual: &[i16],
@@ -94,23 +95,13 @@ fn planes(
     let pu = cases::slice_u16(s, py.next, &mut u);
     let mut v = [0u16; 5000];
     let pv = cases::slice_u16(s, pu.next, &mut v);
-    let mut words = [0u32; 1300];
-    let pw = cases::slice_u32(s, pv.next, &mut words);
-    let mut modes = [0u8; 1300];
-    let pm = cases::slice_u8(s, pw.next, &mut modes);
-    let mut keep = [0u8; 1300];
-    let pk = cases::slice_u8(s, pm.next, &mut keep);
     let ny = py.len;
     let nu = pu.len;
     let nv = pv.len;
-    let nw = pw.len;
-    let nm = pm.len;
-    let nk = pk.len;
-    reconstructed(
-        w,
-        h,
-        format,
-        constrained,
+    maps(
+        s,
+        pv.next,
+        head,
         splits,
         leaves,
         residual,
@@ -120,6 +111,44 @@ fn planes(
         &mut y[..ny],
         &mut u[..nu],
         &mut v[..nv],
+    )
+}
+
+// The unit words, the modes and the keep bytes come last, and the call is made.
+fn maps(
+    s: &[u8],
+    at: usize,
+    head: Head,
+    splits: &[u8],
+    leaves: &[u8],
+    residual: &[i16],
+    pred_y: &[u16],
+    pred_u: &[u16],
+    pred_v: &[u16],
+    y: &mut [u16],
+    u: &mut [u16],
+    v: &mut [u16],
+) -> usize {
+    let mut words = [0u32; 1300];
+    let pw = cases::slice_u32(s, at, &mut words);
+    let mut modes = [0u8; 1300];
+    let pm = cases::slice_u8(s, pw.next, &mut modes);
+    let mut keep = [0u8; 1300];
+    let pk = cases::slice_u8(s, pm.next, &mut keep);
+    let nw = pw.len;
+    let nm = pm.len;
+    let nk = pk.len;
+    reconstructed(
+        head,
+        splits,
+        leaves,
+        residual,
+        pred_y,
+        pred_u,
+        pred_v,
+        y,
+        u,
+        v,
         &mut words[..nw],
         &mut modes[..nm],
         &mut keep[..nk],
@@ -128,10 +157,7 @@ fn planes(
 }
 
 fn reconstructed(
-    w: usize,
-    h: usize,
-    format: Format,
-    constrained: bool,
+    head: Head,
     splits: &[u8],
     leaves: &[u8],
     residual: &[i16],
@@ -145,9 +171,10 @@ fn reconstructed(
     modes: &mut [u8],
     keep: &mut [u8],
 ) {
+    let format = head.format;
     let answer = driver::reconstruct(
-        w,
-        h,
+        head.w,
+        head.h,
         format,
         splits,
         leaves,
@@ -155,7 +182,7 @@ fn reconstructed(
         pred_y,
         pred_u,
         pred_v,
-        constrained,
+        head.constrained,
         &mut *y,
         &mut *u,
         &mut *v,
@@ -164,6 +191,11 @@ fn reconstructed(
         &mut *keep,
     );
     replay::print_first(def::answer_number(answer));
+    print(y, u, v, words, modes, keep);
+}
+
+// What the call may have written.
+fn print(y: &[u16], u: &[u16], v: &[u16], words: &[u32], modes: &[u8], keep: &[u8]) {
     replay::print_u16(y);
     replay::print_u16(u);
     replay::print_u16(v);
@@ -173,28 +205,17 @@ fn reconstructed(
     replay::print_end();
 }
 
-// Every case in turn: a newline ends each.
+// Every case in turn.
 fn every(s: &[u8]) {
     let mut at = 0;
     while at < s.len() {
-        let next = one(s, at);
-        if next < at {
-            return;
-        }
-        if s.len() <= next {
-            return;
-        }
-        at = next + 1;
+        let end = one(s, at);
+        at = replay::after(s, at, end);
     }
 }
 
-// A call keeps the checker from looking into the array.
-fn room() -> [u8; 6000000] {
-    [0u8; 6000000]
-}
-
 fn main() {
-    let mut all = room();
+    let mut all = replay::room();
     let n = replay::load(&mut all);
     every(&all[..n]);
 }
