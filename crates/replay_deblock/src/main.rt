@@ -23,8 +23,10 @@ fn one(s: &[u8], at: usize) -> usize {
     maps(
         s,
         pw.next,
-        w.size,
-        h.size,
+        Size {
+            w: w.size,
+            h: h.size,
+        },
         &mut y[..ny],
         &mut u[..nu],
         &mut v[..nv],
@@ -32,12 +34,17 @@ fn one(s: &[u8], at: usize) -> usize {
     )
 }
 
+// The picture's sides.
+struct Size {
+    w: usize,
+    h: usize,
+}
+
 // Then what lies over the picture: its split bytes, its motion, its references and its keep marks.
 fn maps(
     s: &[u8],
     at: usize,
-    w: usize,
-    h: usize,
+    size: Size,
     y: &mut [u16],
     u: &mut [u16],
     v: &mut [u16],
@@ -58,8 +65,7 @@ fn maps(
     tables(
         s,
         pk.next,
-        w,
-        h,
+        size,
         y,
         u,
         v,
@@ -75,8 +81,7 @@ fn maps(
 fn tables(
     s: &[u8],
     at: usize,
-    w: usize,
-    h: usize,
+    size: Size,
     y: &mut [u16],
     u: &mut [u16],
     v: &mut [u16],
@@ -98,8 +103,7 @@ fn tables(
     deblocked(
         s,
         ps.next,
-        w,
-        h,
+        size,
         y,
         u,
         v,
@@ -118,8 +122,7 @@ fn tables(
 fn deblocked(
     s: &[u8],
     at: usize,
-    w: usize,
-    h: usize,
+    size: Size,
     y: &mut [u16],
     u: &mut [u16],
     v: &mut [u16],
@@ -138,8 +141,7 @@ fn deblocked(
         return by_rows(
             s,
             lent.next,
-            w,
-            h,
+            size,
             y,
             u,
             v,
@@ -155,8 +157,8 @@ fn deblocked(
         );
     }
     let answer = df::deblock(
-        w,
-        h,
+        size.w,
+        size.h,
         &mut *y,
         &mut *u,
         &mut *v,
@@ -178,8 +180,7 @@ fn deblocked(
 fn by_rows(
     s: &[u8],
     at: usize,
-    w: usize,
-    h: usize,
+    size: Size,
     y: &mut [u16],
     u: &mut [u16],
     v: &mut [u16],
@@ -197,8 +198,8 @@ fn by_rows(
     let p = cases::slice_u8(s, at, &mut rows);
     let n = p.len;
     let answer = df::deblock_by_rows(
-        w,
-        h,
+        size.w,
+        size.h,
         &mut *y,
         &mut *u,
         &mut *v,
@@ -275,28 +276,17 @@ fn print(answer: Deblocked, y: &[u16], u: &[u16], v: &[u16], words: &[u32]) {
     replay::print_end();
 }
 
-// Every case in turn: a newline ends each.
+// Every case in turn.
 fn every(s: &[u8]) {
     let mut at = 0;
     while at < s.len() {
-        let next = one(s, at);
-        if next < at {
-            return;
-        }
-        if s.len() <= next {
-            return;
-        }
-        at = next + 1;
+        let end = one(s, at);
+        at = replay::after(s, at, end);
     }
 }
 
-// A call keeps the checker from looking into the array.
-fn room() -> [u8; 5700000] {
-    [0u8; 5700000]
-}
-
 fn main() {
-    let mut all = room();
+    let mut all = replay::room();
     let n = replay::load(&mut all);
     every(&all[..n]);
 }
