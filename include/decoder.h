@@ -40,8 +40,8 @@
  * read_frame and import_frame are not told a format: a stream's frame has colour. get_nbr and recon_plane take one component, of which a grey
  * picture has luma. All else is lent alike in both formats:
  *
- *   words, map_scu          (w/4)*(h/4), a word a unit of 4x4 luma samples, row by row: bit 15 intra, 16..22 QP, 24 luma-coded, 31 done
- *   modes, map_ipm          (w/4)*(h/4), a byte a unit: 0 DC, 1 horizontal, 2 vertical, 3 UL, 4 UR, 255 none
+ *   words                   (w/4)*(h/4), a word a unit of 4x4 luma samples, row by row: bit 15 intra, 16..22 QP, 24 luma-coded, 31 done
+ *   modes                   (w/4)*(h/4), a byte a unit: 0 DC, 1 horizontal, 2 vertical, 3 UL, 4 UR, 255 none
  *   keep                    (w/4)*(h/4), a byte a unit: 1 where deblocking moves no sample, else 0
  *   rows                    (w/4)*(h/4), a byte a unit (fill_rows); deblock_by_rows takes 0 too, which is no map
  *   motion, refs            four numbers a unit, list 0 x, y, list 1 x, y; and two
@@ -135,22 +135,22 @@ uint8_t lomsakeun_derived_chroma_qp_mapping_tables(
 
 /* Which neighbours of the luma block of side at (x, y) are there, for intra prediction (avail): a bit a neighbour. */
 uint8_t lomsakeun_get_avail_intra(
-    size_t w, size_t h, const uint32_t *map_scu, size_t map_scu_len,
+    size_t w, size_t h, const uint32_t *words, size_t words_len,
     size_t x, size_t y, size_t side, uint8_t *neighbours);
 
 /* The same for inter prediction. */
 uint8_t lomsakeun_get_avail_inter(
-    size_t w, size_t h, const uint32_t *map_scu, size_t map_scu_len,
+    size_t w, size_t h, const uint32_t *words, size_t words_len,
     size_t x, size_t y, size_t side, uint8_t *neighbours);
 
 /* The five mode ranks for the unit of column x and row y, copied from the lent table (mpm). */
 uint8_t lomsakeun_get_mpm(
-    size_t w, size_t h, const uint32_t *map_scu, size_t map_scu_len, const uint8_t *map_ipm, size_t map_ipm_len,
+    size_t w, size_t h, const uint32_t *words, size_t words_len, const uint8_t *modes, size_t modes_len,
     const uint8_t *table, size_t table_len, size_t x, size_t y, uint8_t *ranks, size_t ranks_len);
 
 /* A block's neighbour samples: left downwards, the corner, up rightwards (nbr). The block is named in luma samples. */
 uint8_t lomsakeun_get_nbr(
-    bool chroma, size_t w, size_t h, const uint16_t *plane, size_t plane_len, const uint32_t *map_scu, size_t map_scu_len,
+    bool chroma, size_t w, size_t h, const uint16_t *plane, size_t plane_len, const uint32_t *words, size_t words_len,
     size_t x, size_t y, size_t side, bool constrained, uint16_t *run, size_t run_len);
 
 /* A block's prediction from its run (ipred): 0 DC, 1 horizontal, 2 vertical, 3 UL, 4 UR. */
@@ -209,7 +209,7 @@ uint8_t lomsakeun_reconstruct(
     const int16_t *residual, size_t residual_len, const uint16_t *pred_y, size_t pred_y_len,
     const uint16_t *pred_u, size_t pred_u_len, const uint16_t *pred_v, size_t pred_v_len, bool constrained,
     uint16_t *y, size_t y_len, uint16_t *u, size_t u_len, uint16_t *v, size_t v_len,
-    uint32_t *map_scu, size_t map_scu_len, uint8_t *modes, size_t modes_len, uint8_t *keep, size_t keep_len);
+    uint32_t *words, size_t words_len, uint8_t *modes, size_t modes_len, uint8_t *keep, size_t keep_len);
 
 /* Deblocks a picture (df): its planes are filtered and done is set in every word; how many edges each pass visited.
  * keep has a mark a unit, 0 or 1: no sample of a unit marked 1 is moved, and its edges are visited and counted as any other.

@@ -21,7 +21,7 @@ pub fn get_nbr(
     w: usize,
     h: usize,
     plane: &[u16],
-    map_scu: &[u32],
+    words: &[u32],
     x: usize,
     y: usize,
     side: usize,
@@ -31,7 +31,7 @@ pub fn get_nbr(
     // Each pointer comes from a slice that lives through the call, with its own length.
     let number = unsafe {
         lend!(lomsakeun_get_nbr(
-            component == Component::Chroma, w, h, in plane, in map_scu, x, y, side, constrained, mut run
+            component == Component::Chroma, w, h, in plane, in words, x, y, side, constrained, mut run
         ))
     };
     answer(number, ())

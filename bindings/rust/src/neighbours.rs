@@ -40,20 +40,20 @@ impl Neighbours {
     }
 }
 
-/// Which neighbours of the luma block of `side` at (x, y) are there for intra prediction; `map_scu` has a word a unit.
+/// Which neighbours of the luma block of `side` at (x, y) are there for intra prediction; `words` has a word a unit.
 /// Refusals: [`Size`](Refusal::Size), [`Length`](Refusal::Length), [`Block`](Refusal::Block).
 #[inline]
 pub fn get_avail_intra(
     w: usize,
     h: usize,
-    map_scu: &[u32],
+    words: &[u32],
     x: usize,
     y: usize,
     side: usize,
 ) -> Result<Neighbours, Refusal> {
     let mut mask = 0;
     // The pointers come from a slice with its own length and from a local.
-    let number = unsafe { lend!(lomsakeun_get_avail_intra(w, h, in map_scu, x, y, side, &mut mask)) };
+    let number = unsafe { lend!(lomsakeun_get_avail_intra(w, h, in words, x, y, side, &mut mask)) };
     answer(number, Neighbours::from_mask(mask))
 }
 
@@ -62,14 +62,14 @@ pub fn get_avail_intra(
 pub fn get_avail_inter(
     w: usize,
     h: usize,
-    map_scu: &[u32],
+    words: &[u32],
     x: usize,
     y: usize,
     side: usize,
 ) -> Result<Neighbours, Refusal> {
     let mut mask = 0;
     // As above.
-    let number = unsafe { lend!(lomsakeun_get_avail_inter(w, h, in map_scu, x, y, side, &mut mask)) };
+    let number = unsafe { lend!(lomsakeun_get_avail_inter(w, h, in words, x, y, side, &mut mask)) };
     answer(number, Neighbours::from_mask(mask))
 }
 
@@ -79,14 +79,14 @@ pub fn get_avail_inter(
 pub fn get_mpm(
     w: usize,
     h: usize,
-    map_scu: &[u32],
-    map_ipm: &[u8],
+    words: &[u32],
+    modes: &[u8],
     table: &[u8],
     x: usize,
     y: usize,
 ) -> Result<[u8; 5], Refusal> {
     let mut ranks = [0; 5];
     // Each pointer comes from a slice or an array that lives through the call, with its own length.
-    let number = unsafe { lend!(lomsakeun_get_mpm(w, h, in map_scu, in map_ipm, in table, x, y, mut ranks)) };
+    let number = unsafe { lend!(lomsakeun_get_mpm(w, h, in words, in modes, in table, x, y, mut ranks)) };
     answer(number, ranks)
 }

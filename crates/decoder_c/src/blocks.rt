@@ -14,7 +14,7 @@ pub extern "C" fn lomsakeun_get_nbr(
     w: usize,
     h: usize,
     plane: &[u16],
-    map_scu: &[u32],
+    words: &[u32],
     x: usize,
     y: usize,
     side: usize,
@@ -22,7 +22,7 @@ pub extern "C" fn lomsakeun_get_nbr(
     run: &mut [u16],
 ) -> u8
     ensures { λ n. ⌜ Gives gather.outcome
-        (record { around = record { component = componentOf chroma; w = w; h = h; plane = now (plane .entry); words = now («map_scu» .entry); x = x; y = y; side = side; constrained = constrained }; run = now (run .entry) })
+        (record { around = record { component = componentOf chroma; w = w; h = h; plane = now (plane .entry); words = now (words .entry); x = x; y = y; side = side; constrained = constrained }; run = now (run .entry) })
         (record { number = n; run = now (run .exit) }) ⌝ }
 {
     def::answer_number(nbr::get_nbr(
@@ -30,7 +30,7 @@ pub extern "C" fn lomsakeun_get_nbr(
         w,
         h,
         plane,
-        map_scu,
+        words,
         Pel(x),
         Pel(y),
         side,

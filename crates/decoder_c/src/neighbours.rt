@@ -57,17 +57,17 @@ fn in_numbers(a: Avail) -> Masked
 pub extern "C" fn lomsakeun_get_avail_intra(
     w: usize,
     h: usize,
-    map_scu: &[u32],
+    words: &[u32],
     x: usize,
     y: usize,
     side: usize,
     neighbours: &mut u8,
 ) -> u8
     ensures { λ n. ⌜ Gives intraOutcome
-        (record { w = w; h = h; words = now («map_scu» .entry); x = x; y = y; side = side })
+        (record { w = w; h = h; words = now (words .entry); x = x; y = y; side = side })
         (record { number = n; neighbours = now (neighbours .exit) }) ⌝ }
 {
-    let seen = in_numbers(avail::get_avail_intra(w, h, map_scu, Pel(x), Pel(y), side));
+    let seen = in_numbers(avail::get_avail_intra(w, h, words, Pel(x), Pel(y), side));
     *neighbours = seen.mask;
     seen.number
 }
@@ -76,17 +76,17 @@ pub extern "C" fn lomsakeun_get_avail_intra(
 pub extern "C" fn lomsakeun_get_avail_inter(
     w: usize,
     h: usize,
-    map_scu: &[u32],
+    words: &[u32],
     x: usize,
     y: usize,
     side: usize,
     neighbours: &mut u8,
 ) -> u8
     ensures { λ n. ⌜ Gives interOutcome
-        (record { w = w; h = h; words = now («map_scu» .entry); x = x; y = y; side = side })
+        (record { w = w; h = h; words = now (words .entry); x = x; y = y; side = side })
         (record { number = n; neighbours = now (neighbours .exit) }) ⌝ }
 {
-    let seen = in_numbers(avail::get_avail_inter(w, h, map_scu, Pel(x), Pel(y), side));
+    let seen = in_numbers(avail::get_avail_inter(w, h, words, Pel(x), Pel(y), side));
     *neighbours = seen.mask;
     seen.number
 }
@@ -97,14 +97,14 @@ pub extern "C" fn lomsakeun_get_avail_inter(
 fn ranks_checked(
     w: usize,
     h: usize,
-    map_scu: &[u32],
-    map_ipm: &[u8],
+    words: &[u32],
+    modes: &[u8],
     table: &[u8],
     x: usize,
     y: usize,
     ranks: usize,
 ) -> Answer
-    ensures { λ r. ⌜ r ≡ ranked.checkOf (record { w = w; h = h; words = now («map_scu» .entry); modes = now («map_ipm» .entry); table = now (table .entry); x = x; y = y }) ranks ⌝ }
+    ensures { λ r. ⌜ r ≡ ranked.checkOf (record { w = w; h = h; words = now (words .entry); modes = now (modes .entry); table = now (table .entry); x = x; y = y }) ranks ⌝ }
 {
     if !def::size_ok(w, h) {
         return Answer::Refused(Refusal::Size);
@@ -112,7 +112,7 @@ fn ranks_checked(
     if ranks != 5 {
         return Answer::Refused(Refusal::Length);
     }
-    mpm::get_mpm_number(w, h, map_scu, map_ipm, table, Scu(x), Scu(y))
+    mpm::get_mpm_number(w, h, words, modes, table, Scu(x), Scu(y))
 }
 
 // A part's bytes, into a slice of its length.
@@ -132,22 +132,22 @@ fn copy(part: &[u8], out: &mut [u8])
 pub extern "C" fn lomsakeun_get_mpm(
     w: usize,
     h: usize,
-    map_scu: &[u32],
-    map_ipm: &[u8],
+    words: &[u32],
+    modes: &[u8],
     table: &[u8],
     x: usize,
     y: usize,
     ranks: &mut [u8],
 ) -> u8
     ensures { λ n. ⌜ Gives ranked.outcome
-        (record { around = record { w = w; h = h; words = now («map_scu» .entry); modes = now («map_ipm» .entry); table = now (table .entry); x = x; y = y }; ranks = now (ranks .entry) })
+        (record { around = record { w = w; h = h; words = now (words .entry); modes = now (modes .entry); table = now (table .entry); x = x; y = y }; ranks = now (ranks .entry) })
         (record { number = n; ranks = now (ranks .exit) }) ⌝ }
 {
-    match ranks_checked(w, h, map_scu, map_ipm, table, x, y, ranks.len()) {
+    match ranks_checked(w, h, words, modes, table, x, y, ranks.len()) {
         Answer::Refused(r) => def::refusal_number(r),
         Answer::Done => {
             copy(
-                mpm::get_mpm(w, h, map_scu, map_ipm, table, Scu(x), Scu(y)),
+                mpm::get_mpm(w, h, words, modes, table, Scu(x), Scu(y)),
                 ranks,
             );
             0

@@ -20,7 +20,7 @@ pub extern "C" fn lomsakeun_reconstruct(
     y: &mut [u16],
     u: &mut [u16],
     v: &mut [u16],
-    map_scu: &mut [u32],
+    words: &mut [u32],
     modes: &mut [u8],
     keep: &mut [u8],
 ) -> u8
@@ -31,11 +31,11 @@ pub extern "C" fn lomsakeun_reconstruct(
           y = now (y .entry);
           u = now (u .entry);
           v = now (v .entry);
-          words = now («map_scu» .entry);
+          words = now (words .entry);
           modes = now (modes .entry);
           keep = now (keep .entry);
         })
-        (record { number = n; y = now (y .exit); u = now (u .exit); v = now (v .exit); words = now («map_scu» .exit); modes = now (modes .exit); keep = now (keep .exit) }) ⌝ }
+        (record { number = n; y = now (y .exit); u = now (u .exit); v = now (v .exit); words = now (words .exit); modes = now (modes .exit); keep = now (keep .exit) }) ⌝ }
 {
     def::answer_number(driver::reconstruct(
         w,
@@ -51,7 +51,7 @@ pub extern "C" fn lomsakeun_reconstruct(
         y,
         u,
         v,
-        map_scu,
+        words,
         modes,
         keep,
     ))

@@ -68,16 +68,9 @@ fn copy_lent(block: Block, lent: &[u16], pred: &mut [u16])
 
 // The mode from the run of the block's neighbours, which is gathered at the start of `room`.
 // Neither call refuses: the block and the lengths are right, and what is gathered was written by this call.
-fn predict(
-    block: Block,
-    mode: u8,
-    plane: &[u16],
-    map_scu: &[u32],
-    room: &mut [u16],
-    pred: &mut [u16],
-)
-    requires { ⌜ BlockAsked (aroundBlock block (now plane) (now «map_scu»)) × (mode ≤ 4) × (length (now pred) ≡ sampleCount (block .component) (block .side)) × (length (now room) ≡ 257) ⌝ }
-    ensures { λ _. ⌜ now (pred .exit) ≡ blockOf (sideOf (block .component) (block .side)) (predicted mode (sideOf (block .component) (block .side)) (runOf (aroundBlock block (now (plane .entry)) (now («map_scu» .entry))))) ⌝ }
+fn predict(block: Block, mode: u8, plane: &[u16], words: &[u32], room: &mut [u16], pred: &mut [u16])
+    requires { ⌜ BlockAsked (aroundBlock block (now plane) (now words)) × (mode ≤ 4) × (length (now pred) ≡ sampleCount (block .component) (block .side)) × (length (now room) ≡ 257) ⌝ }
+    ensures { λ _. ⌜ now (pred .exit) ≡ blockOf (sideOf (block .component) (block .side)) (predicted mode (sideOf (block .component) (block .side)) (runOf (aroundBlock block (now (plane .entry)) (now (words .entry))))) ⌝ }
 {
     let component = block.component;
     let n = def::in_component(component, block.side);
@@ -88,7 +81,7 @@ fn predict(
         block.w,
         block.h,
         plane,
-        map_scu,
+        words,
         block.x,
         block.y,
         block.side,
@@ -106,15 +99,15 @@ fn prediction(
     kind: u8,
     lent: &[u16],
     plane: &[u16],
-    map_scu: &[u32],
+    words: &[u32],
     run: &mut [u16],
     pred: &mut [u16],
 )
-    requires { ⌜ BlockAsked (aroundBlock block (now plane) (now «map_scu»)) × LentTo block (now lent) × (length (now pred) ≡ sampleCount (block .component) (block .side)) × (length (now run) ≡ 257) ⌝ }
-    ensures { λ _. ⌜ now (pred .exit) ≡ predictionOf (aroundBlock block (now (plane .entry)) (now («map_scu» .entry))) kind (now (lent .entry)) ⌝ }
+    requires { ⌜ BlockAsked (aroundBlock block (now plane) (now words)) × LentTo block (now lent) × (length (now pred) ≡ sampleCount (block .component) (block .side)) × (length (now run) ≡ 257) ⌝ }
+    ensures { λ _. ⌜ now (pred .exit) ≡ predictionOf (aroundBlock block (now (plane .entry)) (now (words .entry))) kind (now (lent .entry)) ⌝ }
 {
     if kind <= 4 {
-        predict(block, kind, plane, map_scu, run, pred);
+        predict(block, kind, plane, words, run, pred);
         return;
     }
     copy_lent(block, lent, pred);
@@ -151,19 +144,19 @@ fn draw(
     kind: u8,
     lent: &[u16],
     coef: &[i16],
-    map_scu: &[u32],
+    words: &[u32],
     plane: &mut [u16],
     run: &mut [u16],
     room: &mut [u16],
 )
-    requires { ⌜ BlockAsked (aroundBlock block (now plane) (now «map_scu»)) × LentTo block (now lent) × (length (now coef) ≡ sampleCount (block .component) (block .side)) ⌝ }
+    requires { ⌜ BlockAsked (aroundBlock block (now plane) (now words)) × LentTo block (now lent) × (length (now coef) ≡ sampleCount (block .component) (block .side)) ⌝ }
     requires { ⌜ (length (now run) ≡ 257) × (length (now room) ≡ 4096) ⌝ }
-    ensures { λ _. ⌜ now (plane .exit) ≡ planeOf (aroundBlock block (now (plane .entry)) (now («map_scu» .entry))) kind (now (lent .entry)) true (now (coef .entry)) ⌝ }
+    ensures { λ _. ⌜ now (plane .exit) ≡ planeOf (aroundBlock block (now (plane .entry)) (now (words .entry))) kind (now (lent .entry)) true (now (coef .entry)) ⌝ }
 {
     let component = block.component;
     let long = coef.len();
     let pred = &mut room[0..long];
-    prediction(block, kind, lent, &*plane, map_scu, run, &mut *pred);
+    prediction(block, kind, lent, &*plane, words, run, &mut *pred);
     recon::recon_plane(
         component,
         block.w,
@@ -184,17 +177,17 @@ fn draw_uncoded(
     kind: u8,
     long: usize,
     lent: &[u16],
-    map_scu: &[u32],
+    words: &[u32],
     plane: &mut [u16],
     run: &mut [u16],
     room: &mut [u16],
 )
-    requires { ⌜ BlockAsked (aroundBlock block (now plane) (now «map_scu»)) × LentTo block (now lent) × (long ≡ sampleCount (block .component) (block .side)) ⌝ }
+    requires { ⌜ BlockAsked (aroundBlock block (now plane) (now words)) × LentTo block (now lent) × (long ≡ sampleCount (block .component) (block .side)) ⌝ }
     requires { ⌜ (length (now run) ≡ 257) × (length (now room) ≡ 4096) ⌝ }
-    ensures { λ _. ⌜ now (plane .exit) ≡ planeOf (aroundBlock block (now (plane .entry)) (now («map_scu» .entry))) kind (now (lent .entry)) false [] ⌝ }
+    ensures { λ _. ⌜ now (plane .exit) ≡ planeOf (aroundBlock block (now (plane .entry)) (now (words .entry))) kind (now (lent .entry)) false [] ⌝ }
 {
     let pred = &mut room[0..long];
-    prediction(block, kind, lent, &*plane, map_scu, run, &mut *pred);
+    prediction(block, kind, lent, &*plane, words, run, &mut *pred);
     lay(block, &*pred, plane);
 }
 
@@ -206,21 +199,21 @@ pub(crate) fn component(
     lent: &[u16],
     residual: &[i16],
     at: usize,
-    map_scu: &[u32],
+    words: &[u32],
     plane: &mut [u16],
     run: &mut [u16],
     room: &mut [u16],
 ) -> usize
-    requires { ⌜ BlockAsked (aroundBlock block (now plane) (now «map_scu»)) × LentTo block (now lent) × (at + residualCount (block .component) coded (block .side) ≤ length (now residual)) ⌝ }
+    requires { ⌜ BlockAsked (aroundBlock block (now plane) (now words)) × LentTo block (now lent) × (at + residualCount (block .component) coded (block .side) ≤ length (now residual)) ⌝ }
     requires { ⌜ (length (now run) ≡ 257) × (length (now room) ≡ 4096) ⌝ }
-    ensures { λ r. ⌜ (now (plane .exit) ≡ planeOf (aroundBlock block (now (plane .entry)) (now («map_scu» .entry))) kind (now (lent .entry)) coded (take (sampleCount (block .component) (block .side)) (drop at (now (residual .entry)))))
+    ensures { λ r. ⌜ (now (plane .exit) ≡ planeOf (aroundBlock block (now (plane .entry)) (now (words .entry))) kind (now (lent .entry)) coded (take (sampleCount (block .component) (block .side)) (drop at (now (residual .entry)))))
         × (r ≡ at + residualCount (block .component) coded (block .side)) ⌝ }
 {
     let part = block.component;
     let n = def::in_component(part, block.side);
     let long = n * n;
     if !coded {
-        draw_uncoded(block, kind, long, lent, map_scu, plane, run, room);
+        draw_uncoded(block, kind, long, lent, words, plane, run, room);
         return at;
     }
     let end = at + long;
@@ -229,7 +222,7 @@ pub(crate) fn component(
         kind,
         lent,
         &residual[at..end],
-        map_scu,
+        words,
         plane,
         run,
         room,

@@ -29,7 +29,7 @@ pub fn reconstruct(
     y: &mut [u16],
     u: &mut [u16],
     v: &mut [u16],
-    map_scu: &mut [u32],
+    words: &mut [u32],
     modes: &mut [u8],
     keep: &mut [u8],
 ) -> Answer
@@ -40,11 +40,11 @@ pub fn reconstruct(
           y = now (y .entry);
           u = now (u .entry);
           v = now (v .entry);
-          words = now («map_scu» .entry);
+          words = now (words .entry);
           modes = now (modes .entry);
           keep = now (keep .entry);
         })
-        (record { number = answerNumber r; y = now (y .exit); u = now (u .exit); v = now (v .exit); words = now («map_scu» .exit); modes = now (modes .exit); keep = now (keep .exit) }) ⌝ }
+        (record { number = answerNumber r; y = now (y .exit); u = now (u .exit); v = now (v .exit); words = now (words .exit); modes = now (modes .exit); keep = now (keep .exit) }) ⌝ }
 {
     if let Answer::Refused(r) = checked_leaves(
         w,
@@ -59,13 +59,13 @@ pub fn reconstruct(
         y.len(),
         u.len(),
         v.len(),
-        map_scu.len(),
+        words.len(),
         modes.len(),
         keep.len(),
     ) {
         return Answer::Refused(r);
     }
-    clear(&mut *map_scu);
+    clear(&mut *words);
     draw_picture(
         w,
         h,
@@ -80,7 +80,7 @@ pub fn reconstruct(
         y,
         u,
         v,
-        map_scu,
+        words,
         modes,
         keep,
     );

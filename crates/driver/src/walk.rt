@@ -143,7 +143,7 @@ fn leaf_at(leaves: &[u16], root: Root, j: usize) -> Leaf
 
 // n units from place `at` on are told.
 fn tell_row(
-    map_scu: &mut [u32],
+    words: &mut [u32],
     modes: &mut [u8],
     keep: &mut [u8],
     at: usize,
@@ -152,13 +152,13 @@ fn tell_row(
     mode: u8,
     mark: u8,
 )
-    requires { ⌜ (at + n ≤ length (now «map_scu»)) × (at + n ≤ length (now modes)) × (at + n ≤ length (now keep)) ⌝ }
-    ensures { λ _. ⌜ (now («map_scu» .exit) ≡ withRow 0 at n (λ (j : ℕ). word) (now («map_scu» .entry))) × (now (modes .exit) ≡ withRow 0 at n (λ (j : ℕ). mode) (now (modes .entry)))
+    requires { ⌜ (at + n ≤ length (now words)) × (at + n ≤ length (now modes)) × (at + n ≤ length (now keep)) ⌝ }
+    ensures { λ _. ⌜ (now (words .exit) ≡ withRow 0 at n (λ (j : ℕ). word) (now (words .entry))) × (now (modes .exit) ≡ withRow 0 at n (λ (j : ℕ). mode) (now (modes .entry)))
         × (now (keep .exit) ≡ withRow 0 at n (λ (j : ℕ). mark) (now (keep .entry))) ⌝ }
 {
     let mut j = 0;
     while j < n {
-        map_scu[at + j] = word;
+        words[at + j] = word;
         modes[at + j] = mode;
         keep[at + j] = mark;
         j += 1;
@@ -166,16 +166,9 @@ fn tell_row(
 }
 
 // The units of a leaf, in maps of a picture w wide: the word of its record, the mode, and whether they are kept. A leaf of 4 is one unit, and no loop.
-fn tell(
-    map_scu: &mut [u32],
-    modes: &mut [u8],
-    keep: &mut [u8],
-    w: usize,
-    leaf: Leaf,
-    record: Record,
-)
-    requires { ⌜ Told (w / 4) (leaf .x .0 / 4) (leaf .y .0 / 4) (leaf .side / 4) (now «map_scu») (now modes) (now keep) ⌝ }
-    ensures { λ _. ⌜ (now («map_scu» .exit) ≡ toldTo w leaf (leafWord (isMode («record» .kind)) («record» .qp) (codedY («record» .mask))) (now («map_scu» .entry)))
+fn tell(words: &mut [u32], modes: &mut [u8], keep: &mut [u8], w: usize, leaf: Leaf, record: Record)
+    requires { ⌜ Told (w / 4) (leaf .x .0 / 4) (leaf .y .0 / 4) (leaf .side / 4) (now words) (now modes) (now keep) ⌝ }
+    ensures { λ _. ⌜ (now (words .exit) ≡ toldTo w leaf (leafWord (isMode («record» .kind)) («record» .qp) (codedY («record» .mask))) (now (words .entry)))
         × (now (modes .exit) ≡ toldTo w leaf (pick (isMode («record» .kind)) («record» .kind) 255) (now (modes .entry)))
         × (now (keep .exit) ≡ toldTo w leaf («record» .keep) (now (keep .entry))) ⌝ }
 {
@@ -189,13 +182,13 @@ fn tell(
     let mark = record.keep;
     if n == 1 {
         let at = y * columns + x;
-        tell_row(map_scu, modes, keep, at, 1, word, mode, mark);
+        tell_row(words, modes, keep, at, 1, word, mode, mark);
         return;
     }
     let mut r = 0;
     while r < n {
         tell_row(
-            &mut *map_scu,
+            &mut *words,
             &mut *modes,
             &mut *keep,
             (y + r) * columns + x,
@@ -223,16 +216,16 @@ fn leaf_colour(
     pred_v: &[u16],
     residual: &[i16],
     at: usize,
-    map_scu: &[u32],
+    words: &[u32],
     u: &mut [u16],
     v: &mut [u16],
     run: &mut [u16; 257],
     room: &mut [u16; 4096],
 ) -> usize
-    requires { ⌜ ColourAsked (givenOf w h format constrained [] (now residual) [] (now «pred_u») (now «pred_v»)) leaf («record» .mask) (now «map_scu») (now u) (now v)
+    requires { ⌜ ColourAsked (givenOf w h format constrained [] (now residual) [] (now «pred_u») (now «pred_v»)) leaf («record» .mask) (now words) (now u) (now v)
         × (colourEnd at («record» .mask) (leaf .side) ≤ length (now residual)) ⌝ }
     ensures { λ r. ⌜ ColourDrawn (givenOf w h format constrained [] (now (residual .entry)) [] (now («pred_u» .entry)) (now («pred_v» .entry))) leaf
-        («record» .kind) («record» .mask) at (now («map_scu» .entry)) (now (u .entry)) (now (v .entry)) (now (u .exit)) (now (v .exit)) r ⌝ }
+        («record» .kind) («record» .mask) at (now (words .entry)) (now (u .entry)) (now (v .entry)) (now (u .exit)) (now (v .exit)) r ⌝ }
 {
     if let Format::Grey = format {
         return at;
@@ -257,7 +250,7 @@ fn leaf_colour(
         pred_u,
         residual,
         at,
-        map_scu,
+        words,
         u,
         &mut *run,
         &mut *room,
@@ -269,7 +262,7 @@ fn leaf_colour(
         pred_v,
         residual,
         end,
-        map_scu,
+        words,
         v,
         run,
         room,
@@ -289,17 +282,17 @@ fn leaf_planes(
     pred_v: &[u16],
     residual: &[i16],
     at: usize,
-    map_scu: &[u32],
+    words: &[u32],
     y: &mut [u16],
     u: &mut [u16],
     v: &mut [u16],
     run: &mut [u16; 257],
     room: &mut [u16; 4096],
 ) -> usize
-    requires { ⌜ PlanesAsked (givenOf w h format constrained [] (now residual) (now «pred_y») (now «pred_u») (now «pred_v»)) leaf («record» .mask) (now «map_scu») (now y) (now u) (now v)
+    requires { ⌜ PlanesAsked (givenOf w h format constrained [] (now residual) (now «pred_y») (now «pred_u») (now «pred_v»)) leaf («record» .mask) (now words) (now y) (now u) (now v)
         × (endV at («record» .mask) (leaf .side) ≤ length (now residual)) ⌝ }
     ensures { λ r. ⌜ Drawn (givenOf w h format constrained [] (now (residual .entry)) (now («pred_y» .entry)) (now («pred_u» .entry)) (now («pred_v» .entry))) leaf
-        («record» .kind) («record» .mask) at (now («map_scu» .entry)) (now (y .entry)) (now (u .entry)) (now (v .entry)) (now (y .exit)) (now (u .exit)) (now (v .exit)) r ⌝ }
+        («record» .kind) («record» .mask) at (now (words .entry)) (now (y .entry)) (now (u .entry)) (now (v .entry)) (now (y .exit)) (now (u .exit)) (now (v .exit)) r ⌝ }
 {
     let column = leaf.x;
     let row = leaf.y;
@@ -319,7 +312,7 @@ fn leaf_planes(
         pred_y,
         residual,
         at,
-        map_scu,
+        words,
         y,
         &mut *run,
         &mut *room,
@@ -335,7 +328,7 @@ fn leaf_planes(
         pred_v,
         residual,
         end,
-        map_scu,
+        words,
         u,
         v,
         run,
@@ -364,7 +357,7 @@ fn draw_leaves(
     y: &mut [u16],
     u: &mut [u16],
     v: &mut [u16],
-    map_scu: &mut [u32],
+    words: &mut [u32],
     modes: &mut [u8],
     keep: &mut [u8],
     run: &mut [u16; 257],
@@ -372,13 +365,13 @@ fn draw_leaves(
 ) -> usize
     requires { ⌜ GivenAsked (givenOf w h format constrained (now leaves) (now residual) (now «pred_y») (now «pred_u») (now «pred_v»)) ⌝ }
     requires { ⌜ StateAsked (givenOf w h format constrained (now leaves) (now residual) (now «pred_y») (now «pred_u») (now «pred_v»))
-        (stateOf (now y) (now u) (now v) (now «map_scu») (now modes) (now keep) at k) ⌝ }
+        (stateOf (now y) (now u) (now v) (now words) (now modes) (now keep) at k) ⌝ }
     requires { ⌜ Blocks w h (unpackedAt root (now list)) n × (length (now list) ≡ 256) × (root .x .0 ≤ 4096) × (root .y .0 ≤ 4096)
         × Reaches (now leaves) (length (now residual)) (passed (now leaves) (leavesFrom (unpackedAt root (now list)) n) (placeOf at k)) ⌝ }
     ensures { λ r. ⌜ Stepped (givenOf w h format constrained (now (leaves .entry)) (now (residual .entry)) (now («pred_y» .entry)) (now («pred_u» .entry)) (now («pred_v» .entry)))
         (leavesFrom (unpackedAt root (now (list .entry))) n)
-        (stateOf (now (y .entry)) (now (u .entry)) (now (v .entry)) (now («map_scu» .entry)) (now (modes .entry)) (now (keep .entry)) at k)
-        (stateOf (now (y .exit)) (now (u .exit)) (now (v .exit)) (now («map_scu» .exit)) (now (modes .exit)) (now (keep .exit)) r (k + n)) ⌝ }
+        (stateOf (now (y .entry)) (now (u .entry)) (now (v .entry)) (now (words .entry)) (now (modes .entry)) (now (keep .entry)) at k)
+        (stateOf (now (y .exit)) (now (u .exit)) (now (v .exit)) (now (words .exit)) (now (modes .exit)) (now (keep .exit)) r (k + n)) ⌝ }
 {
     let mut end = at;
     for j in 0..n {
@@ -396,14 +389,14 @@ fn draw_leaves(
             pred_v,
             residual,
             end,
-            &*map_scu,
+            &*words,
             &mut *y,
             &mut *u,
             &mut *v,
             &mut *run,
             &mut *room,
         );
-        tell(&mut *map_scu, &mut *modes, &mut *keep, w, leaf, record);
+        tell(&mut *words, &mut *modes, &mut *keep, w, leaf, record);
     }
     end
 }
@@ -411,12 +404,12 @@ fn draw_leaves(
 // ---- the picture
 
 // Map words start at 0.
-pub(crate) fn clear(map_scu: &mut [u32])
-    ensures { λ _. ⌜ now («map_scu» .exit) ≡ tabulate (length (now («map_scu» .entry))) (λ (k : ℕ). 0) ⌝ }
+pub(crate) fn clear(words: &mut [u32])
+    ensures { λ _. ⌜ now (words .exit) ≡ tabulate (length (now (words .entry))) (λ (k : ℕ). 0) ⌝ }
 {
     let mut i = 0;
-    while i < map_scu.len() {
-        map_scu[i] = 0;
+    while i < words.len() {
+        words[i] = 0;
         i += 1;
     }
 }
@@ -436,19 +429,19 @@ pub(crate) fn draw_picture(
     y: &mut [u16],
     u: &mut [u16],
     v: &mut [u16],
-    map_scu: &mut [u32],
+    words: &mut [u32],
     modes: &mut [u8],
     keep: &mut [u8],
 )
     requires { ⌜ GivenAsked (givenOf w h format constrained (now leaves) (now residual) (now «pred_y») (now «pred_u») (now «pred_v»)) ⌝ }
     requires { ⌜ StateAsked (givenOf w h format constrained (now leaves) (now residual) (now «pred_y») (now «pred_u») (now «pred_v»))
-        (stateOf (now y) (now u) (now v) (now «map_scu») (now modes) (now keep) 0 0) ⌝ }
+        (stateOf (now y) (now u) (now v) (now words) (now modes) (now keep) 0 0) ⌝ }
     requires { ⌜ Accepted w h (now splits) × Reaches (now leaves) (length (now residual)) (passed (now leaves) (leavesOf w h (now splits)) first) ⌝ }
     ensures { λ _. ⌜ Ended
         (steps (givenOf w h format constrained (now (leaves .entry)) (now (residual .entry)) (now («pred_y» .entry)) (now («pred_u» .entry)) (now («pred_v» .entry)))
         (leavesOf w h (now (splits .entry)))
-        (stateOf (now (y .entry)) (now (u .entry)) (now (v .entry)) (now («map_scu» .entry)) (now (modes .entry)) (now (keep .entry)) 0 0))
-        (now (y .exit)) (now (u .exit)) (now (v .exit)) (now («map_scu» .exit)) (now (modes .exit)) (now (keep .exit)) ⌝ }
+        (stateOf (now (y .entry)) (now (u .entry)) (now (v .entry)) (now (words .entry)) (now (modes .entry)) (now (keep .entry)) 0 0))
+        (now (y .exit)) (now (u .exit)) (now (v .exit)) (now (words .exit)) (now (modes .exit)) (now (keep .exit)) ⌝ }
 {
     let across = def::roots_along(w);
     let roots = across * def::roots_along(h);
@@ -481,7 +474,7 @@ pub(crate) fn draw_picture(
             &mut *y,
             &mut *u,
             &mut *v,
-            &mut *map_scu,
+            &mut *words,
             &mut *modes,
             &mut *keep,
             &mut run,

@@ -103,12 +103,12 @@ fn written_ok(
     y: usize,
     u: usize,
     v: usize,
-    map_scu: usize,
+    words: usize,
     modes: usize,
     keep: usize,
 ) -> bool
     requires { ⌜ Sized w h ⌝ }
-    ensures { λ r. ⌜ r ≡ writtenOk w h format y u v «map_scu» modes keep ⌝ }
+    ensures { λ r. ⌜ r ≡ writtenOk w h format y u v words modes keep ⌝ }
 {
     let luma = w * h;
     let chroma = colour_length(w, h, format);
@@ -116,7 +116,7 @@ fn written_ok(
     (y == luma)
         & (u == chroma)
         & (v == chroma)
-        & (map_scu == units)
+        & (words == units)
         & (modes == units)
         & (keep == units)
 }
@@ -200,11 +200,11 @@ pub fn checked_leaves(
     y: usize,
     u: usize,
     v: usize,
-    map_scu: usize,
+    words: usize,
     modes: usize,
     keep: usize,
 ) -> Answer
-    ensures { λ r. ⌜ r ≡ checkOf w h format (now (splits .entry)) (now (leaves .entry)) residual (now («pred_y» .entry)) (now («pred_u» .entry)) (now («pred_v» .entry)) y u v «map_scu» modes keep ⌝ }
+    ensures { λ r. ⌜ r ≡ checkOf w h format (now (splits .entry)) (now (leaves .entry)) residual (now («pred_y» .entry)) (now («pred_u» .entry)) (now («pred_v» .entry)) y u v words modes keep ⌝ }
 {
     if !def::size_ok(w, h) {
         return Answer::Refused(Refusal::Size);
@@ -220,7 +220,7 @@ pub fn checked_leaves(
     ) {
         return Answer::Refused(Refusal::Length);
     }
-    if !written_ok(w, h, format, y, u, v, map_scu, modes, keep) {
+    if !written_ok(w, h, format, y, u, v, words, modes, keep) {
         return Answer::Refused(Refusal::Length);
     }
     match split::check(w, h, splits) {

@@ -27,15 +27,15 @@ struct Arm {
 }
 
 // Whether unit i of an arm is present: in the picture and done, and intra when constrained.
-fn present(map_scu: &[u32], arm: Arm, i: usize, constrained: bool) -> bool
-    requires { ⌜ (i < arm .there → arm .word + i * arm .next < length (now «map_scu»)) ⌝ }
-    ensures { λ r. ⌜ r ≡ presentIn arm constrained (now («map_scu» .entry)) i ⌝ }
+fn present(words: &[u32], arm: Arm, i: usize, constrained: bool) -> bool
+    requires { ⌜ (i < arm .there → arm .word + i * arm .next < length (now words)) ⌝ }
+    ensures { λ r. ⌜ r ≡ presentIn arm constrained (now (words .entry)) i ⌝ }
 {
     if arm.there <= i {
         return false;
     }
     let at = arm.word + i * arm.next;
-    let word = map_scu[at];
+    let word = words[at];
     def::get_cod(word) & (!constrained | def::get_if(word))
 }
 
@@ -80,7 +80,7 @@ fn join_samples(plane: &[u16], from: usize, step: usize, n: usize) -> u16
 // Unit i of an arm into run from `to`: its n samples, or as many missing ones.
 fn put_unit(
     plane: &[u16],
-    map_scu: &[u32],
+    words: &[u32],
     arm: Arm,
     i: usize,
     n: usize,
@@ -88,10 +88,10 @@ fn put_unit(
     run: &mut [u16],
     to: usize,
 )
-    requires { ⌜ Within arm n (now plane) (now «map_scu») × (to + n ≤ length (now run)) ⌝ }
-    ensures { λ _. ⌜ now (run .exit) ≡ withRow 0 to n (λ (j : ℕ). armAt arm n constrained (now (plane .entry)) (now («map_scu» .entry)) (i * n + j)) (now (run .entry)) ⌝ }
+    requires { ⌜ Within arm n (now plane) (now words) × (to + n ≤ length (now run)) ⌝ }
+    ensures { λ _. ⌜ now (run .exit) ≡ withRow 0 to n (λ (j : ℕ). armAt arm n constrained (now (plane .entry)) (now (words .entry)) (i * n + j)) (now (run .entry)) ⌝ }
 {
-    if !present(map_scu, arm, i, constrained) {
+    if !present(words, arm, i, constrained) {
         put_missing(run, to, n);
         return;
     }
@@ -100,11 +100,11 @@ fn put_unit(
 }
 
 // Its samples joined. Missing ones join nothing.
-fn join_unit(plane: &[u16], map_scu: &[u32], arm: Arm, i: usize, n: usize, constrained: bool) -> u16
-    requires { ⌜ Within arm n (now plane) (now «map_scu») ⌝ }
-    ensures { λ r. ⌜ sampleOk r ≡ allBelow (λ (j : ℕ). sampleOk (armAt arm n constrained (now (plane .entry)) (now («map_scu» .entry)) (i * n + j))) n ⌝ }
+fn join_unit(plane: &[u16], words: &[u32], arm: Arm, i: usize, n: usize, constrained: bool) -> u16
+    requires { ⌜ Within arm n (now plane) (now words) ⌝ }
+    ensures { λ r. ⌜ sampleOk r ≡ allBelow (λ (j : ℕ). sampleOk (armAt arm n constrained (now (plane .entry)) (now (words .entry)) (i * n + j))) n ⌝ }
 {
-    if !present(map_scu, arm, i, constrained) {
+    if !present(words, arm, i, constrained) {
         return 0;
     }
     let from = arm.from + i * n * arm.step;
@@ -114,7 +114,7 @@ fn join_unit(plane: &[u16], map_scu: &[u32], arm: Arm, i: usize, n: usize, const
 // An arm of `units` units of n samples into run from `to`.
 fn put_units(
     plane: &[u16],
-    map_scu: &[u32],
+    words: &[u32],
     arm: Arm,
     units: usize,
     n: usize,
@@ -122,21 +122,12 @@ fn put_units(
     run: &mut [u16],
     to: usize,
 )
-    requires { ⌜ Within arm n (now plane) (now «map_scu») × (to + units * n ≤ length (now run)) ⌝ }
-    ensures { λ _. ⌜ now (run .exit) ≡ withRow 0 to (units * n) (armAt arm n constrained (now (plane .entry)) (now («map_scu» .entry))) (now (run .entry)) ⌝ }
+    requires { ⌜ Within arm n (now plane) (now words) × (to + units * n ≤ length (now run)) ⌝ }
+    ensures { λ _. ⌜ now (run .exit) ≡ withRow 0 to (units * n) (armAt arm n constrained (now (plane .entry)) (now (words .entry))) (now (run .entry)) ⌝ }
 {
     let mut i = 0;
     while i < units {
-        put_unit(
-            plane,
-            map_scu,
-            arm,
-            i,
-            n,
-            constrained,
-            &mut *run,
-            to + i * n,
-        );
+        put_unit(plane, words, arm, i, n, constrained, &mut *run, to + i * n);
         i += 1;
     }
 }
@@ -144,7 +135,7 @@ fn put_units(
 // The same. A unit's samples are told apart here, so that the loops over them have a length that is known.
 fn put_arm(
     plane: &[u16],
-    map_scu: &[u32],
+    words: &[u32],
     arm: Arm,
     units: usize,
     n: usize,
@@ -152,32 +143,32 @@ fn put_arm(
     run: &mut [u16],
     to: usize,
 )
-    requires { ⌜ Within arm n (now plane) (now «map_scu») × (to + units * n ≤ length (now run)) × ((n ≡ 4 → ⊥) → n ≡ 2) ⌝ }
-    ensures { λ _. ⌜ now (run .exit) ≡ withRow 0 to (units * n) (armAt arm n constrained (now (plane .entry)) (now («map_scu» .entry))) (now (run .entry)) ⌝ }
+    requires { ⌜ Within arm n (now plane) (now words) × (to + units * n ≤ length (now run)) × ((n ≡ 4 → ⊥) → n ≡ 2) ⌝ }
+    ensures { λ _. ⌜ now (run .exit) ≡ withRow 0 to (units * n) (armAt arm n constrained (now (plane .entry)) (now (words .entry))) (now (run .entry)) ⌝ }
 {
     if n == 4 {
-        put_units(plane, map_scu, arm, units, 4, constrained, run, to)
+        put_units(plane, words, arm, units, 4, constrained, run, to)
     } else {
-        put_units(plane, map_scu, arm, units, 2, constrained, run, to)
+        put_units(plane, words, arm, units, 2, constrained, run, to)
     }
 }
 
 // Its samples joined.
 fn join_units(
     plane: &[u16],
-    map_scu: &[u32],
+    words: &[u32],
     arm: Arm,
     units: usize,
     n: usize,
     constrained: bool,
 ) -> u16
-    requires { ⌜ Within arm n (now plane) (now «map_scu») ⌝ }
-    ensures { λ r. ⌜ sampleOk r ≡ allBelow (λ (k : ℕ). sampleOk (armAt arm n constrained (now (plane .entry)) (now («map_scu» .entry)) k)) (units * n) ⌝ }
+    requires { ⌜ Within arm n (now plane) (now words) ⌝ }
+    ensures { λ r. ⌜ sampleOk r ≡ allBelow (λ (k : ℕ). sampleOk (armAt arm n constrained (now (plane .entry)) (now (words .entry)) k)) (units * n) ⌝ }
 {
     let mut all: u16 = 0;
     let mut i = 0;
     while i < units {
-        all = all | join_unit(plane, map_scu, arm, i, n, constrained);
+        all = all | join_unit(plane, words, arm, i, n, constrained);
         i += 1;
     }
     all
@@ -366,9 +357,9 @@ fn join_border(plane: &[u16], border: Border) -> u16
 }
 
 // The run, straight from the plane: left downwards, the corner, up rightwards.
-fn put_all(plane: &[u16], map_scu: &[u32], border: Border, constrained: bool, run: &mut [u16])
-    requires { ⌜ Reads border (now plane) (now «map_scu») × (length (now run) ≡ 2 * (border .units * border .n) + 1) ⌝ }
-    ensures { λ _. ⌜ now (run .exit) ≡ borderIn border constrained (now (plane .entry)) (now («map_scu» .entry)) (now (run .entry)) ⌝ }
+fn put_all(plane: &[u16], words: &[u32], border: Border, constrained: bool, run: &mut [u16])
+    requires { ⌜ Reads border (now plane) (now words) × (length (now run) ≡ 2 * (border .units * border .n) + 1) ⌝ }
+    ensures { λ _. ⌜ now (run .exit) ≡ borderIn border constrained (now (plane .entry)) (now (words .entry)) (now (run .entry)) ⌝ }
 {
     let units = border.units;
     let n = border.n;
@@ -376,29 +367,29 @@ fn put_all(plane: &[u16], map_scu: &[u32], border: Border, constrained: bool, ru
     let left = border.left;
     let corner = border.corner;
     let up = border.up;
-    put_arm(plane, map_scu, left, units, n, constrained, &mut *run, 0);
-    put_units(plane, map_scu, corner, 1, 1, constrained, &mut *run, at);
-    put_arm(plane, map_scu, up, units, n, constrained, run, at + 1);
+    put_arm(plane, words, left, units, n, constrained, &mut *run, 0);
+    put_units(plane, words, corner, 1, 1, constrained, &mut *run, at);
+    put_arm(plane, words, up, units, n, constrained, run, at + 1);
 }
 
 // The same for a block of 4.
-fn put_few(plane: &[u16], map_scu: &[u32], border: Border, constrained: bool, run: &mut [u16])
-    requires { ⌜ Reads border (now plane) (now «map_scu») × (length (now run) ≡ 2 * (border .units * border .n) + 1) × (border .units ≡ 2) ⌝ }
-    ensures { λ _. ⌜ now (run .exit) ≡ borderIn border constrained (now (plane .entry)) (now («map_scu» .entry)) (now (run .entry)) ⌝ }
+fn put_few(plane: &[u16], words: &[u32], border: Border, constrained: bool, run: &mut [u16])
+    requires { ⌜ Reads border (now plane) (now words) × (length (now run) ≡ 2 * (border .units * border .n) + 1) × (border .units ≡ 2) ⌝ }
+    ensures { λ _. ⌜ now (run .exit) ≡ borderIn border constrained (now (plane .entry)) (now (words .entry)) (now (run .entry)) ⌝ }
 {
     let n = border.n;
     let left = border.left;
     let corner = border.corner;
     let up = border.up;
     if n == 4 {
-        put_units(plane, map_scu, left, 2, 4, constrained, &mut *run, 0);
-        put_units(plane, map_scu, corner, 1, 1, constrained, &mut *run, 8);
-        put_units(plane, map_scu, up, 2, 4, constrained, run, 9);
+        put_units(plane, words, left, 2, 4, constrained, &mut *run, 0);
+        put_units(plane, words, corner, 1, 1, constrained, &mut *run, 8);
+        put_units(plane, words, up, 2, 4, constrained, run, 9);
         return;
     }
-    put_units(plane, map_scu, left, 2, 2, constrained, &mut *run, 0);
-    put_units(plane, map_scu, corner, 1, 1, constrained, &mut *run, 4);
-    put_units(plane, map_scu, up, 2, 2, constrained, run, 5);
+    put_units(plane, words, left, 2, 2, constrained, &mut *run, 0);
+    put_units(plane, words, corner, 1, 1, constrained, &mut *run, 4);
+    put_units(plane, words, up, 2, 2, constrained, run, 5);
 }
 
 // ---- the call
@@ -417,63 +408,57 @@ fn lengths_ok(block: Block, plane: usize, words: usize) -> bool
 // where one of those is over 1023 it may be that of a unit that is missing, and the units are asked one by one.
 fn samples_pass(
     plane: &[u16],
-    map_scu: &[u32],
+    words: &[u32],
     block: Block,
     border: Border,
     constrained: bool,
 ) -> bool
-    requires { ⌜ Stands block × BorderOf block border × Reads border (now plane) (now «map_scu») ⌝ }
-    ensures { λ r. ⌜ r ≡ samplesOk (aroundOf block (now (plane .entry)) (now («map_scu» .entry)) constrained) ⌝ }
+    requires { ⌜ Stands block × BorderOf block border × Reads border (now plane) (now words) ⌝ }
+    ensures { λ r. ⌜ r ≡ samplesOk (aroundOf block (now (plane .entry)) (now (words .entry)) constrained) ⌝ }
 {
     let units = border.units;
     let n = border.n;
     if join_border(plane, border) <= 1023 {
         return true;
     }
-    let all = join_units(plane, map_scu, border.left, units, n, constrained)
-        | join_units(plane, map_scu, border.corner, 1, 1, constrained)
-        | join_units(plane, map_scu, border.up, units, n, constrained);
+    let all = join_units(plane, words, border.left, units, n, constrained)
+        | join_units(plane, words, border.corner, 1, 1, constrained)
+        | join_units(plane, words, border.up, units, n, constrained);
     all <= 1023
 }
 
 // The run of a block's border.
 fn put_run(
     plane: &[u16],
-    map_scu: &[u32],
+    words: &[u32],
     block: Block,
     border: Border,
     constrained: bool,
     run: &mut [u16],
 )
-    requires { ⌜ Stands block × BorderOf block border × Reads border (now plane) (now «map_scu») × (length (now run) ≡ runLength (block .component) (block .side)) ⌝ }
-    ensures { λ _. ⌜ now (run .exit) ≡ runOf (aroundOf block (now (plane .entry)) (now («map_scu» .entry)) constrained) ⌝ }
+    requires { ⌜ Stands block × BorderOf block border × Reads border (now plane) (now words) × (length (now run) ≡ runLength (block .component) (block .side)) ⌝ }
+    ensures { λ _. ⌜ now (run .exit) ≡ runOf (aroundOf block (now (plane .entry)) (now (words .entry)) constrained) ⌝ }
 {
     let units = border.units;
     if units == 2 {
-        put_few(plane, map_scu, border, constrained, run)
+        put_few(plane, words, border, constrained, run)
     } else {
-        put_all(plane, map_scu, border, constrained, run)
+        put_all(plane, words, border, constrained, run)
     }
 }
 
 // The run, past the checks of its form.
-fn gather(
-    plane: &[u16],
-    map_scu: &[u32],
-    block: Block,
-    constrained: bool,
-    run: &mut [u16],
-) -> Answer
-    requires { ⌜ Stands block × LentTo block (now plane) (now «map_scu») × (length (now run) ≡ runLength (block .component) (block .side)) ⌝ }
+fn gather(plane: &[u16], words: &[u32], block: Block, constrained: bool, run: &mut [u16]) -> Answer
+    requires { ⌜ Stands block × LentTo block (now plane) (now words) × (length (now run) ≡ runLength (block .component) (block .side)) ⌝ }
     ensures { λ r. ⌜ Gives gathered
-        (record { around = aroundOf block (now (plane .entry)) (now («map_scu» .entry)) constrained; run = now (run .entry) })
+        (record { around = aroundOf block (now (plane .entry)) (now (words .entry)) constrained; run = now (run .entry) })
         (record { number = answerNumber r; run = now (run .exit) }) ⌝ }
 {
     let border = border_of(block);
-    if !samples_pass(plane, map_scu, block, border, constrained) {
+    if !samples_pass(plane, words, block, border, constrained) {
         return Answer::Refused(Refusal::Sample);
     }
-    put_run(plane, map_scu, block, border, constrained, run);
+    put_run(plane, words, block, border, constrained, run);
     Answer::Done
 }
 
@@ -503,7 +488,7 @@ pub fn get_nbr(
     w: usize,
     h: usize,
     plane: &[u16],
-    map_scu: &[u32],
+    words: &[u32],
     x: Pel,
     y: Pel,
     side: usize,
@@ -511,7 +496,7 @@ pub fn get_nbr(
     run: &mut [u16],
 ) -> Answer
     ensures { λ r. ⌜ Gives outcome
-        (record { around = record { component = component; w = w; h = h; plane = now (plane .entry); words = now («map_scu» .entry); x = x .0; y = y .0; side = side; constrained = constrained }; run = now (run .entry) })
+        (record { around = record { component = component; w = w; h = h; plane = now (plane .entry); words = now (words .entry); x = x .0; y = y .0; side = side; constrained = constrained }; run = now (run .entry) })
         (record { number = answerNumber r; run = now (run .exit) }) ⌝ }
 {
     let block = Block {
@@ -522,8 +507,8 @@ pub fn get_nbr(
         y,
         side,
     };
-    match checked(block, plane.len(), map_scu.len(), run.len()) {
+    match checked(block, plane.len(), words.len(), run.len()) {
         Answer::Refused(r) => Answer::Refused(r),
-        Answer::Done => gather(plane, map_scu, block, constrained, run),
+        Answer::Done => gather(plane, words, block, constrained, run),
     }
 }

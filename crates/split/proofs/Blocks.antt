@@ -1,5 +1,5 @@
 -- A block of the walk, in luma samples as the code has it and in units as the rules have it.
---     byte-at-centre, low-bit, high-bit, only-one, deeper, not-last, has-byte, not-eight, counted, within, fewer    the numbers of the walk's code
+--     byte-at-centre, only-one, deeper, has-byte, not-eight, counted, within, fewer    the numbers of the walk's code
 --     past-x, past-y, inside    a leaf
 --     skip-x, skip-y, skip, started, at-unit, at-leaf, at-bad, at-cut    each way through the walk
 --     Cut, cut    what a block that is cut hands to its parts
@@ -28,22 +28,12 @@ pub byte-at-centre : (s : List ℕ) (level : ℕ) {column column′ row row′ :
     → getD s (256 * level + (16 * (row % 16) + column % 16)) 0 ≡ getD s (256 * level + (16 * (row′ % 16) + column′ % 16)) 0
 byte-at-centre s level p q = λ i. getD s (256 * level + (16 * (q i % 16) + p i % 16)) 0
 
--- the bits of a part's number
-pub low-bit : (i : ℕ) → i % 2 ≤ 1
-low-bit i = omega arith
-
-pub high-bit : (i : ℕ) → i < 4 → i / 2 ≤ 1
-high-bit i l = omega arith
-
--- the numbers of the loop over the parts: a byte that is left, the next level, the next part
+-- the numbers of the loop over the parts: a byte that is left, the next level
 pub only-one : (byte : ℕ) → byte ≤ 1 → (byte ≡ 0 → ⊥) → byte ≡ 1
 only-one byte l n = omega arith
 
 pub deeper : (level : ℕ) → level < 4 → level + 1 < 2 ^ 64
 deeper level l = omega arith
-
-pub not-last : (level : ℕ) → level < 4 → (level ≡ 3 → ⊥) → level + 1 < 4
-not-last level l n = omega arith
 
 -- a block of side 16 or more has a byte, and so have its parts
 pub has-byte : {level : ℕ} → level < 3 → level < 4

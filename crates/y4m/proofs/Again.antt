@@ -15,6 +15,7 @@ use lib.Seq.{sets, sets-eq, take-append-seam}
 use Rattle.laws.specs.Call.{unless}
 use Rattle.laws.proofs.Calls.{all-at}
 use Rattle.def.specs.Answers.{afterChecks}
+use Rattle.def.specs.Formats.{colourLength}
 use Rattle.def.specs.Picture.{sizeOk, lumaLength, chromaLength}
 use Rattle.def.specs.declared.Answer.{Answer}
 use Rattle.def.specs.declared.Answer.the-variants.{Done, Refused}
@@ -25,7 +26,7 @@ use Rattle.def.proofs.Answers.{number-some}
 use Rattle.def.proofs.Ladders.{passes}
 use Rattle.samples.specs.Samples.{samplesOk}
 use Rattle.y4m_rules.specs.Words.{frameLine}
-use Rattle.y4m_rules.specs.Frames.{colourOk, chromaOf, frameLength, bytesOf, frameText, lineOk, frameEnd, yAt, uAt, vAt, planesOk}
+use Rattle.y4m_rules.specs.Frames.{colourOk, frameLength, bytesOf, frameText, lineOk, frameEnd, yAt, uAt, vAt, planesOk}
 use Rattle.y4m_rules.specs.Header.{headerText, said, headerIn}
 use Rattle.y4m_rules.proofs.Frames.{bytes-long, plane-back, line-back}
 use Rattle.y4m_rules.proofs.Header.{header-back, header-short}
@@ -135,17 +136,17 @@ picture : (c : Format) (w h : ℕ) (y u v : List ℕ) (n : ℕ) → frame.checkO
 unfolding frame.checkOf frame.lengthsOk frame.planesOk
 picture c w h y u v n e =
     let first = passes (sizeOk w h) _ _ e in
-    let lengths = eqb (length y) (lumaLength w h) ∷ eqb (length u) (chromaOf c w h) ∷ eqb (length v) (chromaOf c w h) ∷ eqb n (frameLength c w h) ∷ [] in
+    let lengths = eqb (length y) (lumaLength w h) ∷ eqb (length u) (colourLength c w h) ∷ eqb (length v) (colourLength c w h) ∷ eqb n (frameLength c w h) ∷ [] in
     let second = passes _ _ _ (first .rest) in
     let third = passes (colourOk c) _ _ (second .rest) in
     let samples = samplesOk y ∷ samplesOk u ∷ samplesOk v ∷ [] in
     let fourth = passes _ _ _ (third .rest) in
-    let q : chromaOf c w h ≡ chromaLength w h = ap (λ (d : Format). chromaOf d w h) (colour c (third .holds)) in
+    let q : colourLength c w h ≡ chromaLength w h = ap (λ (d : Format). colourLength d w h) (colour c (third .holds)) in
     record {
       sized = first .holds;
       y-long = eqb-true (length y) (lumaLength w h) (all-at lengths 0 (second .holds));
-      u-long = eqb-true (length u) (chromaOf c w h) (all-at lengths 1 (second .holds)) ∙ q;
-      v-long = eqb-true (length v) (chromaOf c w h) (all-at lengths 2 (second .holds)) ∙ q;
+      u-long = eqb-true (length u) (colourLength c w h) (all-at lengths 1 (second .holds)) ∙ q;
+      v-long = eqb-true (length v) (colourLength c w h) (all-at lengths 2 (second .holds)) ∙ q;
       y-good = all-at samples 0 (fourth .holds);
       u-good = all-at samples 1 (fourth .holds);
       v-good = all-at samples 2 (fourth .holds);

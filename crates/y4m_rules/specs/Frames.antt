@@ -8,7 +8,6 @@ use lib.ListN.{length, drop, getD}
 use Rattle.laws.specs.Call.{allOf}
 use Rattle.laws.specs.Index.{pick, tabulate}
 use Rattle.def.specs.Formats.{colourLength}
-pub use Rattle.def.specs.Formats.{colourLength as chromaOf}
 use Rattle.def.specs.Picture.{lumaLength}
 use Rattle.def.specs.declared.Format.{Format}
 use Rattle.def.specs.declared.Format.the-variants.{Grey, Colour}

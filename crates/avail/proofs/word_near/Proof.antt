@@ -25,7 +25,7 @@ returns-4 c = none-across _ _ _ _ _ _ _ (counted-in _ _ (omega arith) (omega ari
 -- past the four tests the place is within the words
 place : (c : tie.Else4) → let s = c .before .before .before .before in
     let a = s .before .before .before .before .before .args in
-    (s .before .pel2scu2 .result .0 + a .b - 1) * (a .w / 4) + (s .before .before .before .pel2scu .result .0 + a .a - 1) < length (now (a .map-scu))
+    (s .before .pel2scu2 .result .0 + a .b - 1) * (a .w / 4) + (s .before .before .before .pel2scu .result .0 + a .a - 1) < length (now (a .words))
 place c = found-below _ _ _ _ _ (omega arith) (omega arith) (omega arith) (omega arith) (c .before .before .before .before .before .before .before .before .before .pre .long)
 
 mul-at : tie.Need-mul-at
@@ -46,8 +46,8 @@ returns-5 c =
     let a = s .before .before .before .before .before .args in
     let p : s .before .before .before .pel2scu .result .0 ≡ a .x .0 / 4 = omega arith in
     let q : s .before .pel2scu2 .result .0 ≡ a .y .0 / 4 = omega arith in
-    ap (λ (k : ℕ). wordAt (a .w) (now (a .map-scu)) (k + a .a - 1) (s .before .pel2scu2 .result .0 + a .b - 1)) p
-    ∙ ap (λ (k : ℕ). wordAt (a .w) (now (a .map-scu)) (a .x .0 / 4 + a .a - 1) (k + a .b - 1)) q
+    ap (λ (k : ℕ). wordAt (a .w) (now (a .words)) (k + a .a - 1) (s .before .pel2scu2 .result .0 + a .b - 1)) p
+    ∙ ap (λ (k : ℕ). wordAt (a .w) (now (a .words)) (a .x .0 / 4 + a .a - 1) (k + a .b - 1)) q
     ∙ found _ _ _ _ _ _ _ (counted-in _ _ (omega arith) (omega arith)) (counted-in _ _ (omega arith) (omega arith))
 
 pub word-near-spec : {M : Type 1} → statement M

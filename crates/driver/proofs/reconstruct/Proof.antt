@@ -19,7 +19,7 @@ input s =
       y = a .y .now;
       u = a .u .now;
       v = a .v .now;
-      words = a .map-scu .now;
+      words = a .words .now;
       modes = a .modes .now;
       keep = a .keep .now;
     }

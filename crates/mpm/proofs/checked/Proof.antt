@@ -19,7 +19,7 @@ use Rattle.mpm.proofs.checked.Tie as tie
 
 -- the input of a call
 abbrev of : tie.Start → Input
-of s = let a = s .args in record { w = a .w; h = a .h; words = now (a .map-scu); modes = now (a .map-ipm); table = now (a .table); x = a .x .0; y = a .y .0 }
+of s = let a = s .args in record { w = a .w; h = a .h; words = now (a .words); modes = now (a .modes); table = now (a .table); x = a .x .0; y = a .y .0 }
 
 -- the row past its first check, its second and its third
 abbrev rest3 : Input → Answer

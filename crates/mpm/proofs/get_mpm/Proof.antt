@@ -15,7 +15,7 @@ abbrev of : tie.Start → PartInput
 of s =
     let a = s .args in
     record {
-      input = record { w = a .w; h = a .h; words = now (a .map-scu); modes = now (a .map-ipm); table = now (a .table); x = a .x .0; y = a .y .0 };
+      input = record { w = a .w; h = a .h; words = now (a .words); modes = now (a .modes); table = now (a .table); x = a .x .0; y = a .y .0 };
       memory = ptr (a .table) .0;
       start = ptr (a .table) .1;
     }

@@ -12,10 +12,10 @@ use Rattle.def.proofs.Units.{unit-below}
 use Rattle.mpm.proofs.mode_at.Statement.{statement}
 use Rattle.mpm.proofs.mode_at.Tie as tie
 
-in-words : (c : tie.Start) → let a = c .args in a .v * (a .w / 4) + a .u < length (now (a .map-scu))
+in-words : (c : tie.Start) → let a = c .args in a .v * (a .w / 4) + a .u < length (now (a .words))
 in-words c = unit-below _ _ _ _ _ (c .pre .column) (c .pre .row) (c .pre .words-long)
 
-in-modes : (c : tie.Start) → let a = c .args in a .v * (a .w / 4) + a .u < length (now (a .map-ipm))
+in-modes : (c : tie.Start) → let a = c .args in a .v * (a .w / 4) + a .u < length (now (a .modes))
 in-modes c = unit-below _ _ _ _ _ (c .pre .column) (c .pre .row) (c .pre .modes-long)
 
 mul-at : tie.Need-mul-at
@@ -32,7 +32,7 @@ shared-slice-read-word c = in-words (c .before .before .before)
 
 -- the flags of the unit's word
 flags : (c : tie.After-get-cod) → let a = c .before .before .before .before .before .args in
-    let word = unitAt (a .w) (now (a .map-scu)) (a .u) (a .v) in (c .before .get-if .result && c .get-cod .result) ≡ (intraOf word && doneOf word)
+    let word = unitAt (a .w) (now (a .words)) (a .u) (a .v) in (c .before .get-if .result && c .get-cod .result) ≡ (intraOf word && doneOf word)
 flags c = rw (c .before .get-if .ensures, c .get-cod .ensures)
 
 shared-slice-read-result : tie.Need-shared-slice-read-result

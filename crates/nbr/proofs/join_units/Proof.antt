@@ -12,13 +12,13 @@ use Rattle.nbr.proofs.join_units.Statement.{statement}
 use Rattle.nbr.proofs.join_units.Tie as tie
 
 abbrev Inv-loop : tie.InvT-loop
-Inv-loop plane map-scu arm units n constrained all₀ i₀ all i = (i ≤ units) × Joined (armAt arm n constrained plane map-scu) all (i * n)
+Inv-loop plane words arm units n constrained all₀ i₀ all i = (i ≤ units) × Joined (armAt arm n constrained plane words) all (i * n)
 
 abbrev μ-loop : tie.MeasureT-loop
-μ-loop plane map-scu arm units n constrained all₀ i₀ all i = units - i
+μ-loop plane words arm units n constrained all₀ i₀ all i = units - i
 
 loop-holds : tie.Need-loop-holds Inv-loop μ-loop
-loop-holds c = let a = c .before .before .args in (omega arith, rw (zero-mul (a .n)) (join-none (armAt (a .arm) (a .n) (a .constrained) (now (a .plane)) (now (a .map-scu)))))
+loop-holds c = let a = c .before .before .args in (omega arith, rw (zero-mul (a .n)) (join-none (armAt (a .arm) (a .n) (a .constrained) (now (a .plane)) (now (a .words)))))
 
 loop-again : tie.Need-loop-again Inv-loop μ-loop
 loop-again c =
@@ -26,7 +26,7 @@ loop-again c =
     let a = h .before .before .before .args in
     let i = h .loop .i in (
       search needs,
-      rw (next-row i (a .n)) (join-part (armAt (a .arm) (a .n) (a .constrained) (now (a .plane)) (now (a .map-scu))) _ (h .loop .all) (i * a .n)
+      rw (next-row i (a .n)) (join-part (armAt (a .arm) (a .n) (a .constrained) (now (a .plane)) (now (a .words))) _ (h .loop .all) (i * a .n)
           (c .join-unit .result) (a .n) (λ j p. refl) (c .join-unit .ensures) (h .loop .inv .1)),
     )
 

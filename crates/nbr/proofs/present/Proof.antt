@@ -10,7 +10,7 @@ use Rattle.nbr.proofs.present.Statement.{statement}
 use Rattle.nbr.proofs.present.Tie as tie
 
 -- the unit's word is within the words
-here : (c : tie.Else1) → let a = c .before .before .before .args in a .arm .word + a .i * a .arm .next < length (now (a .map-scu))
+here : (c : tie.Else1) → let a = c .before .before .before .args in a .arm .word + a .i * a .arm .next < length (now (a .words))
 here c = c .before .before .before .pre (omega arith)
 
 returns : tie.Need-returns

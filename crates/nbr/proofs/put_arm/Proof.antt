@@ -12,11 +12,11 @@ use Rattle.nbr.proofs.put_arm.Tie as tie
 
 -- what is asked for units of k samples, and what they then are
 module _ (s : tie.Start) (k : ℕ) (e : s .args .n ≡ k) where
-  asked : Within (s .args .arm) k (now (s .args .plane)) (now (s .args .map-scu)) × (s .args .to + s .args .units * k ≤ length (now (s .args .run)))
+  asked : Within (s .args .arm) k (now (s .args .plane)) (now (s .args .words)) × (s .args .to + s .args .units * k ≤ length (now (s .args .run)))
   asked = rw (sym e) (s .pre .0, s .pre .1)
 
   abbrev after : ℕ → List ℕ
-  after n = let a = s .args in withRow 0 (a .to) (a .units * n) (armAt (a .arm) n (a .constrained) (now (a .plane)) (now (a .map-scu))) (now (a .run))
+  after n = let a = s .args in withRow 0 (a .to) (a .units * n) (armAt (a .arm) n (a .constrained) (now (a .plane)) (now (a .words))) (now (a .run))
 
   put : (l : List ℕ) → l ≡ after k → l ≡ after (s .args .n)
   put l h = rw e h

@@ -13,8 +13,8 @@ use Rattle.nbr.proofs.put_few.Tie as tie
 
 -- what is read of two units of m samples, and the run's length
 module _ (s : tie.Start) (m : ℕ) (e : s .args .border .n ≡ m) where
-  read : (a : Arm) → Within a (s .args .border .n) (now (s .args .plane)) (now (s .args .map-scu)) → Within a m (now (s .args .plane)) (now (s .args .map-scu))
-  read a h = subst (λ (k : ℕ). Within a k (now (s .args .plane)) (now (s .args .map-scu))) e h
+  read : (a : Arm) → Within a (s .args .border .n) (now (s .args .plane)) (now (s .args .words)) → Within a m (now (s .args .plane)) (now (s .args .words))
+  read a h = subst (λ (k : ℕ). Within a k (now (s .args .plane)) (now (s .args .words))) e h
 
   long : length (now (s .args .run)) ≡ 2 * (2 * m) + 1
   long = rw (s .pre .2, e) at (s .pre .1)

@@ -14,10 +14,10 @@ use Rattle.nbr.proofs.put_units.Statement.{statement}
 use Rattle.nbr.proofs.put_units.Tie as tie
 
 abbrev Inv-loop : tie.InvT-loop
-Inv-loop plane map-scu arm units n constrained run₀ to i₀ run i = (i ≤ units) × Rowed 0 to (armAt arm n constrained plane map-scu) run₀ run (i * n)
+Inv-loop plane words arm units n constrained run₀ to i₀ run i = (i ≤ units) × Rowed 0 to (armAt arm n constrained plane words) run₀ run (i * n)
 
 abbrev μ-loop : tie.MeasureT-loop
-μ-loop plane map-scu arm units n constrained run₀ to i₀ run i = units - i
+μ-loop plane words arm units n constrained run₀ to i₀ run i = units - i
 
 -- the unit of a turn is within the run
 room : (c : tie.In-loop Inv-loop μ-loop) → let a = c .before .before .before .before .before .args in a .to + (c .before .loop .i * a .n + a .n) ≤ length (now (a .run))

@@ -114,8 +114,8 @@ add-record-at c = omega (arith, reached (c .before) .records, start (c .before .
 -- ---- at the end
 
 lengths : (c : tie.After-loop Inv-loop μ-loop) → let s = start (c .before) in
-    let l = c .before .loop in Kept (stateOf (s .args .y .now) (s .args .u .now) (s .args .v .now) (s .args .map-scu .now) (s .args .modes .now) (s .args .keep .now) (s .args .at)
-    (s .args .k)) (stateOf (l .y) (l .u) (l .v) (l .map-scu) (l .modes) (l .keep) (l .end) (s .args .k + l .j))
+    let l = c .before .loop in Kept (stateOf (s .args .y .now) (s .args .u .now) (s .args .v .now) (s .args .words .now) (s .args .modes .now) (s .args .keep .now) (s .args .at)
+    (s .args .k)) (stateOf (l .y) (l .u) (l .v) (l .words) (l .modes) (l .keep) (l .end) (s .args .k + l .j))
 lengths c = kept _ _ _ (start (c .before) .pre .1 .0) (c .before .loop .inv .1 .asked)
 
 returns : tie.Need-returns Inv-loop μ-loop

@@ -141,8 +141,8 @@ loop-less c = omega (arith, turn-of c .loop-test .taken)
 -- ---- at the end
 
 lengths : (c : tie.After-loop Inv-loop μ-loop) → let s = start (c .before .before) in
-    let l = c .before .loop in Kept (stateOf (s .args .y .now) (s .args .u .now) (s .args .v .now) (s .args .map-scu .now) (s .args .modes .now) (s .args .keep .now) 0 0)
-    (stateOf (l .y) (l .u) (l .v) (l .map-scu) (l .modes) (l .keep) (l .at) (l .k))
+    let l = c .before .loop in Kept (stateOf (s .args .y .now) (s .args .u .now) (s .args .v .now) (s .args .words .now) (s .args .modes .now) (s .args .keep .now) 0 0)
+    (stateOf (l .y) (l .u) (l .v) (l .words) (l .modes) (l .keep) (l .at) (l .k))
 lengths c = kept _ _ _ (start (c .before .before) .pre .1 .0) (c .before .loop .inv .2 .asked)
 
 returns : tie.Need-returns Inv-loop μ-loop

@@ -61,7 +61,7 @@ returns-2 c =
     let d = u-coded (u .before) in
     let a = start d .args in
     colour-drawn (givenOf (a .w) (a .h) (a .format) (a .constrained) [] (a .residual .now) [] (a .pred-u .now) (a .pred-v .now)) (a .leaf) (a .«record» .kind) (a .«record» .mask)
-    (a .at) (a .map-scu .now) (a .u .now) (a .v .now) (d .coded-u .ensures) (v .coded-v .ensures) (u .component .ensures) (k .component2 .ensures)
+    (a .at) (a .words .now) (a .u .now) (a .v .now) (d .coded-u .ensures) (v .coded-v .ensures) (u .component .ensures) (k .component2 .ensures)
 
 pub leaf-colour-spec : {M : Type 1} → statement M
 leaf-colour-spec =

@@ -45,7 +45,7 @@ returns c =
     let e = coded (d .before) in
     let a = start e .args in
     planes-drawn (givenOf (a .w) (a .h) (a .format) (a .constrained) [] (a .residual .now) (a .pred-y .now) (a .pred-u .now) (a .pred-v .now)) (a .leaf) (a .«record» .kind)
-    (a .«record» .mask) (a .at) (a .map-scu .now) (a .u .now) (a .v .now) (a .y .now) (e .coded-y .ensures) (d .component .ensures) (k .leaf-colour .ensures)
+    (a .«record» .mask) (a .at) (a .words .now) (a .u .now) (a .v .now) (a .y .now) (e .coded-y .ensures) (d .component .ensures) (k .leaf-colour .ensures)
 
 pub leaf-planes-spec : {M : Type 1} → statement M
 leaf-planes-spec =

@@ -30,7 +30,7 @@ abbrev one-y : tie.Then1 Inv-loop μ-loop → ℕ
 one-y c = c .before .before .before .pel2scu2 .result .0
 
 -- the row lies in the maps
-one-in : (c : tie.Then1 Inv-loop μ-loop) → let a = one-start c .args in one-y c * (a .w / 4) + a .w / 4 ≤ length (a .map-scu .now)
+one-in : (c : tie.Then1 Inv-loop μ-loop) → let a = one-start c .args in one-y c * (a .w / 4) + a .w / 4 ≤ length (a .words .now)
 one-in c =
     let s = one-start c in
     row-below _ _ (s .args .leaf .y .0 / 4 + s .args .leaf .side / 4) _ (omega (arith, c .before .before .before .pel2scu2 .ensures, c .if1 .taken)) (s .pre .bottom)
@@ -81,7 +81,7 @@ across : (c : tie.In-loop Inv-loop μ-loop) → x-of c + start c .args .leaf .si
 across c = omega (arith, c .before .before .before .before .before .before .pel2scu .ensures, start c .pre .right)
 
 -- in a turn: the row lies in the maps
-in-map : (c : tie.In-loop Inv-loop μ-loop) → let a = start c .args in (y-of c + c .before .loop .r) * (a .w / 4) + a .w / 4 ≤ length (a .map-scu .now)
+in-map : (c : tie.In-loop Inv-loop μ-loop) → let a = start c .args in (y-of c + c .before .loop .r) * (a .w / 4) + a .w / 4 ≤ length (a .words .now)
 in-map c =
     let s = start c in
     row-below _ _ (s .args .leaf .y .0 / 4 + s .args .leaf .side / 4) _ (omega (arith, c .before .before .before .before .before .pel2scu2 .ensures, c .loop-test .taken)) (s .pre .bottom)
