@@ -1,5 +1,14 @@
-// What the programs over split maps in files share: where a block of a map lies, and a file that is written.
-// No contract can say what is read or written: what stands here is proved safe.
+// What the programs over split maps in files share: where a root and a block of a map lie, where a map or its digits are refused, and a file that is written.
+// No contract can say what is read or written: what stands here is proved safe. It is for the programs alone.
+ghost use Prim.Native.Nat.{_≤_};
+
+mod bytes; // bytes.rt: where a map is refused
+mod digits; // digits.rt: where its digits are refused
+
+pub use bytes::refused_map;
+pub use digits::Digit;
+pub use digits::offending;
+pub use digits::refused_digits;
 
 // ---- a block of a map
 
@@ -49,6 +58,54 @@ pub fn root_y(across: usize, n: usize) -> usize {
         return 0;
     }
     64 * (n / across % 64)
+}
+
+// How many roots a picture has, and no more than 4,096.
+pub fn root_count(w: usize, h: usize) -> usize
+    ensures { λ r. ⌜ r ≤ 4096 ⌝ }
+{
+    let n = marks::root_count(w, h);
+    if 4096 < n {
+        return 0;
+    }
+    n
+}
+
+// ---- what is told of it
+
+// A place in luma samples, after some words.
+fn tell_at(words: &[u8], x: usize, y: usize) {
+    say::counted(words, x);
+    say::counted(b" ", y);
+}
+
+// Root n of a picture of width w: `root 1 at 64 0`.
+pub fn tell_root(w: usize, n: usize) {
+    let across = def::roots_along(w);
+    say::counted(b"root ", n);
+    tell_at(b" at ", root_x(across, n), root_y(across, n));
+}
+
+// The block of root n that has a place among its root's bytes: `root 1 at 64 0, block of 16 at 96 0: `.
+pub fn tell_block(w: usize, n: usize, place: usize) {
+    let across = def::roots_along(w);
+    let b = block_at(
+        root_x(across, n),
+        root_y(across, n),
+        place / 256,
+        place % 256,
+    );
+    tell_root(w, n);
+    say::counted(b", block of ", b.side);
+    tell_at(b" at ", b.x, b.y);
+    say::words(b": ");
+}
+
+// The size of a picture that there is not.
+fn tell_size(w: usize, h: usize) {
+    say::counted(b"a picture of ", w);
+    say::counted(b"x", h);
+    say::words(b": ");
 }
 
 // ---- a file

@@ -14,21 +14,21 @@ fn help() {
 }
 
 // The map of the file that argument 3 names. Answers the exit status.
-fn run() -> u8 {
+fn run(w: words::Counted, h: words::Counted) -> u8 {
     let file = words::open(3);
     if file < 0 {
         return 2;
     }
-    let w = words::number_arg(1);
-    let h = words::number_arg(2);
     let status = rooms::mended(file, w.value, h.value, false);
     libc::close(file);
     status
 }
 
 fn main() {
-    if os::arg_count() == 5 {
-        say::status(run());
+    let w = words::number_arg(1);
+    let h = words::number_arg(2);
+    if w.good & h.good & (os::arg_count() == 5) {
+        say::status(run(w, h));
         return;
     }
     help();

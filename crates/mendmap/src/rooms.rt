@@ -32,15 +32,12 @@ fn one_map(file: i32, w: usize, h: usize, map: &mut [u8], out: &mut [u8], list: 
         return 2;
     }
     match mend::mend(w, h, &map[..n], &mut *out, &mut *list) {
-        Mended::Refused(r) => {
-            say::refused(def::refusal_number(r));
-            1
-        }
+        Mended::Refused(r) => map_file::refused_map(3, w, h, &map[..n], def::refusal_number(r)),
         Mended::Done(count) => {
             if !map_file::save(4, out) {
                 return 2;
             }
-            let printed = list::print(w / 64 + (w % 64 + 63) / 64, list, count);
+            let printed = list::print(def::roots_along(w), list, count);
             say::shown(printed, if count == 0 { 0 } else { 3 })
         }
     }

@@ -40,13 +40,18 @@ pub fn end_line() -> bool {
     io::write_all(STDOUT_FILENO, b"\n")
 }
 
+// Why standard output cannot be written, where that is what failed last. Answers the exit status.
+pub fn unwritten() -> u8 {
+    os::fail(b"standard output");
+    2
+}
+
 // The exit status of something told on standard output: 2 where it could not be written, which is told.
 pub fn shown(written: bool, n: u8) -> u8 {
     if written {
         return n;
     }
-    line(b"standard output cannot be written");
-    2
+    unwritten()
 }
 
 // ---- the exit status

@@ -17,11 +17,6 @@ fn digits_room() -> [u8; 43521] {
 
 // ---- both ways
 
-fn refused(r: def::Refusal) -> u8 {
-    say::refused(def::refusal_number(r));
-    1
-}
-
 // How many bytes the digits take, at position `at` behind them, in bits. Answers the exit status, 2 where that cannot be written.
 fn tell(at: usize, status: u8) -> u8 {
     field(b"bytes=", at / 8);
@@ -33,7 +28,7 @@ fn packed(w: usize, h: usize, map: &[u8], digits: &mut [u8]) -> u8 {
     let placed = pack::put_map(w, h, map, &mut *digits, 0);
     let answer = placed.answer;
     match answer {
-        Answer::Refused(r) => refused(r),
+        Answer::Refused(r) => map_file::refused_map(4, w, h, map, def::refusal_number(r)),
         Answer::Done => {
             let n = placed.at / 8;
             if digits.len() < n {
@@ -52,12 +47,13 @@ fn unpacked(w: usize, h: usize, digits: &[u8], map: &mut [u8]) -> u8 {
     let placed = pack::get_map(w, h, digits, 0, &mut *map);
     let answer = placed.answer;
     match answer {
-        Answer::Refused(r) => refused(r),
+        Answer::Refused(r) => map_file::refused_digits(4, w, h, digits, def::refusal_number(r)),
         Answer::Done => {
             if !map_file::save(5, map) {
                 return 2;
             }
             if placed.at / 8 < digits.len() {
+                words::name(4);
                 say::line(b"the file goes on behind the map");
                 return tell(placed.at, 3);
             }
@@ -75,11 +71,7 @@ fn one_map(file: i32, w: usize, h: usize, unpack: bool) -> u8 {
         if words::unreadable(4, file) {
             return 2;
         }
-        let roots = marks::root_count(w, h);
-        if 4096 < roots {
-            return 2;
-        }
-        let bytes = 1024 * roots;
+        let bytes = 1024 * map_file::root_count(w, h);
         return unpacked(w, h, &digits[..n], &mut map[..bytes]);
     }
     let n = io::read_full(file, &mut map);
@@ -103,13 +95,11 @@ fn help() {
 }
 
 // The way that was asked for, of the file that argument 4 names. Answers the exit status.
-fn run(unpack: bool) -> u8 {
+fn run(unpack: bool, w: words::Counted, h: words::Counted) -> u8 {
     let file = words::open(4);
     if file < 0 {
         return 2;
     }
-    let w = words::number_arg(2);
-    let h = words::number_arg(3);
     let status = one_map(file, w.value, h.value, unpack);
     libc::close(file);
     status
@@ -117,8 +107,11 @@ fn run(unpack: bool) -> u8 {
 
 fn main() {
     let unpack = words::asked(1, b"unpack");
-    if (os::arg_count() == 6) & (unpack | words::asked(1, b"pack")) {
-        say::status(run(unpack));
+    let w = words::number_arg(2);
+    let h = words::number_arg(3);
+    let good = w.good & h.good & (os::arg_count() == 6);
+    if good & (unpack | words::asked(1, b"pack")) {
+        say::status(run(unpack, w, h));
         return;
     }
     help();

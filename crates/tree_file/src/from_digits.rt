@@ -1,6 +1,6 @@
 // A map by its digits, as `bin/splitpack` writes it.
-use crate::answered;
 use crate::map_bytes;
+use decoder::Answer;
 
 // The digits of the largest picture, 85 bits a root, and a byte more, by which a file that goes on is seen. A call keeps the checker from looking into the
 // array.
@@ -8,14 +8,21 @@ fn room() -> [u8; 43521] {
     [0u8; 43521]
 }
 
-fn unpacked(w: usize, h: usize, digits: &[u8], map: &mut [u8]) -> u8 {
+fn unpacked(at: usize, w: usize, h: usize, digits: &[u8], map: &mut [u8]) -> u8 {
     let placed = decoder::get_map(w, h, digits, 0, map);
     let answer = placed.answer;
-    let status = answered(answer);
-    if (status == 0) & (placed.at / 8 < digits.len()) {
-        say::line(b"(the file goes on behind the map)");
+    match answer {
+        Answer::Refused(r) => {
+            map_file::refused_digits(at, w, h, digits, decoder::refusal_number(r))
+        }
+        Answer::Done => {
+            if placed.at / 8 < digits.len() {
+                words::name(at);
+                say::line(b"the file goes on behind the map");
+            }
+            0
+        }
     }
-    status
 }
 
 // The map of a picture of w by h, from the file that an argument names, put first into a room. Answers the exit status: 0, or that of what was told.
@@ -27,8 +34,9 @@ pub fn by_digits(at: usize, file: i32, w: usize, h: usize, map: &mut [u8]) -> u8
     }
     let bytes = map_bytes(w, h);
     if map.len() < bytes {
+        words::name(at);
         say::line(b"there is no room for the map");
         return 2;
     }
-    unpacked(w, h, &digits[..n], &mut map[..bytes])
+    unpacked(at, w, h, &digits[..n], &mut map[..bytes])
 }

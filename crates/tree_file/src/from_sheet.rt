@@ -1,9 +1,10 @@
 // A sheet. It is read and refused as `edgelist` does: what is wrong with one is looked up in its listing.
 ghost use Prim.Native.Nat.{_≤_};
 use crate::Tree;
-use crate::answered;
 use crate::map_bytes;
 use crate::no_tree;
+use crate::sheet_place::tell_where;
+use decoder::Answer;
 use decoder::Printed;
 use decoder::Sheet;
 
@@ -52,8 +53,8 @@ fn tell(text: &[u8], n: usize, number: u8) {
     say::line(b"");
 }
 
-// Whether a sheet is refused, which is told.
-fn refused(input: &[u8]) -> bool {
+// Whether the sheet of a file that an argument names is refused, which is told.
+fn refused(at: usize, input: &[u8]) -> bool {
     let mut text = listing_room();
     match decoder::listing(input, &mut text) {
         Printed::Refused(_) => true,
@@ -62,6 +63,8 @@ fn refused(input: &[u8]) -> bool {
             if number == 0 {
                 return false;
             }
+            words::name(at);
+            tell_where(input, number);
             tell(&text, n, number);
             true
         }
@@ -71,7 +74,7 @@ fn refused(input: &[u8]) -> bool {
 // ---- its map
 
 // The digits as bits; a digit is odd where it is 1.
-fn put_digits(digits: &[u8], bits: &mut [u8]) {
+pub(crate) fn put_digits(digits: &[u8], bits: &mut [u8]) {
     let mut i = 0;
     while i < digits.len() {
         decoder::put_bit(bits, i, digits[i]);
@@ -79,10 +82,23 @@ fn put_digits(digits: &[u8], bits: &mut [u8]) {
     }
 }
 
+// What an answer came to. Answers the exit status.
+fn answered(at: usize, answer: Answer) -> u8 {
+    match answer {
+        Answer::Done => 0,
+        Answer::Refused(r) => {
+            words::name(at);
+            say::refused(decoder::refusal_number(r));
+            1
+        }
+    }
+}
+
 // The map of a picture that is not refused, by its digits, first in a room.
-fn mapped(w: usize, h: usize, digits: &[u8], map: &mut [u8]) -> u8 {
+fn mapped(at: usize, w: usize, h: usize, digits: &[u8], map: &mut [u8]) -> u8 {
     let n = map_bytes(w, h);
     if map.len() < n {
+        words::name(at);
         say::line(b"there is no room for the sheet's map");
         return 2;
     }
@@ -90,12 +106,12 @@ fn mapped(w: usize, h: usize, digits: &[u8], map: &mut [u8]) -> u8 {
     put_digits(digits, &mut bits);
     let placed = decoder::take_map(w, h, &bits, 0, digits.len(), &mut map[..n]);
     let answer = placed.answer;
-    answered(answer)
+    answered(at, answer)
 }
 
 // The tree of a sheet's text.
-fn tree(input: &[u8], map: &mut [u8]) -> Tree {
-    if refused(input) {
+fn tree(at: usize, input: &[u8], map: &mut [u8]) -> Tree {
+    if refused(at, input) {
         return no_tree(1);
     }
     match decoder::read(input) {
@@ -114,7 +130,7 @@ fn tree(input: &[u8], map: &mut [u8]) -> Tree {
             if input.len() < to {
                 return no_tree(1);
             }
-            let status = mapped(w, h, &input[from..to], map);
+            let status = mapped(at, w, h, &input[from..to], map);
             Tree {
                 status,
                 w,
@@ -133,5 +149,5 @@ pub fn by_sheet(at: usize, file: i32, map: &mut [u8]) -> Tree {
     if words::unreadable(at, file) {
         return no_tree(2);
     }
-    tree(&input[..n], map)
+    tree(at, &input[..n], map)
 }

@@ -1,18 +1,14 @@
 // A picture's split tree from a file: a sheet, a split map by its bytes, or one by its digits. Each is judged by the call of the face that takes it; what is
-// refused is told with its place. No contract can say what is read or written: what stands here is proved safe. It is for the programs alone.
+// refused is told with its file and its place. No contract can say what is read or written: what stands here is proved safe. It is for the programs alone.
 ghost use Prim.Native.Nat.{_≤_};
-use decoder::Answer;
 
 mod from_digits; // from_digits.rt: a map by its digits
-mod from_map; // from_map.rt: a map by its bytes, and where it is refused
+mod from_map; // from_map.rt: a map by its bytes
 mod from_sheet; // from_sheet.rt: a sheet
+mod sheet_place; // sheet_place.rt: where a sheet is refused
 
 pub use from_digits::by_digits;
-pub use from_map::band_height;
-pub use from_map::band_room;
 pub use from_map::by_bytes;
-pub use from_map::list_room;
-pub use from_map::number_at;
 pub use from_sheet::by_sheet;
 
 // What is known of a tree: its picture's size, and the transform limit. The status is 0, or the exit status of what was told: 1 where the tree is refused, 2
@@ -37,31 +33,16 @@ fn no_tree(status: u8) -> Tree {
 pub fn map_bytes(w: usize, h: usize) -> usize
     ensures { λ r. ⌜ r ≤ 4194304 ⌝ }
 {
-    let roots = decoder::root_count(w, h);
-    if 4096 < roots {
-        return 0;
-    }
-    1024 * roots
+    1024 * map_file::root_count(w, h)
 }
 
 // How many roots a picture of a width has across.
 pub fn roots_across(w: usize) -> usize
     ensures { λ r. ⌜ r ≤ 64 ⌝ }
 {
-    let n = decoder::root_count(w, 64);
+    let n = map_file::root_count(w, 64);
     if 64 < n {
         return 0;
     }
     n
-}
-
-// What an answer came to; a refusal is told by its number alone.
-fn answered(answer: Answer) -> u8 {
-    match answer {
-        Answer::Done => 0,
-        Answer::Refused(r) => {
-            say::refused(decoder::refusal_number(r));
-            1
-        }
-    }
 }

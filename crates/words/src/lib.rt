@@ -1,6 +1,7 @@
 // What a program is asked by: its arguments' words and numbers, and the files that they name. It is for the programs alone.
 // No contract can say what is read: what stands here is proved safe.
 ghost use Prim.Native.Nat.{_≤_};
+use libc::STDERR_FILENO;
 
 // Whether a word is this one.
 pub fn is(word: &[u8], name: &[u8]) -> bool {
@@ -73,6 +74,18 @@ pub fn number_arg(at: usize) -> Counted {
 }
 
 // ---- files
+
+// The name of a file and a colon, before what is told of it: that which argument `at` has, or standard input for argument 0.
+pub fn name(at: usize) {
+    if at == 0 {
+        io::write_all(STDERR_FILENO, b"standard input: ");
+        return;
+    }
+    let mut path = io::buffer();
+    let n = os::arg(at, &mut path);
+    io::write_all(STDERR_FILENO, &path[..n]);
+    io::write_all(STDERR_FILENO, b": ");
+}
 
 // Opens the file that an argument names, to be read; below 0 where that fails, which is told.
 pub fn open(at: usize) -> i32 {

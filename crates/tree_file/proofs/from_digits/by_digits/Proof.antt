@@ -9,5 +9,5 @@ pub by-digits-spec : {M : Type 1} → statement M
 by-digits-spec =
     tie.close
     (tie.spec (λ c κs. search needs) (λ c. search needs) (λ c κs. search needs) (λ c κs. search needs) (λ c. search needs) (λ c κs. search needs)
-    (λ c. search needs) (λ c κs. search needs) (λ c. search needs) (λ c. search needs) (λ c. search needs) (λ c. search needs)
-    (λ c. sym (length-take-le _ _ (search needs))) (λ c κs. search needs) (λ c. search needs) (λ c. search needs))
+    (λ c κs. search needs) (λ c. search needs) (λ c κs. search needs) (λ c. search needs) (λ c. search needs) (λ c. search needs)
+    (λ c. search needs) (λ c. sym (length-take-le _ _ (search needs))) (λ c κs. search needs) (λ c. search needs) (λ c. search needs))
