@@ -1,0 +1,4 @@
+// `edgepicture` once more, on a sheet.
+fn main() {
+    edge_svg::run();
+}
