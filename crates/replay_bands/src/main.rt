@@ -144,7 +144,7 @@ fn deblocked(
 ) -> usize {
     let last = settings(s, at);
     let position = Bands { next: call.next };
-    print(position.deblock_band(
+    let answer = position.deblock_band(
         call.band,
         call.w,
         call.h,
@@ -160,12 +160,8 @@ fn deblocked(
         t1,
         strengths,
         last.settings,
-    ));
-    replay::print_u16(y);
-    replay::print_u16(u);
-    replay::print_u16(v);
-    replay::print_u32(words);
-    replay::print_end();
+    );
+    print(answer, y, u, v, words);
     last.next
 }
 
@@ -203,8 +199,8 @@ fn settings(s: &[u8], at: usize) -> Last {
     }
 }
 
-// The number and the counts, which are 0 where it refused, and the position.
-fn print(answer: Banded) {
+// The number and the counts, which are 0 where it refused, the position, and what it may have written.
+fn print(answer: Banded, y: &[u16], u: &[u16], v: &[u16], words: &[u32]) {
     match answer {
         Banded::Done {
             vertical,
@@ -223,30 +219,24 @@ fn print(answer: Banded) {
             replay::print_usize(at.next);
         }
     }
+    replay::print_u16(y);
+    replay::print_u16(u);
+    replay::print_u16(v);
+    replay::print_u32(words);
+    replay::print_end();
 }
 
-// Every case in turn: a newline ends each.
+// Every case in turn.
 fn every(s: &[u8]) {
     let mut at = 0;
     while at < s.len() {
-        let next = one(s, at);
-        if next < at {
-            return;
-        }
-        if s.len() <= next {
-            return;
-        }
-        at = next + 1;
+        let end = one(s, at);
+        at = replay::after(s, at, end);
     }
 }
 
-// A call keeps the checker from looking into the array.
-fn room() -> [u8; 2300000] {
-    [0u8; 2300000]
-}
-
 fn main() {
-    let mut all = room();
+    let mut all = replay::room();
     let n = replay::load(&mut all);
     every(&all[..n]);
 }
