@@ -6,6 +6,7 @@ pub mod Entries
 pub mod Lanes
 pub mod Lengths
 pub mod Listed
+pub mod Pairs
 pub mod Plans
 pub mod Room
 pub mod Rows

@@ -3,7 +3,7 @@
 --     rows-lines     four rows, written one after the other, are their lines
 --     rows-copied    so are four rows that are copied
 --     gathered    rows of a plane as lanes
---     beside-luma, beside-chroma    in which pass a unit's lines lie side by side
+--     beside-at    in which pass lines lie side by side; beside-luma, beside-chroma    a unit's lines do
 --     rows-within    where the four rows lie
 -- Assumes nothing.
 use Prim.Native.Nat.{ℕ, zero, suc, _+_, _*_, _≤_, _<_}
@@ -153,17 +153,15 @@ gathered all p xs t r first n m e h l w =
     subst (Gathered p xs t first n) (sym (w ∙ ap (λ (a : Mask). putLines a (λ (k : ℕ). samplesAt (p .step) (p .at + k) xs) 8 1 first n t) m)) (lanes-put p xs t first n e h l)
 
 -- only the horizontal pass has lines side by side: in the vertical the next one lies a row further on, which is an even number of samples
+pub beside-at : (d : Pass) (m w h n c a : ℕ) (p : Place) → (m * w ≡ 1 → ⊥) → n ≤ m * unitsAlong d w h → p ≡ placeOf d (m * w) (m * c) (m * a) → p .next ≡ 1 → Beside p n
+beside-at vertical m w h n c a p odd r e o = absurd (odd (sym (ap (λ (q : Place). q .next) e) ∙ o))
+beside-at horizontal m w h n c a p odd r e o = subst (λ (q : Place). Beside q n) (sym e) (record { beside = refl; room = r })
+
 pub beside-luma : (d : Pass) (w h c a : ℕ) (p : Place) → a < unitsAlong d w h → p ≡ placeOf d (4 * w) (4 * c) (4 * a) → p .next ≡ 1 → Beside p 4
-beside-luma vertical w h c a p l e n = absurd (odd (sym (ap (λ (q : Place). q .next) e) ∙ n)) where
-  odd : 4 * w ≡ 1 → ⊥
-  odd e = omega arith
-beside-luma horizontal w h c a p l e n = subst (λ (q : Place). Beside q 4) (sym e) (record { beside = refl; room = omega arith })
+beside-luma d w h c a p l = beside-at d 4 w h 4 c a p (λ (e : 4 * w ≡ 1). omega arith) (omega arith)
 
 pub beside-chroma : (d : Pass) (w h c a : ℕ) (p : Place) → a < unitsAlong d w h → p ≡ placeOf d (2 * w) (2 * c) (2 * a) → p .next ≡ 1 → Beside p 2
-beside-chroma vertical w h c a p l e n = absurd (odd (sym (ap (λ (q : Place). q .next) e) ∙ n)) where
-  odd : 2 * w ≡ 1 → ⊥
-  odd e = omega arith
-beside-chroma horizontal w h c a p l e n = subst (λ (q : Place). Beside q 2) (sym e) (record { beside = refl; room = omega arith })
+beside-chroma d w h c a p l = beside-at d 2 w h 2 c a p (λ (e : 2 * w ≡ 1). omega arith) (omega arith)
 
 -- lines that lie side by side in a plane: their four rows do
 pub rows-within : (p : Place) (k : ℕ) (xs : List ℕ) → p .next ≡ 1 → Inside p k xs → p .at + (k + 1) + 3 * p .step ≤ length xs

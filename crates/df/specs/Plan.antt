@@ -139,6 +139,19 @@ pub record Plan (d : Pass) (w h : ℕ) (l places marks : List ℕ) (n : ℕ) : T
   pub units : (k : ℕ) → k < n → At d w h (getD l (2 * k) 0) (getD l (2 * k + 1) 0)
   pub few : (k : ℕ) → k < n → getD places k 0 ≤ 207
 
+-- edge j of a list is the one right after (c, a) along the same line, and neither it nor edge i is beside a kept unit
+pub record Follows (d : Pass) (l marks : List ℕ) (i j c a : ℕ) : Type 0 where
+  pub unmarked : getD marks i 0 ≡ 0
+  pub next-unmarked : getD marks j 0 ≡ 0
+  pub across : crossOf d (edge (getD l (2 * j) 0) (getD l (2 * j + 1) 0)) ≡ c
+  pub along : alongOf d (edge (getD l (2 * j) 0) (getD l (2 * j + 1) 0)) ≡ a + 4
+
+-- a turn over a plan of n edges, from edge i to edge r: it takes the plane xs to ys, so that what the first i edges left becomes what the first r leave
+pub record Turned (t : List ℕ) (first : ℕ) (c : Component) (d : Pass) (w : ℕ) (l places marks : List ℕ) (n i r : ℕ) (xs ys : List ℕ) : Type 0 where
+  pub on : i < r
+  pub within : r ≤ n
+  pub done : (zs : List ℕ) → xs ≡ filterIn t first c d w l places marks i zs → ys ≡ filterIn t first c d w l places marks r zs
+
 -- the list of a pass's edges of root i, `top` rows of units further down, r of them. w and h are in luma samples
 pub record ListedRoot (w h : ℕ) (s : List ℕ) (d : Pass) (halved : Bool) (top i : ℕ) (l : List ℕ) (r : ℕ) : Type 0 where
   pub long : length l ≡ 512

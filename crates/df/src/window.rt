@@ -1,5 +1,5 @@
-// The lines of a unit's edge: gathered into eight lanes, filtered side by side, and written back. Luma and chroma, both directions:
-// line by line, or row by row where the lines lie side by side.
+// The lines of a unit's edge, or of two that follow each other along a line: gathered into eight lanes, filtered side by side, and written
+// back. Luma and chroma, both directions: line by line, or row by row where the lines lie side by side.
 // The Rust beside it: df.rs, deblock_scu_hor_luma, deblock_scu_hor_chroma, deblock_scu_ver_luma, deblock_scu_ver_chroma.
 ghost use mathlib.Core.Path.{_≡_};
 ghost use mathlib.Core.Bool.{true, false};
@@ -8,7 +8,7 @@ ghost use lib.ListN.{length, getD};
 ghost use Rattle.def.specs.declared.Component.the-variants.{Luma, Chroma};
 ghost use Rattle.line.specs.Line.{maskOf};
 ghost use Rattle.lanes.specs.Lanes.{laneOf};
-ghost use Rattle.df_rules.specs.Window.{putIf, windowAt};
+ghost use Rattle.df_rules.specs.Window.{putIf, windowAt, windowsAt};
 ghost use Rattle.df_rules.specs.Lanes.{samplesAt, putLine, putLines};
 ghost use Rattle.df.specs.Edges.{Inside, Beside, Lying, Gathered};
 ghost use Rattle.df.specs.Rows.{putRow, putRowIf};
@@ -169,6 +169,24 @@ pub(crate) fn luma(rows: bool, y: &mut [u16], p: Place, st: u16)
     scatter(y, all, &r, 0, 4, p);
 }
 
+// Two units' edges in luma, the second right after the first along the same line: eight lines, four at each strength.
+pub(crate) fn luma_two(rows: bool, y: &mut [u16], p: Place, s0: u16, s1: u16)
+    requires { ⌜ (rows ≡ true → Beside p 8) × Lying p 8 (now y) ⌝ }
+    ensures { λ _. ⌜ now (y .exit) ≡ windowsAt (maskOf Luma false false) s0 s1 (p .step) (p .next) (p .at) 4 (now (y .entry)) ⌝ }
+{
+    let all = line::mask_of(Component::Luma, false, false);
+    if rows {
+        let mut t = [0u16; 32];
+        copy_rows(&mut t, all, 0, 8, &*y, p.at, p.step, 8);
+        let r = lanes::lanes(t, [s0, s0, s0, s0, s1, s1, s1, s1]);
+        copy_rows(y, all, p.at, p.step, &r, 0, 8, 8);
+        return;
+    }
+    let t = gather([0; 32], &*y, 0, 8, p);
+    let r = lanes::lanes(t, [s0, s0, s0, s0, s1, s1, s1, s1]);
+    scatter(y, all, &r, 0, 8, p);
+}
+
 // n lines of a plane beside a kept unit: what the mask says of them is written.
 pub(crate) fn kept_lines(s: &mut [u16], mask: Mask, n: usize, p: Place, st: u16)
     requires { ⌜ (n ≤ 4) × Lying p n (now s) ⌝ }
@@ -200,4 +218,36 @@ pub(crate) fn chroma(rows: bool, u: &mut [u16], v: &mut [u16], p: Place, su: u16
     let r = lanes::lanes(t, [su, su, sv, sv, 0, 0, 0, 0]);
     scatter(u, inner, &r, 0, 2, p);
     scatter(v, inner, &r, 2, 2, p);
+}
+
+// Two units' edges in both chroma planes: four lines of each.
+pub(crate) fn chroma_two(
+    rows: bool,
+    u: &mut [u16],
+    v: &mut [u16],
+    p: Place,
+    u0: u16,
+    u1: u16,
+    v0: u16,
+    v1: u16,
+)
+    requires { ⌜ (rows ≡ true → Beside p 4) × Lying p 4 (now u) × Lying p 4 (now v) ⌝ }
+    ensures { λ _. ⌜ (now (u .exit) ≡ windowsAt (maskOf Chroma false false) u0 u1 (p .step) (p .next) (p .at) 2 (now (u .entry))) × (now (v .exit) ≡ windowsAt (maskOf Chroma false false) v0 v1 (p .step) (p .next) (p .at) 2 (now (v .entry))) ⌝ }
+{
+    let all = line::mask_of(Component::Luma, false, false);
+    let inner = line::mask_of(Component::Chroma, false, false);
+    if rows {
+        let mut t = [0u16; 32];
+        copy_rows(&mut t, all, 0, 8, &*u, p.at, p.step, 4);
+        copy_rows(&mut t, all, 4, 8, &*v, p.at, p.step, 4);
+        let r = lanes::lanes(t, [u0, u0, u1, u1, v0, v0, v1, v1]);
+        copy_rows(u, inner, p.at, p.step, &r, 0, 8, 4);
+        copy_rows(v, inner, p.at, p.step, &r, 4, 8, 4);
+        return;
+    }
+    let tu = gather([0; 32], &*u, 0, 4, p);
+    let t = gather(tu, &*v, 4, 4, p);
+    let r = lanes::lanes(t, [u0, u0, u1, u1, v0, v0, v1, v1]);
+    scatter(u, inner, &r, 0, 4, p);
+    scatter(v, inner, &r, 4, 4, p);
 }

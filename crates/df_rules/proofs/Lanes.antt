@@ -3,13 +3,14 @@
 --     line-put      a line written sample by sample
 --     put-more      a loop that writes lines
 --     window-put    on samples that is their window, at strength 0 too
---     apart-pass    the lines of a unit's edge share no place
+--     windows-put    and so it is with two windows, one right after the other
+--     apart-lines    the lines of units' edges that follow each other share no place; apart-pass    those of one do not
 -- Assumes nothing.
 use Prim.Native.Nat.{ℕ, zero, suc, _+_, _-_, _*_, _≤_, _<_}
-use mathlib.Core.Path.{_≡_, refl, sym, ap, _∙_}
+use mathlib.Core.Path.{_≡_, refl, sym, ap, _∙_, subst}
 use mathlib.Core.Bool.{Bool, true, false}
 use mathlib.Core.List.{List}
-use native.Mathlib.Nat.{mul-le-mul-right, mul-le-mul}
+use native.Mathlib.Nat.{mul-le-mul-right, mul-le-mul, add-mul, add-zero, add-suc}
 use native.Mathlib.Numerals.{add-one}
 use native.Mathlib.Omega.{arith}
 use borrow.Author.Tests.{eqb-true, eqb-false}
@@ -26,7 +27,8 @@ use Rattle.split.proofs.Induct.{test}
 use Rattle.df_rules.specs.Lent.{unitsAcross, unitsAlong}
 use Rattle.df_rules.specs.Lanes.{samplesAt, putLine, putLines, Apart}
 use Rattle.df_rules.specs.Places.{stepAcross, stepAlong}
-use Rattle.df_rules.specs.Window.{quadAt, putIf, lineAt, linesAt, windowAt, Samples}
+use Rattle.df_rules.specs.Window.{quadAt, putIf, lineAt, linesAt, windowAt, windowsAt, Samples}
+use Rattle.df_rules.proofs.Planes.{window-small}
 use Rattle.df_rules.proofs.Windows.{untouched, touched}
 
 -- ---- lines that share no place
@@ -63,6 +65,24 @@ off step next at k l j f = record {
   d = λ (e : at + l * next + j * step ≡ at + k * next + 3 * step). f 3 (omega arith) (omega arith);
 }
 
+-- a line's samples that are the same become the same
+quad-kept : (st step p : ℕ) (ys xs : List ℕ) → ((j : ℕ) → j ≤ 3 → getD ys (p + j * step) 0 ≡ getD xs (p + j * step) 0) → quadAt st step p ys ≡ quadAt st step p xs
+quad-kept st step p ys xs keep = λ i. lineOf (at₀ (keep 0 (omega arith)) i) (at₁ (keep 1 (omega arith)) i) (keep 2 (omega arith) i) (keep 3 (omega arith) i) st
+  where
+    at₀ : getD ys (p + 0 * step) 0 ≡ getD xs (p + 0 * step) 0 → getD ys p 0 ≡ getD xs p 0
+    at₀ e = let z : p + 0 * step ≡ p = omega arith in rw z at e
+
+    at₁ : getD ys (p + 1 * step) 0 ≡ getD xs (p + 1 * step) 0 → getD ys (p + step) 0 ≡ getD xs (p + step) 0
+    at₁ e = let z : p + 1 * step ≡ p + step = omega arith in rw z at e
+
+-- the first k lines leave the samples of a later one as they were
+later : (m : Mask) (q : ℕ → Quad) (st step next at k o l : ℕ) (xs : List ℕ) → Apart step next o → k ≤ l → l < o
+    → quadAt st step (at + l * next) (putLines m q step next at k xs) ≡ quadAt st step (at + l * next) xs
+later m q st step next at k o l xs g h i =
+    let keep : (j : ℕ) → j ≤ 3 → getD (putLines m q step next at k xs) (at + l * next + j * step) 0 ≡ getD xs (at + l * next + j * step) 0
+    = λ j hj. lines-off m q step next at k xs (at + l * next + j * step) (λ n hn. off step next at n l j (λ r hr e. g .never n l r j (omega arith) i hr hj e)) in
+    quad-kept st step (at + l * next) (putLines m q step next at k xs) xs keep
+
 module _ (m : Mask) (st step next at : ℕ) (xs : List ℕ) where
   -- what line k becomes, read from xs
   abbrev read : ℕ → Quad
@@ -72,19 +92,9 @@ module _ (m : Mask) (st step next at : ℕ) (xs : List ℕ) where
   unfolding linesAt lineAt putLines
   upto zero o g h = refl
   upto (suc n) o g h =
-      let p = at + n * next in
       let ys = putLines m read step next at n xs in
-      let keep : (j : ℕ) → j ≤ 3 → getD ys (p + j * step) 0 ≡ getD xs (p + j * step) 0
-      = λ j hj. lines-off m read step next at n xs (p + j * step) (λ k hk. off step next at k n j (λ i hi e. g .never k n i j hk (omega arith) hi hj e)) in
-      let q : quadAt st step p ys ≡ quadAt st step p xs
-      = λ i. lineOf (at₀ p ys (keep 0 (omega arith)) i) (at₁ p ys (keep 1 (omega arith)) i) (keep 2 (omega arith) i) (keep 3 (omega arith) i) st in
-      ap (lineAt m st step p) (upto n o g (omega arith)) ∙ (λ i. putLine m step p (q i) ys)
-    where
-      at₀ : (p : ℕ) (ys : List ℕ) → getD ys (p + 0 * step) 0 ≡ getD xs (p + 0 * step) 0 → getD ys p 0 ≡ getD xs p 0
-      at₀ p ys e = let z : p + 0 * step ≡ p = omega arith in rw z at e
-
-      at₁ : (p : ℕ) (ys : List ℕ) → getD ys (p + 1 * step) 0 ≡ getD xs (p + 1 * step) 0 → getD ys (p + step) 0 ≡ getD xs (p + step) 0
-      at₁ p ys e = let z : p + 1 * step ≡ p + step = omega arith in rw z at e
+      ap (lineAt m st step (at + n * next)) (upto n o g (omega arith))
+      ∙ (λ i. putLine m step (at + n * next) (later m read st step next at n o n xs g (omega arith) (omega arith) i) ys)
 
   pub at-once : (n : ℕ) → Apart step next n → linesAt m st step next at n xs ≡ putLines m read step next at n xs
   at-once n g = upto n n g (omega arith)
@@ -148,6 +158,32 @@ pub window-put : (m : Mask) (q : ℕ → Quad) (st step next at n : ℕ) (xs : L
 window-put m q st step next at n xs g s h =
     put-same m q (λ (k : ℕ). quadAt st step (at + k * next) xs) step next at n xs h ∙ sym (at-once m st step next at xs n g) ∙ lines-window m st step next at n xs s
 
+-- ---- two windows, the lines of the second right after those of the first
+
+-- k lines, and then n more
+put-append : (m : Mask) (q : ℕ → Quad) (step next at k n : ℕ) (xs : List ℕ)
+    → putLines m q step next at (k + n) xs ≡ putLines m (λ (j : ℕ). q (k + j)) step next (at + k * next) n (putLines m q step next at k xs)
+unfolding putLines
+put-append m q step next at k zero xs = rw (add-zero k)
+put-append m q step next at k (suc n) xs =
+    let e : at + (k + n) * next ≡ at + k * next + n * next = omega (arith, add-mul k n next) in
+    rw (add-suc k n) (λ i. putLine m step (e i) (q (k + n)) (put-append m q step next at k n xs i))
+
+pub windows-put : (m : Mask) (q : ℕ → Quad) (s₀ s₁ step next at n : ℕ) (xs : List ℕ) → Apart step next (n + n) → Samples xs
+    → ((k : ℕ) → k < n → q k ≡ quadAt s₀ step (at + k * next) xs) → ((k : ℕ) → k < n → q (n + k) ≡ quadAt s₁ step (at + (n + k) * next) xs)
+    → putLines m q step next at (n + n) xs ≡ windowsAt m s₀ s₁ step next at n xs
+windows-put m q s₀ s₁ step next at n xs g s f h =
+    let few : Apart step next n = record { never = λ k l i j a b. g .never k l i j a (omega arith) } in
+    let ys = putLines m q step next at n xs in
+    let w : ys ≡ windowAt m s₀ step next at n xs = window-put m q s₀ step next at n xs few s f in
+    let small : Samples ys = subst Samples (sym w) (window-small m s₀ step next at n xs s) in
+    let r : (k : ℕ) → k < n → q (n + k) ≡ quadAt s₁ step (at + n * next + k * next) ys
+    = λ k l. h k l ∙ sym (later m q s₁ step next at n (n + n) (n + k) xs g (omega arith) (omega arith))
+    ∙ ap (λ (i : ℕ). quadAt s₁ step i ys) (omega (arith, add-mul n k next)) in
+    put-append m q step next at n n xs
+    ∙ window-put m (λ (k : ℕ). q (n + k)) s₁ step next (at + n * next) n ys few small r
+    ∙ ap (windowAt m s₁ step next (at + n * next) n) w
+
 -- ---- the lines of a unit's edge
 
 -- vertical: a line's samples are neighbours, and the rows are at least 4 long
@@ -171,12 +207,18 @@ apart-hor step n h = record { never = go } where
       omega arith)
       (λ le. let m : i * step ≤ j * step = mul-le-mul-right step le in omega arith)
 
--- n lines of n samples a unit, where a unit has one before it across the edge: so there are two in a row, or two rows
+-- lines of units of n samples, where a unit has one before it across the edge: so there are two in a row, or two rows
+pub apart-lines : (n o w h : ℕ) → 2 ≤ n → (d : Pass) (c : ℕ) → 1 ≤ c → c < unitsAcross d w h → o ≤ n * unitsAlong d w h
+    → Apart (stepAcross d (n * w)) (stepAlong d (n * w)) o
+apart-lines n o w h two vertical c p q r =
+    let m : 2 * 2 ≤ n * w = mul-le-mul {n₁ = 2} {m₁ = 2} {n₂ = n} {m₂ = w} two (omega arith) in
+    apart-ver (n * w) o (omega arith)
+apart-lines n o w h two horizontal c p q r = apart-hor (n * w) o r
+
+-- those of one
 pub apart-pass : (n w h : ℕ) → 2 ≤ n → (d : Pass) (c a : ℕ) → 1 ≤ c → c < unitsAcross d w h → a < unitsAlong d w h
     → Apart (stepAcross d (n * w)) (stepAlong d (n * w)) n
-apart-pass n w h two vertical c a p q r =
-    let m : 2 * 2 ≤ n * w = mul-le-mul {n₁ = 2} {m₁ = 2} {n₂ = n} {m₂ = w} two (omega arith) in
-    apart-ver (n * w) n (omega arith)
-apart-pass n w h two horizontal c a p q r =
-    let m : n * 1 ≤ n * w = mul-le-mul {n₁ = n} {m₁ = 1} {n₂ = n} {m₂ = w} (omega arith) (omega arith) in
-    apart-hor (n * w) n (omega arith)
+apart-pass n w h two d c a p q r =
+    let u = unitsAlong d w h in
+    let m : n * 1 ≤ n * u = mul-le-mul {n₁ = n} {m₁ = 1} {n₂ = n} {m₂ = u} (omega arith) (omega arith) in
+    apart-lines n n w h two d c p q (omega arith)
