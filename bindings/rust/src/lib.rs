@@ -36,6 +36,32 @@
 //! assert_eq!(horizontal[..4], [0, 4, 4, 4]);
 //! # Ok::<(), Refusal>(())
 //! ```
+//!
+//! # What is lent
+//!
+//! How many elements each slice has. w and h are the sides of the picture, or of what a call says it is lent of one.
+//!
+//! | | colour | grey |
+//! |---|---|---|
+//! | y of [`Planes`] | w*h | w*h |
+//! | chroma of [`Planes`] | two of (w/2)*(h/2) | `None` |
+//! | the chroma QP tables | two of 70, the chroma QP of QP q at 12 + q | `None` |
+//! | chroma offsets | -12..=12 | 0 |
+//! | a leaf's mask | 0..=7 | 0 or 1 |
+//!
+//! | in both formats | |
+//! |---|---|
+//! | words | (w/4)*(h/4), a word a unit, row by row: bit 15 intra, 16..=22 QP, 24 luma-coded, 31 done |
+//! | modes | (w/4)*(h/4), a byte a unit: 0 DC, 1 horizontal, 2 vertical, 3 UL, 4 UR, 255 none |
+//! | keep | (w/4)*(h/4), a byte a unit: 1 where deblocking moves no sample, else 0 |
+//! | rows | (w/4)*(h/4), a byte a unit |
+//! | motion, refs | four numbers a unit, list 0 x, y, list 1 x, y; and two |
+//! | splits | 1024 a root of 64x64, roots row by row. The byte of a block of 64, 32, 16 or 8 is at 256*level + 16*row + column, level 0 to 3, with the row and column of the unit at its centre, in its root. It is 1 where the block is cut and else 0; bytes that no such block has may be anything |
+//! | strengths | 4*52: four rows, an entry a QP |
+//! | leaves, residual | 4 bytes a leaf, and the samples of the blocks that the masks name |
+//! | run | 4*n + 1, n being the block's side in its component: left downwards, the corner, up rightwards |
+//!
+//! What a call only writes may hold anything at entry: so the planes, the words, the modes and the keep bytes of [`reconstruct`].
 #![deny(missing_docs)]
 
 mod bands;
