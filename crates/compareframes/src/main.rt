@@ -3,8 +3,8 @@
 use decoder::HeaderRead;
 use libc::STDOUT_FILENO;
 
-mod picture;
-mod rooms;
+mod picture; // picture.rt: the picture of a frame's differences
+mod rooms; // rooms.rt: room for a frame of each
 
 // Both files, and what their headers say.
 struct Job {
@@ -69,22 +69,20 @@ fn plane(frame: usize, name: &[u8], w: usize, a: &[u16], b: &[u16]) -> u8 {
 
 // ---- the streams
 
-fn failed(name: &[u8]) -> u8 {
-    say::words(name);
-    say::line(b" cannot be read");
+// Reading a stream failed, that which an argument names.
+fn failed(at: usize, file: i32) -> u8 {
+    words::unreadable(at, file);
     2
 }
 
-fn refused(name: &[u8], number: u8, place: usize) -> u8 {
-    say::words(name);
-    say::words(b", ");
-    y4m_file::refused(number, place);
+fn refused(at: usize, number: u8, place: usize) -> u8 {
+    y4m_file::refused_in(at, number, place);
     1
 }
 
 fn ended(name: &[u8], frames: usize) -> u8 {
     io::write_all(STDOUT_FILENO, name);
-    say::field(b" ends after frame ", frames);
+    say::field(b" ends before frame=", frames);
     say::shown(say::end_line(), 1)
 }
 
@@ -96,26 +94,18 @@ fn equal(frames: usize) -> u8 {
 // What is told where not both streams have a frame more, and the exit status; 255 where both have. `before`: the bytes of the frames before this one.
 fn both(job: Job, a: y4m_file::Turn, b: y4m_file::Turn, frames: usize, before: usize) -> u8 {
     if a.failed {
-        return failed(b"the first stream");
+        return failed(1, job.a);
     }
     if b.failed {
-        return failed(b"the second stream");
+        return failed(2, job.b);
     }
     if a.number != 0 {
         let place = std::num::wrapping_add_usize(job.next_a, before);
-        return refused(
-            b"the first stream",
-            a.number,
-            std::num::wrapping_add_usize(place, a.at),
-        );
+        return refused(1, a.number, std::num::wrapping_add_usize(place, a.at));
     }
     if b.number != 0 {
         let place = std::num::wrapping_add_usize(job.next_b, before);
-        return refused(
-            b"the second stream",
-            b.number,
-            std::num::wrapping_add_usize(place, b.at),
-        );
+        return refused(2, b.number, std::num::wrapping_add_usize(place, b.at));
     }
     if a.more & b.more {
         return 255;
@@ -127,14 +117,6 @@ fn both(job: Job, a: y4m_file::Turn, b: y4m_file::Turn, frames: usize, before: u
         return ended(b"a", frames);
     }
     equal(frames)
-}
-
-fn progress(frames: usize) {
-    if frames % 100 == 99 {
-        say::words(b"frames=");
-        say::number(frames + 1);
-        say::line(b"");
-    }
 }
 
 // The first plane of a frame that differs is told: 255 where none does, else the exit status.
@@ -243,7 +225,7 @@ fn every(
         if status != 255 {
             return status;
         }
-        progress(frames);
+        y4m_file::progress(frames);
         frames += 1;
         before = std::num::wrapping_add_usize(before, bytes.len());
     }
@@ -269,12 +251,12 @@ fn no_head(status: u8) -> Headed {
     }
 }
 
-fn head(name: &[u8], file: i32) -> Headed {
+fn head(name: usize, file: i32) -> Headed {
     let mut line = [0u8; 256];
     let n = y4m_file::first_line(file, &mut line);
     if n == 0 {
         if words::read_fails(file) {
-            return no_head(failed(name));
+            return no_head(failed(name, file));
         }
     }
     match decoder::read_header(&line[..n]) {
@@ -305,11 +287,11 @@ fn sizes_differ(a: Headed, b: Headed) -> u8 {
 }
 
 fn compared(a: i32, b: i32, picture: usize) -> u8 {
-    let first = head(b"the first stream", a);
+    let first = head(1, a);
     if first.status != 0 {
         return first.status;
     }
-    let second = head(b"the second stream", b);
+    let second = head(2, b);
     if second.status != 0 {
         return second.status;
     }

@@ -142,7 +142,7 @@ pub(crate) fn drawn(
     let written = put_all(file, job, ya, ua, va, yb, ub, vb);
     let closed = libc::close(file) == 0;
     if !(written & closed) {
-        say::line(b"compare-frames: the picture cannot be written");
+        os::fail(&path[..n]);
     }
     written & closed
 }

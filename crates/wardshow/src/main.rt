@@ -9,13 +9,15 @@ use ward::Run;
 use ward::Turn;
 use ward::Window;
 
-mod rooms;
+mod rooms; // rooms.rt: room for a frame
 
 // What is asked for, and what the stream's header says.
 struct Job {
     run: Run,
     window: Window,
     pgm: bool,
+    // where the stream's name is among the arguments, 0 for standard input
+    at: usize,
     w: usize,
     h: usize,
     f: usize,
@@ -159,37 +161,56 @@ fn picture(job: Job, first: bool, y: &[u16], u: &[u16], v: &[u16], out: &mut [u8
 
 // ---- frames
 
-// Every hundredth frame is told.
-fn progress(frames: usize) {
-    if frames % 100 == 99 {
-        say::words(b"frames=");
-        say::number(frames + 1);
-        say::line(b"");
-    }
+// A refusal by its number; the byte is where the stream offends, or where the frame starts.
+fn told(at: usize, number: u8, place: usize) -> u8 {
+    y4m_file::refused_in(at, number, place);
+    1
 }
 
-// A refusal by its number; the byte is where the stream offends, or where the frame starts.
-fn told(number: u8, place: usize) -> u8 {
-    y4m_file::refused(number, place);
+// A window that is refused, and the picture that has it not: `LOOP.y4m: the window 2 0 18 16 of a picture of 64x48: refused=21: ..`.
+fn refused_window(job: Job) -> u8 {
+    let window = job.window;
+    words::name(job.at);
+    say::counted(b"the window ", window.left);
+    say::counted(b" ", window.top);
+    say::counted(b" ", window.right);
+    say::counted(b" ", window.bottom);
+    say::counted(b" of a picture of ", job.w);
+    say::counted(b"x", job.h);
+    say::words(b": ");
+    say::refused(21);
     1
 }
 
 // How the stream ended, with a frame that starts at a place; the exit status.
-fn ended(t: y4m_file::Turn, place: usize) -> u8 {
+fn ended(job: Job, t: y4m_file::Turn, place: usize) -> u8 {
     if t.failed {
-        say::line(b"ward: the stream cannot be read, or the picture not written");
         return 2;
     }
     if t.number == 0 {
         return 0;
     }
-    told(t.number, std::num::wrapping_add_usize(place, t.at))
+    if t.number == 21 {
+        return refused_window(job);
+    }
+    told(job.at, t.number, std::num::wrapping_add_usize(place, t.at))
 }
 
-// What a picture came to.
+// No frame was read: a failure to read one is told.
+fn unread(file: i32, job: Job, t: y4m_file::Turn) -> y4m_file::Turn {
+    if t.failed {
+        words::unreadable(job.at, file);
+    }
+    t
+}
+
+// What a picture came to; a failure to write it is told.
 fn shown(job: Job, number: u8) -> y4m_file::Turn {
     let failed = number == 255;
     let refused = if failed { 0 } else { number };
+    if failed {
+        say::unwritten();
+    }
     y4m_file::Turn {
         more: (number == 0) & !job.pgm,
         number: refused,
@@ -211,7 +232,7 @@ fn one_frame(
 ) -> y4m_file::Turn {
     let t = y4m_file::next_frame(file, job.w, job.h, bytes, y, u, v);
     if !t.more {
-        return t;
+        return unread(file, job, t);
     }
     shown(job, picture(job, first, y, u, v, out))
 }
@@ -231,9 +252,9 @@ fn every(
     while frames < 1000000000000 {
         let t = one_frame(file, job, frames == 0, bytes, y, u, v, out);
         if !t.more {
-            return ended(t, place);
+            return ended(job, t, place);
         }
-        progress(frames);
+        y4m_file::progress(frames);
         frames += 1;
         place = std::num::wrapping_add_usize(place, bytes.len());
     }
@@ -242,14 +263,14 @@ fn every(
 
 // ---- the call
 
-fn opened(file: i32, run: Run, window: Window, pgm: bool) -> u8 {
+fn opened(file: i32, name: usize, run: Run, window: Window, pgm: bool) -> u8 {
     let mut head = [0u8; 256];
     let n = y4m_file::first_line(file, &mut head);
-    if y4m_file::unreadable(file, n) {
+    if y4m_file::unreadable(name, file, n) {
         return 2;
     }
     match decoder::read_header(&head[..n]) {
-        HeaderRead::Refused(r, at) => told(decoder::refusal_number(r), at),
+        HeaderRead::Refused(r, at) => told(name, decoder::refusal_number(r), at),
         HeaderRead::Read {
             w,
             h,
@@ -264,6 +285,7 @@ fn opened(file: i32, run: Run, window: Window, pgm: bool) -> u8 {
                 run,
                 window,
                 pgm,
+                at: name,
                 w,
                 h,
                 f,
@@ -361,7 +383,7 @@ fn by_name(a: Asked) -> u8 {
     if file < 0 {
         return 2;
     }
-    let status = opened(file, run_of(a.preview), window, a.pgm);
+    let status = opened(file, a.file, run_of(a.preview), window, a.pgm);
     libc::close(file);
     status
 }
@@ -375,7 +397,7 @@ fn main() {
     }
     if a.file == 0 {
         let window = a.window;
-        say::status(opened(STDIN_FILENO, run_of(a.preview), window, a.pgm));
+        say::status(opened(STDIN_FILENO, 0, run_of(a.preview), window, a.pgm));
         return;
     }
     say::status(by_name(a));

@@ -68,16 +68,12 @@ pub fn first_line(file: i32, room: &mut [u8]) -> usize
     i
 }
 
-// Whether a file's first line has no bytes because the file cannot be read, as a directory cannot. That is told.
-pub fn unreadable(file: i32, n: usize) -> bool {
+// Whether a file's first line has no bytes because the file cannot be read, as a directory cannot. That is told, of the file that an argument names.
+pub fn unreadable(at: usize, file: i32, n: usize) -> bool {
     if n != 0 {
         return false;
     }
-    if !words::read_fails(file) {
-        return false;
-    }
-    say::line(b"the file cannot be read");
-    true
+    words::unreadable(at, file)
 }
 
 // ---- a frame
@@ -141,6 +137,21 @@ pub fn next_frame(
     }
 }
 
+// A failure to read a frame, or to write one, is told where it comes from. The programs whose files are gone through here name them by their first argument.
+fn read_told(file: i32, t: Turn) -> Turn {
+    if t.failed {
+        words::unreadable(1, file);
+    }
+    t
+}
+
+fn write_told(t: Turn) -> Turn {
+    if t.failed {
+        say::unwritten();
+    }
+    t
+}
+
 // The next frame, where it is to be copied written again.
 fn one_frame(
     file: i32,
@@ -152,9 +163,9 @@ fn one_frame(
     u: &mut [u16],
     v: &mut [u16],
 ) -> Turn {
-    let t = next_frame(file, w, h, bytes, y, u, v);
+    let t = read_told(file, next_frame(file, w, h, bytes, y, u, v));
     if copy & t.more {
-        return put_frame(w, h, y, u, v, bytes);
+        return write_told(put_frame(w, h, y, u, v, bytes));
     }
     t
 }
@@ -211,10 +222,15 @@ pub fn refused(number: u8, place: usize) {
     say::refused(number);
 }
 
+// The same of the file that an argument names: `LOOP.y4m: byte 9301: ..`.
+pub fn refused_in(at: usize, number: u8, place: usize) {
+    words::name(at);
+    refused(number, place);
+}
+
 // How many frames there are, or the refusal of the next; a copy has standard output for itself. Answers the exit status.
 fn told(e: Ended, copy: bool) -> u8 {
     if e.failed {
-        say::line(b"the file cannot be read, or the copy not written");
         return 2;
     }
     let mut written = true;
@@ -230,6 +246,6 @@ fn told(e: Ended, copy: bool) -> u8 {
         field(b" place=", e.place);
         written = end_line();
     }
-    refused(e.number, e.place);
+    refused_in(1, e.number, e.place);
     say::shown(written, 1)
 }

@@ -5,12 +5,12 @@ use y4m_header::HeaderRead;
 fn copied(file: i32) -> u8 {
     let mut head = [0u8; 256];
     let n = y4m_file::first_line(file, &mut head);
-    if y4m_file::unreadable(file, n) {
+    if y4m_file::unreadable(1, file, n) {
         return 2;
     }
     match y4m_header::read_header(&head[..n]) {
         HeaderRead::Refused(r, at) => {
-            y4m_file::refused(def::refusal_number(r), at);
+            y4m_file::refused_in(1, def::refusal_number(r), at);
             1
         }
         HeaderRead::Read {
@@ -23,8 +23,7 @@ fn copied(file: i32) -> u8 {
             next,
         } => {
             if !y4m_file::put_header(w, h, f, g, a, b) {
-                say::line(b"y4mcopy: the copy cannot be written");
-                return 2;
+                return say::unwritten();
             }
             y4m_file::frames(file, w, h, next, true, false)
         }

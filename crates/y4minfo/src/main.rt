@@ -14,7 +14,7 @@ fn fraction(name: &[u8], n: usize, m: usize) {
 fn info(file: i32) -> u8 {
     let mut head = [0u8; 256];
     let n = y4m_file::first_line(file, &mut head);
-    if y4m_file::unreadable(file, n) {
+    if y4m_file::unreadable(1, file, n) {
         return 2;
     }
     match y4m_header::read_header(&head[..n]) {
@@ -23,7 +23,7 @@ fn info(file: i32) -> u8 {
             field(b"refused=", number as usize);
             field(b" place=", at);
             let written = end_line();
-            y4m_file::refused(number, at);
+            y4m_file::refused_in(1, number, at);
             say::shown(written, 1)
         }
         HeaderRead::Read {
