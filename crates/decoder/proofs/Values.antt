@@ -85,6 +85,8 @@ use Rattle.decoder.proofs.entries.Kinds as entries-kinds
 use Rattle.decoder.proofs.entries.Reads as entries-reads
 use Rattle.decoder.proofs.lanes.Kinds as lanes-kinds
 use Rattle.decoder.proofs.lanes.Reads as lanes-reads
+use Rattle.decoder.proofs.lanes_by_halves.Kinds as lanes-by-halves-kinds
+use Rattle.decoder.proofs.lanes_by_halves.Reads as lanes-by-halves-reads
 use Rattle.decoder.proofs.motion_row.Kinds as motion-row-kinds
 use Rattle.decoder.proofs.motion_row.Reads as motion-row-reads
 use Rattle.decoder.proofs.row_at.Kinds as row-at-kinds
@@ -190,6 +192,9 @@ line-once κs a r r′ x x′ p q = p ∙ sym q
 
 pub lanes-once : Sole 0 lanes-kinds.ps lanes-kinds.r lanes-reads.Post (λ κs r x. r)
 lanes-once κs a r r′ x x′ p q = p ∙ sym q
+
+pub lanes-by-halves-once : Sole 0 lanes-by-halves-kinds.ps lanes-by-halves-kinds.r lanes-by-halves-reads.Post (λ κs r x. r)
+lanes-by-halves-once κs a r r′ x x′ p q = p ∙ sym q
 
 pub entries-once : Sole 3 entries-kinds.ps entries-kinds.r entries-reads.Post (λ κs r x. r)
 entries-once κs a r r′ x x′ p q = p ∙ sym q

@@ -4,6 +4,7 @@
 --     rows-copied    so are four rows that are copied
 --     gathered    rows of a plane as lanes
 --     beside-at    in which pass lines lie side by side; beside-luma, beside-chroma    a unit's lines do
+--     below-at    in the other pass the samples of a line do
 --     rows-within    where the four rows lie
 -- Assumes nothing.
 use Prim.Native.Nat.{ℕ, zero, suc, _+_, _*_, _≤_, _<_}
@@ -13,6 +14,8 @@ use mathlib.Core.List.{List}
 use native.Mathlib.Nat.{mul-one}
 use native.Mathlib.Numerals.{add-one}
 use native.Mathlib.Omega.{arith}
+use borrow.Author.Tests.{eqb-false}
+use lib.Dec.{eqb}
 use lib.ListN.{length, getD, set, length-set}
 use lib.Seq.{set-comm}
 use Rattle.def.specs.declared.Component.the-variants.{Luma}
@@ -20,6 +23,8 @@ use Rattle.line.specs.declared.Mask.{Mask}
 use Rattle.line.specs.declared.Quad.{Quad}
 use Rattle.line.specs.Line.{maskOf}
 use Rattle.split.specs.Edges.{Pass, vertical, horizontal}
+use Rattle.lanes.specs.Lanes.{rows}
+use Rattle.lanes.proofs.ByLane.{rows-spread}
 use Rattle.df_rules.specs.Lent.{unitsAlong}
 use Rattle.df_rules.specs.Lanes.{samplesAt, putLine, putLines}
 use Rattle.df_rules.specs.Window.{putIf}
@@ -119,14 +124,14 @@ lines-long m q step next at (suc n) xs = simp put-long (lines-long m q step next
 
 -- lanes lie 8 apart, side by side
 lanes-put : (p : Place) (xs t : List ℕ) (first n : ℕ) → p .next ≡ 1 → first + n ≤ 8 → length t ≡ 32
-    → Gathered p xs t first n (putLines (maskOf Luma false false) (λ (k : ℕ). samplesAt (p .step) (p .at + k) xs) 8 1 first n t)
+    → Gathered rows p xs t first n (putLines (maskOf Luma false false) (λ (k : ℕ). samplesAt (p .step) (p .at + k) xs) 8 1 first n t)
 unfolding putLines
-lanes-put p xs t first zero e h l = gather-none p xs t first
+lanes-put p xs t first zero e h l = gather-none rows rows-spread p xs t first
 lanes-put p xs t first (suc n) e h l =
     let r = putLines (maskOf Luma false false) (λ (k : ℕ). samplesAt (p .step) (p .at + k) xs) 8 1 first n t in
     let i : p .at + n ≡ p .at + n * p .next = rw (e, mul-one n) in
     rw (mul-one n, ← add-one n)
-    (gather-more p xs t r first n (samplesAt (p .step) (p .at + n) xs) (omega arith) (lines-long _ _ _ _ _ n t ∙ l)
+    (gather-more rows rows-spread p xs t r first n (samplesAt (p .step) (p .at + n) xs) (omega arith) (lines-long _ _ _ _ _ n t ∙ l)
     (ap (λ (j : ℕ). samplesAt (p .step) j xs) i) (lanes-put p xs t first n e (omega arith) l))
 
 -- rows of s, `step` apart, copied over those of xs, `apart` from each other: the lines of s over those of xs
@@ -148,9 +153,14 @@ rows-copied m to apart from step n s xs x₁ x₂ x₃ x₄ h ea eb ec ed =
 -- ---- a unit's edge, by rows
 
 pub gathered : (all : Mask) (p : Place) (xs t r : List ℕ) (first n : ℕ) → all ≡ maskOf Luma false false → p .next ≡ 1 → first + n ≤ 8 → length t ≡ 32
-    → r ≡ putLines all (λ (k : ℕ). samplesAt (p .step) (p .at + k) xs) 8 1 first n t → Gathered p xs t first n r
+    → r ≡ putLines all (λ (k : ℕ). samplesAt (p .step) (p .at + k) xs) 8 1 first n t → Gathered rows p xs t first n r
 gathered all p xs t r first n m e h l w =
-    subst (Gathered p xs t first n) (sym (w ∙ ap (λ (a : Mask). putLines a (λ (k : ℕ). samplesAt (p .step) (p .at + k) xs) 8 1 first n t) m)) (lanes-put p xs t first n e h l)
+    subst (Gathered rows p xs t first n) (sym (w ∙ ap (λ (a : Mask). putLines a (λ (k : ℕ). samplesAt (p .step) (p .at + k) xs) 8 1 first n t) m)) (lanes-put p xs t first n e h l)
+
+-- where the next line is not the next sample, the samples of a line lie side by side
+pub below-at : (d : Pass) (wide c a : ℕ) (p : Place) → p ≡ placeOf d wide c a → eqb (p .next) 1 ≡ false → p .step ≡ 1
+below-at vertical wide c a p e n = ap (λ (q : Place). q .step) e
+below-at horizontal wide c a p e n = absurd (eqb-false _ _ n (ap (λ (q : Place). q .next) e))
 
 -- only the horizontal pass has lines side by side: in the vertical the next one lies a row further on, which is an even number of samples
 pub beside-at : (d : Pass) (m w h n c a : ℕ) (p : Place) → (m * w ≡ 1 → ⊥) → n ≤ m * unitsAlong d w h → p ≡ placeOf d (m * w) (m * c) (m * a) → p .next ≡ 1 → Beside p n

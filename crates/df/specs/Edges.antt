@@ -4,7 +4,7 @@ use Prim.Native.Nat.{ℕ, _+_, _-_, _*_, _≤_, _<_}
 use mathlib.Core.List.{List}
 use mathlib.Core.Path.{_≡_}
 use lib.ListN.{length}
-use Rattle.lanes.specs.Lanes.{laneOf}
+use Rattle.lanes.specs.Lanes.{Layout, laneOf}
 use Rattle.split.specs.Edges.{Pass, vertical, horizontal}
 use Rattle.df_rules.specs.Lanes.{samplesAt, Apart}
 use Rattle.df_rules.specs.Places.{stepAcross, stepAlong, lineStart}
@@ -36,7 +36,7 @@ pub record Lying (p : Place) (n : ℕ) (xs : List ℕ) : Type 0 where
   pub apart : Apart (p .step) (p .next) n
   pub all : Samples xs
 
--- n lines of the plane xs became the lanes of t from `first` on, and those before are as they were
-pub record Gathered (p : Place) (xs t : List ℕ) (first n : ℕ) (r : List ℕ) : Type 0 where
-  pub lines : (k : ℕ) → k < n → laneOf r (first + k) ≡ samplesAt (p .step) (p .at + k * p .next) xs
-  pub before : (j : ℕ) → j < first → laneOf r j ≡ laneOf t j
+-- n lines of the plane xs became the lanes of t from `first` on, in that layout, and those before are as they were
+pub record Gathered (l : Layout) (p : Place) (xs t : List ℕ) (first n : ℕ) (r : List ℕ) : Type 0 where
+  pub lines : (k : ℕ) → k < n → laneOf l r (first + k) ≡ samplesAt (p .step) (p .at + k * p .next) xs
+  pub before : (j : ℕ) → j < first → laneOf l r j ≡ laneOf l t j

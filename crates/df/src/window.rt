@@ -7,7 +7,7 @@ ghost use Prim.Native.Nat.{_+_, _-_, _*_, _≤_, _<_};
 ghost use lib.ListN.{length, getD};
 ghost use Rattle.def.specs.declared.Component.the-variants.{Luma, Chroma};
 ghost use Rattle.line.specs.Line.{maskOf};
-ghost use Rattle.lanes.specs.Lanes.{laneOf};
+ghost use Rattle.lanes.specs.Lanes.{laneOf, halves};
 ghost use Rattle.df_rules.specs.Window.{putIf, windowAt, windowsAt};
 ghost use Rattle.df_rules.specs.Lanes.{samplesAt, putLine, putLines};
 ghost use Rattle.df.specs.Edges.{Inside, Beside, Lying, Gathered};
@@ -40,10 +40,10 @@ fn samples_at(s: &[u16], step: usize, at: usize) -> Quad
     }
 }
 
-// n lines of the plane s become the lanes from `first` on.
+// n lines of the plane s become the lanes from `first` on, half by half.
 fn gather(t: [u16; 32], s: &[u16], first: usize, n: usize, p: Place) -> [u16; 32]
     requires { ⌜ (first + n ≤ 8) × Inside p (n - 1) (now s) ⌝ }
-    ensures { λ r. ⌜ Gathered p (now (s .entry)) t first n r ⌝ }
+    ensures { λ r. ⌜ Gathered halves p (now (s .entry)) t first n r ⌝ }
 {
     let step = p.step;
     let next = p.next;
@@ -52,10 +52,10 @@ fn gather(t: [u16; 32], s: &[u16], first: usize, n: usize, p: Place) -> [u16; 32
     for k in 0..n {
         let q = samples_at(s, step, at + k * next);
         let i = first + k;
-        r[i] = q.a;
-        r[i + 8] = q.b;
-        r[i + 16] = q.c;
-        r[i + 24] = q.d;
+        r[2 * i] = q.a;
+        r[2 * i + 1] = q.b;
+        r[2 * i + 16] = q.c;
+        r[2 * i + 17] = q.d;
     }
     r
 }
@@ -84,20 +84,20 @@ fn put_line(s: &mut [u16], mask: Mask, q: Quad, step: usize, at: usize)
 
 fn lane_of(t: &[u16; 32], k: usize) -> Quad
     requires { ⌜ k < 8 ⌝ }
-    ensures { λ r. ⌜ r ≡ laneOf (now (t .entry)) k ⌝ }
+    ensures { λ r. ⌜ r ≡ laneOf halves (now (t .entry)) k ⌝ }
 {
     Quad {
-        a: t[k],
-        b: t[k + 8],
-        c: t[k + 16],
-        d: t[k + 24],
+        a: t[2 * k],
+        b: t[2 * k + 1],
+        c: t[2 * k + 16],
+        d: t[2 * k + 17],
     }
 }
 
 // The lanes from `first` on become n lines of the plane s.
 fn scatter(s: &mut [u16], mask: Mask, t: &[u16; 32], first: usize, n: usize, p: Place)
     requires { ⌜ (first + n ≤ 8) × Inside p (n - 1) (now s) ⌝ }
-    ensures { λ _. ⌜ now (s .exit) ≡ putLines mask (λ k. laneOf (now (t .entry)) (first + k)) (p .step) (p .next) (p .at) n (now (s .entry)) ⌝ }
+    ensures { λ _. ⌜ now (s .exit) ≡ putLines mask (λ k. laneOf halves (now (t .entry)) (first + k)) (p .step) (p .next) (p .at) n (now (s .entry)) ⌝ }
 {
     let step = p.step;
     let next = p.next;
@@ -150,10 +150,22 @@ fn copy_rows(
 
 // ---- a unit's edge
 
+// Lines that lie below each other: their step is 1, a number that stands here for the compiler to see. It then reads and writes two samples of a line at once.
+fn below(p: Place) -> Place
+    requires { ⌜ p .step ≡ 1 ⌝ }
+    ensures { λ r. ⌜ r ≡ p ⌝ }
+{
+    Place {
+        at: p.at,
+        step: 1,
+        next: p.next,
+    }
+}
+
 // Four lines of luma, neither unit kept: gathered, filtered side by side and written back. Where they lie side by side a row has 4 samples, and in chroma 2, numbers that
 // stand here for the compiler to see: it copies such a row at once.
 pub(crate) fn luma(rows: bool, y: &mut [u16], p: Place, st: u16)
-    requires { ⌜ (rows ≡ true → Beside p 4) × Lying p 4 (now y) ⌝ }
+    requires { ⌜ (rows ≡ true → Beside p 4) × (rows ≡ false → p .step ≡ 1) × Lying p 4 (now y) ⌝ }
     ensures { λ _. ⌜ now (y .exit) ≡ windowAt (maskOf Luma false false) st (p .step) (p .next) (p .at) 4 (now (y .entry)) ⌝ }
 {
     let all = line::mask_of(Component::Luma, false, false);
@@ -164,14 +176,15 @@ pub(crate) fn luma(rows: bool, y: &mut [u16], p: Place, st: u16)
         copy_rows(y, all, p.at, p.step, &r, 0, 8, 4);
         return;
     }
-    let t = gather([0; 32], &*y, 0, 4, p);
-    let r = lanes::lanes(t, [st, st, st, st, 0, 0, 0, 0]);
-    scatter(y, all, &r, 0, 4, p);
+    let q = below(p);
+    let t = gather([0; 32], &*y, 0, 4, q);
+    let r = lanes::lanes_by_halves(t, [st, st, st, st, 0, 0, 0, 0]);
+    scatter(y, all, &r, 0, 4, q);
 }
 
 // Two units' edges in luma, the second right after the first along the same line: eight lines, four at each strength.
 pub(crate) fn luma_two(rows: bool, y: &mut [u16], p: Place, s0: u16, s1: u16)
-    requires { ⌜ (rows ≡ true → Beside p 8) × Lying p 8 (now y) ⌝ }
+    requires { ⌜ (rows ≡ true → Beside p 8) × (rows ≡ false → p .step ≡ 1) × Lying p 8 (now y) ⌝ }
     ensures { λ _. ⌜ now (y .exit) ≡ windowsAt (maskOf Luma false false) s0 s1 (p .step) (p .next) (p .at) 4 (now (y .entry)) ⌝ }
 {
     let all = line::mask_of(Component::Luma, false, false);
@@ -182,9 +195,10 @@ pub(crate) fn luma_two(rows: bool, y: &mut [u16], p: Place, s0: u16, s1: u16)
         copy_rows(y, all, p.at, p.step, &r, 0, 8, 8);
         return;
     }
-    let t = gather([0; 32], &*y, 0, 8, p);
-    let r = lanes::lanes(t, [s0, s0, s0, s0, s1, s1, s1, s1]);
-    scatter(y, all, &r, 0, 8, p);
+    let q = below(p);
+    let t = gather([0; 32], &*y, 0, 8, q);
+    let r = lanes::lanes_by_halves(t, [s0, s0, s0, s0, s1, s1, s1, s1]);
+    scatter(y, all, &r, 0, 8, q);
 }
 
 // n lines of a plane beside a kept unit: what the mask says of them is written.
@@ -193,13 +207,13 @@ pub(crate) fn kept_lines(s: &mut [u16], mask: Mask, n: usize, p: Place, st: u16)
     ensures { λ _. ⌜ now (s .exit) ≡ windowAt mask st (p .step) (p .next) (p .at) n (now (s .entry)) ⌝ }
 {
     let t = gather([0; 32], &*s, 0, n, p);
-    let r = lanes::lanes(t, [st, st, st, st, 0, 0, 0, 0]);
+    let r = lanes::lanes_by_halves(t, [st, st, st, st, 0, 0, 0, 0]);
     scatter(s, mask, &r, 0, n, p);
 }
 
 // Two lines of each chroma plane.
 pub(crate) fn chroma(rows: bool, u: &mut [u16], v: &mut [u16], p: Place, su: u16, sv: u16)
-    requires { ⌜ (rows ≡ true → Beside p 2) × Lying p 2 (now u) × Lying p 2 (now v) ⌝ }
+    requires { ⌜ (rows ≡ true → Beside p 2) × (rows ≡ false → p .step ≡ 1) × Lying p 2 (now u) × Lying p 2 (now v) ⌝ }
     ensures { λ _. ⌜ (now (u .exit) ≡ windowAt (maskOf Chroma false false) su (p .step) (p .next) (p .at) 2 (now (u .entry))) × (now (v .exit) ≡ windowAt (maskOf Chroma false false) sv (p .step) (p .next) (p .at) 2 (now (v .entry))) ⌝ }
 {
     let all = line::mask_of(Component::Luma, false, false);
@@ -213,11 +227,12 @@ pub(crate) fn chroma(rows: bool, u: &mut [u16], v: &mut [u16], p: Place, su: u16
         copy_rows(v, inner, p.at, p.step, &r, 2, 8, 2);
         return;
     }
-    let tu = gather([0; 32], &*u, 0, 2, p);
-    let t = gather(tu, &*v, 2, 2, p);
-    let r = lanes::lanes(t, [su, su, sv, sv, 0, 0, 0, 0]);
-    scatter(u, inner, &r, 0, 2, p);
-    scatter(v, inner, &r, 2, 2, p);
+    let q = below(p);
+    let tu = gather([0; 32], &*u, 0, 2, q);
+    let t = gather(tu, &*v, 2, 2, q);
+    let r = lanes::lanes_by_halves(t, [su, su, sv, sv, 0, 0, 0, 0]);
+    scatter(u, inner, &r, 0, 2, q);
+    scatter(v, inner, &r, 2, 2, q);
 }
 
 // Two units' edges in both chroma planes: four lines of each.
@@ -231,7 +246,7 @@ pub(crate) fn chroma_two(
     v0: u16,
     v1: u16,
 )
-    requires { ⌜ (rows ≡ true → Beside p 4) × Lying p 4 (now u) × Lying p 4 (now v) ⌝ }
+    requires { ⌜ (rows ≡ true → Beside p 4) × (rows ≡ false → p .step ≡ 1) × Lying p 4 (now u) × Lying p 4 (now v) ⌝ }
     ensures { λ _. ⌜ (now (u .exit) ≡ windowsAt (maskOf Chroma false false) u0 u1 (p .step) (p .next) (p .at) 2 (now (u .entry))) × (now (v .exit) ≡ windowsAt (maskOf Chroma false false) v0 v1 (p .step) (p .next) (p .at) 2 (now (v .entry))) ⌝ }
 {
     let all = line::mask_of(Component::Luma, false, false);
@@ -245,9 +260,10 @@ pub(crate) fn chroma_two(
         copy_rows(v, inner, p.at, p.step, &r, 4, 8, 4);
         return;
     }
-    let tu = gather([0; 32], &*u, 0, 4, p);
-    let t = gather(tu, &*v, 4, 4, p);
-    let r = lanes::lanes(t, [u0, u0, u1, u1, v0, v0, v1, v1]);
-    scatter(u, inner, &r, 0, 4, p);
-    scatter(v, inner, &r, 4, 4, p);
+    let q = below(p);
+    let tu = gather([0; 32], &*u, 0, 4, q);
+    let t = gather(tu, &*v, 4, 4, q);
+    let r = lanes::lanes_by_halves(t, [u0, u0, u1, u1, v0, v0, v1, v1]);
+    scatter(u, inner, &r, 0, 4, q);
+    scatter(v, inner, &r, 4, 4, q);
 }

@@ -1,57 +1,63 @@
--- Lanes of a list of 32: what `lanesOf` has in each, and a loop that puts one lane after the other.
+-- Lanes of a list of 32: what `lanesOf` has in each, and a loop that puts one lane after the other. Over the layout.
+--     Spread        each place of the 32 is one sample of one lane; so are `rows-spread` and `halves-spread`
 --     lane-of       lane k of the answer is what lane k became
 --     on-samples    on samples that is the line filter itself
 --     own-lane, other-lane    what putting a lane changes, and what not
 -- Assumes nothing.
 use mathlib.Core.Path.{_≡_, refl, sym, ap, _∙_}
-use mathlib.Core.List.{List, _++_}
-use Prim.Native.Nat.{ℕ, _+_, _-_, _≤_, _<_, min}
+use mathlib.Core.List.{List}
+use Prim.Native.Nat.{ℕ, zero, suc, _+_, _*_, _/_, _%_, _-_, _≤_, _<_, min}
 use native.Mathlib.Decide.{decLt}
 use native.Mathlib.Omega.{arith}
-use lib.ListN.{length, getD, set, length-set, List·getD-append}
-use lib.Seq.{ext-getD, getD-set-same, getD-set-other, getD-append-add}
-use Rattle.laws.specs.Index.{tabulate, tabulateFrom}
+use lib.ListN.{length, getD, set, length-set}
+use lib.Seq.{ext-getD, getD-set-same, getD-set-other}
+use Rattle.laws.specs.Index.{tabulate}
 use Rattle.laws.proofs.Tabulate.{getD-tabulate, length-tabulate}
 use Rattle.line.specs.declared.Quad.{Quad}
 use Rattle.line.specs.Line.{lineOf}
-use Rattle.lanes.specs.Lanes.{laneOf, heldLine, became, lanesOf}
+use Rattle.lanes.specs.Lanes.{Layout, rows, halves, laneOf, heldLine, became, nth, lanesOf}
+
+-- ---- layouts
+
+-- each of the four samples of a line
+abbrev All : (ℕ → ℕ → Type 0) → Quad → Type 0
+All P q = P 0 (q .a) × P 1 (q .b) × P 2 (q .c) × P 3 (q .d)
+
+-- every place is a sample of one lane
+pub record Spread (l : Layout) : Type 0 where
+  pub inside : (k : ℕ) → k < 8 → All (λ s i. i < 32) (l .at k)
+  pub of-lane : (k : ℕ) → k < 8 → All (λ s i. l .lane i ≡ k) (l .at k)
+  pub of-sample : (k : ℕ) → k < 8 → All (λ s i. l .sample i ≡ s) (l .at k)
+  pub some-lane : (i : ℕ) → i < 32 → l .lane i < 8
+  pub back : (i : ℕ) → i < 32 → nth (l .sample i) (l .at (l .lane i)) ≡ i
+
+by-sample : (n : ℕ) (q : Quad) (i : ℕ) → n < 4 → (n ≡ 0 → q .a ≡ i) → (n ≡ 1 → q .b ≡ i) → (n ≡ 2 → q .c ≡ i) → (n ≡ 3 → q .d ≡ i) → nth n q ≡ i
+unfolding nth
+by-sample zero q i h a b c d = a refl
+by-sample (suc zero) q i h a b c d = b refl
+by-sample (suc (suc zero)) q i h a b c d = c refl
+by-sample (suc (suc (suc zero))) q i h a b c d = d refl
+by-sample (suc (suc (suc (suc n)))) q i h a b c d = absurd (omega arith)
+
+pub rows-spread : Spread rows
+rows-spread = record {
+  inside = λ k h. (omega arith, omega arith, omega arith, omega arith);
+  of-lane = λ k h. (omega arith, omega arith, omega arith, omega arith);
+  of-sample = λ k h. (omega arith, omega arith, omega arith, omega arith);
+  some-lane = λ i h. omega arith;
+  back = λ i h. by-sample (i / 8) (rows .at (i % 8)) i (omega arith) (λ e. omega arith) (λ e. omega arith) (λ e. omega arith) (λ e. omega arith);
+}
+
+pub halves-spread : Spread halves
+halves-spread = record {
+  inside = λ k h. (omega arith, omega arith, omega arith, omega arith);
+  of-lane = λ k h. (omega arith, omega arith, omega arith, omega arith);
+  of-sample = λ k h. (omega arith, omega arith, omega arith, omega arith);
+  some-lane = λ i h. omega arith;
+  back = λ i h. by-sample (2 * (i / 16) + i % 2) (halves .at (i % 16 / 2)) i (omega arith) (λ e. omega arith) (λ e. omega arith) (λ e. omega arith) (λ e. omega arith);
+}
 
 -- ---- what a lane of the answer is
-
-first : (f : ℕ → ℕ) (l : List ℕ) (k : ℕ) → k < 8 → getD (tabulate 8 f ++ l) k 0 ≡ f k
-first f l k h = List·getD-append (tabulate 8 f) l 0 k (omega (arith, length-tabulate f 8)) ∙ getD-tabulate f 8 k 0 h
-
-later : (f : ℕ → ℕ) (l : List ℕ) (i k : ℕ) → i ≡ k + 8 → getD (tabulate 8 f ++ l) i 0 ≡ getD l k 0
-later f l i k e =
-    let r : i ≡ length (tabulate 8 f) + k = omega (arith, length-tabulate f 8) in
-    rw r (getD-append-add (tabulate 8 f) l k 0)
-
--- four rows of eight, one after the other
-module _ (f g h j : ℕ → ℕ) where
-  abbrev r₃ : List ℕ
-  r₃ = tabulate 8 j
-
-  abbrev r₂ : List ℕ
-  r₂ = tabulate 8 h ++ r₃
-
-  abbrev r₁ : List ℕ
-  r₁ = tabulate 8 g ++ r₂
-
-  in-rows : (k : ℕ) → k < 8 → laneOf (tabulate 8 f ++ r₁) k ≡ record { a = f k; b = g k; c = h k; d = j k }
-  in-rows k p = λ i. record {
-    a = first f r₁ k p i;
-    b = (later f r₁ (k + 8) k refl ∙ first g r₂ k p) i;
-    c = (later f r₁ (k + 16) (k + 8) (omega arith) ∙ later g r₂ (k + 8) k refl ∙ first h r₃ k p) i;
-    d = (later f r₁ (k + 24) (k + 16) (omega arith) ∙ later g r₂ (k + 16) (k + 8) (omega arith) ∙ later h r₃ (k + 8) k refl ∙ getD-tabulate j 8 k 0 p) i;
-  }
-
-pub lane-of : (t st : List ℕ) (k : ℕ) → k < 8 → laneOf (lanesOf t st) k ≡ became t st k
-unfolding lanesOf
-lane-of t st k h = in-rows (λ (k : ℕ). became t st k .a) (λ (k : ℕ). became t st k .b) (λ (k : ℕ). became t st k .c) (λ (k : ℕ). became t st k .d) k h
-
-long : (t st : List ℕ) → length (lanesOf t st) ≡ 32
-unfolding lanesOf tabulateFrom
-long t st = refl
 
 -- samples are not held
 pub on-samples : (a b c d st : ℕ) → a ≤ 1023 → b ≤ 1023 → c ≤ 1023 → d ≤ 1023 → heldLine (record { a = a; b = b; c = c; d = d }) st ≡ lineOf a b c d st
@@ -60,95 +66,137 @@ on-samples a b c d st ha hb hc hd = λ i. lineOf (same a ha i) (same b hb i) (sa
     same : (x : ℕ) → x ≤ 1023 → min x 1023 ≡ x
     same x h = omega arith
 
+long : (l : Layout) (t st : List ℕ) → length (lanesOf l t st) ≡ 32
+unfolding lanesOf
+long l t st = length-tabulate _ 32
+
+in-place : (l : Layout) (t st : List ℕ) (i : ℕ) → i < 32 → getD (lanesOf l t st) i 0 ≡ nth (l .sample i) (became l t st (l .lane i))
+unfolding lanesOf
+in-place l t st i h = getD-tabulate _ 32 i 0 h
+
 -- ---- lists by their lanes
 
--- lists of 32 that agree in each lane
-by-lanes : (l m : List ℕ) → length l ≡ 32 → length m ≡ 32 → ((k : ℕ) → k < 8 → laneOf l k ≡ laneOf m k) → l ≡ m
-by-lanes l m p q e = ext-getD 0 l m (p ∙ sym q) (λ i h. go i (omega arith) (decLt i 8) (decLt i 16) (decLt i 24))
-  where
-    back : (i n k : ℕ) → k + n ≡ i → getD l (k + n) 0 ≡ getD m (k + n) 0 → getD l i 0 ≡ getD m i 0
-    back i n k r f = rw r at f
-
-    go : (i : ℕ) → i < 32 → Dec (i < 8) → Dec (i < 16) → Dec (i < 24) → getD l i 0 ≡ getD m i 0
-    go i h (yes a) b c = ap (λ (r : Quad). r .a) (e i a)
-    go i h (no a) (yes b) c = back i 8 (i - 8) (omega arith) (ap (λ (r : Quad). r .b) (e (i - 8) (omega arith)))
-    go i h (no a) (no b) (yes c) = back i 16 (i - 16) (omega arith) (ap (λ (r : Quad). r .c) (e (i - 16) (omega arith)))
-    go i h (no a) (no b) (no c) = back i 24 (i - 24) (omega arith) (ap (λ (r : Quad). r .d) (e (i - 24) (omega arith)))
-
 -- q put into lane k
-abbrev pub laid : List ℕ → ℕ → Quad → List ℕ
-laid l k q = set (set (set (set l k (q .a)) (k + 8) (q .b)) (k + 16) (q .c)) (k + 24) (q .d)
+abbrev pub laid : Layout → List ℕ → ℕ → Quad → List ℕ
+laid l t k q = set (set (set (set t (l .at k .a) (q .a)) (l .at k .b) (q .b)) (l .at k .c) (q .c)) (l .at k .d) (q .d)
 
-pub laid-long : (l : List ℕ) (k : ℕ) (q : Quad) → length (laid l k q) ≡ length l
-laid-long l k q = simp length-set
+pub laid-long : (l : Layout) (t : List ℕ) (k : ℕ) (q : Quad) → length (laid l t k q) ≡ length t
+laid-long l t k q = simp length-set
 
-module _ (l : List ℕ) (k : ℕ) (q : Quad) where
-  abbrev l₁ : List ℕ
-  l₁ = set l k (q .a)
+module _ (l : Layout) (s : Spread l) where
+  pub lane-of : (t st : List ℕ) (k : ℕ) → k < 8 → laneOf l (lanesOf l t st) k ≡ became l t st k
+  unfolding nth
+  lane-of t st k h =
+      let at : (n i : ℕ) → i < 32 → l .lane i ≡ k → l .sample i ≡ n → getD (lanesOf l t st) i 0 ≡ nth n (became l t st k) = λ n i g e f. in-place l t st i g ∙ (λ j. nth (f j) (became l t st (e j))) in
+      let g = s .inside k h in
+      let e = s .of-lane k h in
+      let f = s .of-sample k h in
+      λ j. record {
+        a = at 0 _ (g .0) (e .0) (f .0) j;
+        b = at 1 _ (g .1) (e .1) (f .1) j;
+        c = at 2 _ (g .2) (e .2) (f .2) j;
+        d = at 3 _ (g .3) (e .3) (f .3) j;
+      }
 
-  abbrev l₂ : List ℕ
-  l₂ = set l₁ (k + 8) (q .b)
+  -- lists of 32 that agree in each lane
+  by-lanes : (t r : List ℕ) → length t ≡ 32 → length r ≡ 32 → ((k : ℕ) → k < 8 → laneOf l t k ≡ laneOf l r k) → t ≡ r
+  unfolding nth
+  by-lanes t r p q e = ext-getD 0 t r (p ∙ sym q) (λ i h. at i (omega arith))
+    where
+      -- the place of a lane's sample
+      of-nth : (t : List ℕ) (n k : ℕ) → nth n (laneOf l t k) ≡ getD t (nth n (l .at k)) 0
+      of-nth t zero k = refl
+      of-nth t (suc zero) k = refl
+      of-nth t (suc (suc zero)) k = refl
+      of-nth t (suc (suc (suc n))) k = refl
 
-  abbrev l₃ : List ℕ
-  l₃ = set l₂ (k + 16) (q .c)
+      in-lane : (t : List ℕ) (i : ℕ) → i < 32 → getD t i 0 ≡ nth (l .sample i) (laneOf l t (l .lane i))
+      in-lane t i h = ap (λ (j : ℕ). getD t j 0) (sym (s .back i h)) ∙ sym (of-nth t (l .sample i) (l .lane i))
 
-  -- a place before the one last written
-  under₁ : (i : ℕ) → i < k + 8 → getD l₂ i 0 ≡ getD l₁ i 0
-  under₁ i h = getD-set-other l₁ (k + 8) i (q .b) 0 (λ (e : i ≡ k + 8). omega arith)
+      at : (i : ℕ) → i < 32 → getD t i 0 ≡ getD r i 0
+      at i h = in-lane t i h ∙ ap (nth (l .sample i)) (e (l .lane i) (s .some-lane i h)) ∙ sym (in-lane r i h)
 
-  under₂ : (i : ℕ) → i < k + 16 → getD l₃ i 0 ≡ getD l₂ i 0
-  under₂ i h = getD-set-other l₂ (k + 16) i (q .c) 0 (λ (e : i ≡ k + 16). omega arith)
+  -- places of other lanes, and other samples of a lane
+  other : (i j : ℕ) → (l .lane i ≡ l .lane j → ⊥) → i ≡ j → ⊥
+  other i j n e = n (ap (l .lane) e)
 
-  under₃ : (i : ℕ) → i < k + 24 → getD (laid l k q) i 0 ≡ getD l₃ i 0
-  under₃ i h = getD-set-other l₃ (k + 24) i (q .d) 0 (λ (e : i ≡ k + 24). omega arith)
+  beside : (i j m n : ℕ) → l .sample i ≡ m → l .sample j ≡ n → (m ≡ n → ⊥) → i ≡ j → ⊥
+  beside i j m n p q d e = d (sym p ∙ ap (l .sample) e ∙ q)
 
-  pub own-lane : k < 8 → length l ≡ 32 → laneOf (laid l k q) k ≡ q
-  own-lane h e = λ i. record {
-    a = (under₃ k (omega arith) ∙ under₂ k (omega arith) ∙ under₁ k (omega arith) ∙ getD-set-same l k (q .a) 0 (omega arith)) i;
-    b = (under₃ (k + 8) (omega arith) ∙ under₂ (k + 8) (omega arith) ∙ getD-set-same l₁ (k + 8) (q .b) 0 (simp length-set (omega arith))) i;
-    c = (under₃ (k + 16) (omega arith) ∙ getD-set-same l₂ (k + 16) (q .c) 0 (simp length-set (omega arith))) i;
-    d = getD-set-same l₃ (k + 24) (q .d) 0 (simp length-set (omega arith)) i;
-  }
+  module _ (t : List ℕ) (k : ℕ) (q : Quad) where
+    abbrev t₁ : List ℕ
+    t₁ = set t (l .at k .a) (q .a)
 
-  -- a place of no other lane
-  off : (i : ℕ) → (i ≡ k → ⊥) → (i ≡ k + 8 → ⊥) → (i ≡ k + 16 → ⊥) → (i ≡ k + 24 → ⊥) → getD (laid l k q) i 0 ≡ getD l i 0
-  off i p₀ p₁ p₂ p₃ =
-      getD-set-other l₃ (k + 24) i (q .d) 0 p₃ ∙ getD-set-other l₂ (k + 16) i (q .c) 0 p₂
-      ∙ getD-set-other l₁ (k + 8) i (q .b) 0 p₁ ∙ getD-set-other l k i (q .a) 0 p₀
+    abbrev t₂ : List ℕ
+    t₂ = set t₁ (l .at k .b) (q .b)
 
-  pub other-lane : (j : ℕ) → k < 8 → j < 8 → (j ≡ k → ⊥) → laneOf (laid l k q) j ≡ laneOf l j
-  other-lane j h g n = λ i. record {
-    a = off j n (λ (e : j ≡ k + 8). omega arith) (λ (e : j ≡ k + 16). omega arith) (λ (e : j ≡ k + 24). omega arith) i;
-    b = off (j + 8) (λ (e : j + 8 ≡ k). omega arith) (λ (e : j + 8 ≡ k + 8). n (omega arith)) (λ (e : j + 8 ≡ k + 16). omega arith) (λ (e : j + 8 ≡ k + 24). omega arith) i;
-    c = off (j + 16) (λ (e : j + 16 ≡ k). omega arith) (λ (e : j + 16 ≡ k + 8). omega arith) (λ (e : j + 16 ≡ k + 16). n (omega arith)) (λ (e : j + 16 ≡ k + 24). omega arith) i;
-    d = off (j + 24) (λ (e : j + 24 ≡ k). omega arith) (λ (e : j + 24 ≡ k + 8). omega arith) (λ (e : j + 24 ≡ k + 16). omega arith) (λ (e : j + 24 ≡ k + 24). n (omega arith)) i;
-  }
+    abbrev t₃ : List ℕ
+    t₃ = set t₂ (l .at k .c) (q .c)
 
--- ---- a loop over the lanes
+    -- a place that is not the one last written
+    under₁ : (i : ℕ) → (i ≡ l .at k .b → ⊥) → getD t₂ i 0 ≡ getD t₁ i 0
+    under₁ i n = getD-set-other t₁ (l .at k .b) i (q .b) 0 n
 
--- the first n lanes of t have been filtered, and the rest are as they were
-pub record Upto (t st r : List ℕ) (n : ℕ) : Type 0 where
-  pub all : length r ≡ 32
-  pub below : (k : ℕ) → k < n → laneOf r k ≡ became t st k
-  pub above : (k : ℕ) → n ≤ k → k < 8 → laneOf r k ≡ laneOf t k
+    under₂ : (i : ℕ) → (i ≡ l .at k .c → ⊥) → getD t₃ i 0 ≡ getD t₂ i 0
+    under₂ i n = getD-set-other t₂ (l .at k .c) i (q .c) 0 n
 
-pub upto-none : (t st : List ℕ) → length t ≡ 32 → Upto t st t 0
-upto-none t st e = record { all = e; below = λ k h. absurd (none k h); above = λ k h g. refl } where
-  none : (k : ℕ) → k < 0 → ⊥
-  none k h = omega arith
+    under₃ : (i : ℕ) → (i ≡ l .at k .d → ⊥) → getD (laid l t k q) i 0 ≡ getD t₃ i 0
+    under₃ i n = getD-set-other t₃ (l .at k .d) i (q .d) 0 n
 
-pub upto-more : (t st r : List ℕ) (n : ℕ) (q : Quad) → n < 8 → q ≡ heldLine (laneOf r n) (getD st n 0) → Upto t st r n → Upto t st (laid r n q) (n + 1)
-upto-more t st r n q h e u =
-    record {
-      all = laid-long r n q ∙ u .all;
-      below = λ k p. step k p (decLt k n);
-      above = λ k p g. other-lane r n q k h g (λ s. omega arith) ∙ u .above k (omega arith) g;
-    } where
-      step : (k : ℕ) → k < n + 1 → Dec (k < n) → laneOf (laid r n q) k ≡ became t st k
-      step k p (yes g) = other-lane r n q k h (omega arith) (λ s. omega arith) ∙ u .below k g
-      step k p (no g) =
-          let s : k ≡ n = omega arith in
-          rw s (own-lane r n q h (u .all) ∙ e ∙ ap (λ (l : Quad). heldLine l (getD st n 0)) (u .above n (omega arith) h))
+    pub own-lane : k < 8 → length t ≡ 32 → laneOf l (laid l t k q) k ≡ q
+    own-lane h e =
+        let g = s .inside k h in
+        let f = s .of-sample k h in
+        let n : (x y m n : ℕ) → l .sample x ≡ m → l .sample y ≡ n → (m ≡ n → ⊥) → x ≡ y → ⊥ = beside in
+        λ i. record {
+          a =
+              (under₃ _ (n _ _ 0 3 (f .0) (f .3) (λ d. omega arith)) ∙ under₂ _ (n _ _ 0 2 (f .0) (f .2) (λ d. omega arith))
+              ∙ under₁ _ (n _ _ 0 1 (f .0) (f .1) (λ d. omega arith)) ∙ getD-set-same t (l .at k .a) (q .a) 0 (omega arith)) i;
+          b =
+              (under₃ _ (n _ _ 1 3 (f .1) (f .3) (λ d. omega arith)) ∙ under₂ _ (n _ _ 1 2 (f .1) (f .2) (λ d. omega arith))
+              ∙ getD-set-same t₁ (l .at k .b) (q .b) 0 (simp length-set (omega arith))) i;
+          c = (under₃ _ (n _ _ 2 3 (f .2) (f .3) (λ d. omega arith)) ∙ getD-set-same t₂ (l .at k .c) (q .c) 0 (simp length-set (omega arith))) i;
+          d = getD-set-same t₃ (l .at k .d) (q .d) 0 (simp length-set (omega arith)) i;
+        }
 
-pub upto-all : (t st r : List ℕ) (n : ℕ) → 8 ≤ n → Upto t st r n → r ≡ lanesOf t st
-upto-all t st r n h u = by-lanes r (lanesOf t st) (u .all) (long t st) (λ k p. u .below k (omega arith) ∙ sym (lane-of t st k p))
+    -- a place of another lane
+    off : (i : ℕ) → k < 8 → (l .lane i ≡ k → ⊥) → getD (laid l t k q) i 0 ≡ getD t i 0
+    off i h n =
+        let e = s .of-lane k h in
+        under₃ i (other i _ (λ f. n (f ∙ e .3))) ∙ under₂ i (other i _ (λ f. n (f ∙ e .2)))
+        ∙ under₁ i (other i _ (λ f. n (f ∙ e .1))) ∙ getD-set-other t (l .at k .a) i (q .a) 0 (other i _ (λ f. n (f ∙ e .0)))
+
+    pub other-lane : (j : ℕ) → k < 8 → j < 8 → (j ≡ k → ⊥) → laneOf l (laid l t k q) j ≡ laneOf l t j
+    other-lane j h g n =
+        let e = s .of-lane j g in
+        let at : (i : ℕ) → l .lane i ≡ j → getD (laid l t k q) i 0 ≡ getD t i 0 = λ i f. off i h (λ d. n (sym f ∙ d)) in
+        λ i. record { a = at _ (e .0) i; b = at _ (e .1) i; c = at _ (e .2) i; d = at _ (e .3) i }
+
+  -- ---- a loop over the lanes
+
+  -- the first n lanes of t have been filtered, and the rest are as they were
+  pub record Upto (t st r : List ℕ) (n : ℕ) : Type 0 where
+    pub all : length r ≡ 32
+    pub below : (k : ℕ) → k < n → laneOf l r k ≡ became l t st k
+    pub above : (k : ℕ) → n ≤ k → k < 8 → laneOf l r k ≡ laneOf l t k
+
+  pub upto-none : (t st : List ℕ) → length t ≡ 32 → Upto t st t 0
+  upto-none t st e = record { all = e; below = λ k h. absurd (none k h); above = λ k h g. refl } where
+    none : (k : ℕ) → k < 0 → ⊥
+    none k h = omega arith
+
+  pub upto-more : (t st r : List ℕ) (n : ℕ) (q : Quad) → n < 8 → q ≡ heldLine (laneOf l r n) (getD st n 0) → Upto t st r n → Upto t st (laid l r n q) (n + 1)
+  upto-more t st r n q h e u =
+      record {
+        all = laid-long l r n q ∙ u .all;
+        below = λ k p. step k p (decLt k n);
+        above = λ k p g. other-lane r n q k h g (λ d. omega arith) ∙ u .above k (omega arith) g;
+      } where
+        step : (k : ℕ) → k < n + 1 → Dec (k < n) → laneOf l (laid l r n q) k ≡ became l t st k
+        step k p (yes g) = other-lane r n q k h (omega arith) (λ d. omega arith) ∙ u .below k g
+        step k p (no g) =
+            let d : k ≡ n = omega arith in
+            rw d (own-lane r n q h (u .all) ∙ e ∙ ap (λ (x : Quad). heldLine x (getD st n 0)) (u .above n (omega arith) h))
+
+  pub upto-all : (t st r : List ℕ) (n : ℕ) → 8 ≤ n → Upto t st r n → r ≡ lanesOf l t st
+  upto-all t st r n h u = by-lanes r (lanesOf l t st) (u .all) (long l t st) (λ k p. u .below k (omega arith) ∙ sym (lane-of t st k p))

@@ -2,9 +2,10 @@
 // Each is filtered as `line` filters one. The Rust beside it: df.rs, the lines of a unit's edge in the four deblock_scu_ functions.
 ghost use mathlib.Core.Path.{_≡_};
 ghost use Prim.Native.Nat.{_+_, _-_, _*_, _≤_, _<_, min};
+ghost use lib.ListN.{getD};
 ghost use Rattle.line.specs.Line.{lineOf};
 ghost use Rattle.lanes.specs.Unsigned.{riseOf, easeOf};
-ghost use Rattle.lanes.specs.Lanes.{laneOf, heldLine, lanesOf};
+ghost use Rattle.lanes.specs.Lanes.{rows, halves, heldLine, lanesOf};
 use line::Quad;
 
 // x - y, or 0 where y is the larger.
@@ -77,31 +78,41 @@ fn held(x: u16) -> u16
     least(x, 1023)
 }
 
-// Lane k has A at k, B at k + 8, C at k + 16, D at k + 24.
-fn lane_at(t: &[u16; 32], k: usize, st: u16) -> Quad
-    requires { ⌜ k < 8 ⌝ }
-    ensures { λ r. ⌜ r ≡ heldLine (laneOf (now (t .entry)) k) st ⌝ }
+// A line whose samples lie at these places.
+fn lane_at(t: &[u16; 32], a: usize, b: usize, c: usize, d: usize, st: u16) -> Quad
+    requires { ⌜ (a < 32) × (b < 32) × (c < 32) × (d < 32) ⌝ }
+    ensures { λ r. ⌜ r ≡ heldLine (record { a = getD (now (t .entry)) a 0; b = getD (now (t .entry)) b 0; c = getD (now (t .entry)) c 0; d = getD (now (t .entry)) d 0 }) st ⌝ }
 {
-    lane(
-        held(t[k]),
-        held(t[k + 8]),
-        held(t[k + 16]),
-        held(t[k + 24]),
-        st,
-    )
+    lane(held(t[a]), held(t[b]), held(t[c]), held(t[d]), st)
 }
 
-// All eight, each at its own strength.
+// Eight lines, each at its own strength, row by row: the eight As, then the Bs, the Cs and the Ds.
 pub fn lanes(t: [u16; 32], st: [u16; 8]) -> [u16; 32]
-    ensures { λ r. ⌜ r ≡ lanesOf t st ⌝ }
+    ensures { λ r. ⌜ r ≡ lanesOf rows t st ⌝ }
 {
     let mut r = t;
     for k in 0..8 {
-        let q = lane_at(&r, k, st[k]);
+        let q = lane_at(&r, k, k + 8, k + 16, k + 24, st[k]);
         r[k] = q.a;
         r[k + 8] = q.b;
         r[k + 16] = q.c;
         r[k + 24] = q.d;
+    }
+    r
+}
+
+// The same half by half: A and B of each line, and then C and D of each. Two samples of a line then stay side by side, so that they are read and
+// written at once where the lines of a plane lie below each other.
+pub fn lanes_by_halves(t: [u16; 32], st: [u16; 8]) -> [u16; 32]
+    ensures { λ r. ⌜ r ≡ lanesOf halves t st ⌝ }
+{
+    let mut r = t;
+    for k in 0..8 {
+        let q = lane_at(&r, 2 * k, 2 * k + 1, 2 * k + 16, 2 * k + 17, st[k]);
+        r[2 * k] = q.a;
+        r[2 * k + 1] = q.b;
+        r[2 * k + 16] = q.c;
+        r[2 * k + 17] = q.d;
     }
     r
 }

@@ -16,7 +16,7 @@ use Rattle.df.specs.declared.window.Place.{Place}
 use Rattle.df.specs.Plan.{maskBy}
 use Rattle.df.specs.Edges.{passOf, placeOf, Inside, Beside, Lying}
 use Rattle.df.proofs.Edges.{edge-by}
-use Rattle.df.proofs.Rows.{beside-chroma}
+use Rattle.df.proofs.Rows.{beside-chroma, below-at}
 use Rattle.df.proofs.filter.edge_chroma.Statement.{statement}
 use Rattle.df.proofs.filter.edge_chroma.Tie as tie
 
@@ -80,7 +80,11 @@ beside c t =
     beside-chroma (passOf (a .pass)) (a .size .columns) (a .size .rows) (a .cross / 4) (a .along / 4) _ (at-spot s .along) (is-place c) (eqb-true _ _ t)
 
 chroma-requires : tie.Need-chroma-requires
-chroma-requires c κs = let l = lies (c .before .before .before .before) in (beside (c .before .before .before .before), l .0, l .1)
+chroma-requires c κs =
+    let f = c .before .before .before .before in
+    let a = f .before .before .before .before .before .before .before .before .args in
+    let l = lies f in
+    (beside f, below-at (passOf (a .pass)) _ _ _ _ (is-place f), l .0, l .1)
 
 returns-2 : tie.Need-returns-2
 returns-2 c =

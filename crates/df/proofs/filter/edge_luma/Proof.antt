@@ -15,7 +15,7 @@ use Rattle.df.specs.declared.window.Place.{Place}
 use Rattle.df.specs.Plan.{maskBy}
 use Rattle.df.specs.Edges.{passOf, placeOf, Inside, Beside, Lying}
 use Rattle.df.proofs.Edges.{edge-by}
-use Rattle.df.proofs.Rows.{beside-luma}
+use Rattle.df.proofs.Rows.{beside-luma, below-at}
 use Rattle.df.proofs.filter.edge_luma.Statement.{statement}
 use Rattle.df.proofs.filter.edge_luma.Tie as tie
 
@@ -72,7 +72,10 @@ beside c t =
     beside-luma (passOf (a .pass)) (a .size .columns) (a .size .rows) (a .cross / 4) (a .along / 4) _ (at-spot s .along) (is-place c) (eqb-true _ _ t)
 
 luma-requires : tie.Need-luma-requires
-luma-requires c κs = (beside (c .before .before .before), lies (c .before .before .before))
+luma-requires c κs =
+    let f = c .before .before .before in
+    let a = f .before .before .before .before .before .before .args in
+    (beside f, below-at (passOf (a .pass)) _ _ _ _ (is-place f), lies f)
 
 returns-2 : tie.Need-returns-2
 returns-2 c =

@@ -9,6 +9,7 @@ use Rattle.df_rules.specs.Lent.{unitsAlong}
 use Rattle.df_rules.proofs.Edges.{Spot, spot}
 use Rattle.df.specs.Edges.{passOf, placeOf}
 use Rattle.df.proofs.Pairs.{lies-two, beside-two, edges-by}
+use Rattle.df.proofs.Rows.{below-at}
 use Rattle.df.proofs.filter.pair_chroma.Statement.{statement}
 use Rattle.df.proofs.filter.pair_chroma.Tie as tie
 
@@ -47,6 +48,7 @@ chroma-two-requires c κs =
     let x = a .cross / 4 in
     let z = a .along / 4 in (
       λ t. beside-two 2 w h (omega arith) d x z _ e (k .inner) (k .across) (more s) (λ (o : 2 * w ≡ 1). omega arith) (eqb-true _ _ t),
+      below-at d _ _ _ _ e,
       lies-two 2 w h (omega arith) d x z _ e (k .inner) (k .across) (more s) (a .u .now) (s .pre .0 .long) (s .pre .0 .all),
       lies-two 2 w h (omega arith) d x z _ e (k .inner) (k .across) (more s) (a .v .now) (s .pre .1 .long) (s .pre .1 .all),
     )

@@ -4,7 +4,7 @@ use mathlib.Core.Path.{_≡_, refl, _∙_}
 use native.Mathlib.Omega.{arith}
 use borrow.Author.Needs.{needs}
 use lib.ListN.{length}
-use Rattle.lanes.specs.Lanes.{laneOf}
+use Rattle.lanes.specs.Lanes.{laneOf, halves}
 use Rattle.df_rules.specs.Lanes.{putLines}
 use Rattle.df_rules.proofs.Lanes.{put-more}
 use Rattle.df.specs.Edges.{Inside}
@@ -13,7 +13,7 @@ use Rattle.df.proofs.window.scatter.Statement.{statement}
 use Rattle.df.proofs.window.scatter.Tie as tie
 
 abbrev Inv-loop : tie.InvT-loop
-Inv-loop s₀ mask t first n step next at k₀ s k = (k ≤ n) × (length s ≡ length s₀) × (s ≡ putLines mask (λ j. laneOf t (first + j)) step next at k s₀)
+Inv-loop s₀ mask t first n step next at k₀ s k = (k ≤ n) × (length s ≡ length s₀) × (s ≡ putLines mask (λ j. laneOf halves t (first + j)) step next at k s₀)
 
 abbrev μ-loop : tie.MeasureT-loop
 μ-loop s₀ mask t first n step next at k₀ s k = n - k
@@ -43,7 +43,7 @@ loop-again c =
     let a = c .before .before .before .before .before .before .before .before .args in (
       omega arith,
       c .before .before .put-line .kept .0 ∙ l .inv .1,
-      put-more (a .mask) (λ j. laneOf (a .t .now) (a .first + j)) (a .p .step) (a .p .next) (a .p .at) (l .k) _ (a .s .now) (l .s) _
+      put-more (a .mask) (λ j. laneOf halves (a .t .now) (a .first + j)) (a .p .step) (a .p .next) (a .p .at) (l .k) _ (a .s .now) (l .s) _
           (c .before .before .before .lane-of .ensures) (l .inv .2) (c .before .before .put-line .ensures),
     )
 
