@@ -7,17 +7,20 @@
 --     below-at    in the other pass the samples of a line do
 --     rows-within    where the four rows lie
 -- Assumes nothing.
-use Prim.Native.Nat.{ℕ, zero, suc, _+_, _*_, _≤_, _<_}
+use Prim.Native.Nat.{ℕ, zero, suc, _+_, _-_, _*_, _≤_, _<_}
 use mathlib.Core.Path.{_≡_, refl, sym, ap, _∙_, subst}
 use mathlib.Core.Bool.{Bool, true, false}
 use mathlib.Core.List.{List}
+use native.Mathlib.Decide.{decLt}
 use native.Mathlib.Nat.{mul-one}
 use native.Mathlib.Numerals.{add-one}
 use native.Mathlib.Omega.{arith}
 use borrow.Author.Tests.{eqb-false}
 use lib.Dec.{eqb}
 use lib.ListN.{length, getD, set, length-set}
-use lib.Seq.{set-comm}
+use lib.Seq.{set-comm, ext-getD, getD-set-same, getD-set-other}
+use Rattle.laws.specs.Plane.{withRow}
+use Rattle.laws.proofs.Planes.{rowed-none, rowed-all, length-row, getD-row, within-yes, within-low, within-high}
 use Rattle.def.specs.declared.Component.the-variants.{Luma}
 use Rattle.line.specs.declared.Mask.{Mask}
 use Rattle.line.specs.declared.Quad.{Quad}
@@ -30,43 +33,64 @@ use Rattle.df_rules.specs.Lanes.{samplesAt, putLine, putLines}
 use Rattle.df_rules.specs.Window.{putIf}
 use Rattle.df.specs.declared.window.Place.{Place}
 use Rattle.df.specs.Edges.{placeOf, Inside, Beside, Gathered}
-use Rattle.df.specs.Rows.{putRow, putRowIf}
+use Rattle.df.specs.Rows.{withRowIf}
 use Rattle.df.proofs.Lanes.{gather-none, gather-more}
 
 -- ---- a row
 
-pub row-none : (to : ℕ) (g : ℕ → ℕ) (xs : List ℕ) → xs ≡ putRow to 0 g xs
-unfolding putRow
-row-none to g xs = refl
+pub row-none : (to : ℕ) (g : ℕ → ℕ) (xs : List ℕ) → xs ≡ withRow 0 to 0 g xs
+row-none to g xs = rowed-all 0 to 0 g xs xs 0 refl (rowed-none 0 to g xs)
 
-pub row-more : (to k : ℕ) (g : ℕ → ℕ) (xs ys : List ℕ) → ys ≡ putRow to k g xs → set ys (to + k) (g k) ≡ putRow to (k + 1) g xs
-unfolding putRow
-row-more to k g xs ys e = rw (add-one k) (ap (λ (l : List ℕ). set l (to + k) (g k)) e)
+-- place i of a row of one more
+row-place : (to k : ℕ) (g : ℕ → ℕ) (xs : List ℕ) (i : ℕ) → i < length xs → Dec (i < to) → Dec (i < to + k) → Dec (i < to + (k + 1))
+    → getD (set (withRow 0 to k g xs) (to + k) (g k)) i 0 ≡ getD (withRow 0 to (k + 1) g xs) i 0
+row-place to k g xs i h (yes a) b c =
+    getD-set-other (withRow 0 to k g xs) (to + k) i (g k) 0 (λ (e : i ≡ to + k). omega arith)
+    ∙ (simp (getD-row 0 to k g xs i h, getD-row 0 to (k + 1) g xs i h, within-low to k i a, within-low to (k + 1) i a))
+row-place to k g xs i h (no a) (yes b) c =
+    getD-set-other (withRow 0 to k g xs) (to + k) i (g k) 0 (λ (e : i ≡ to + k). omega arith)
+    ∙ (simp (getD-row 0 to k g xs i h, getD-row 0 to (k + 1) g xs i h, within-yes to k i (omega arith) b, within-yes to (k + 1) i (omega arith) (omega arith)))
+row-place to k g xs i h (no a) (no b) (yes c) =
+    let e : to + k ≡ i = omega arith in
+    let f : k ≡ i - to = omega arith in
+    ap (λ (m : ℕ). getD (set (withRow 0 to k g xs) m (g k)) i 0) e ∙ getD-set-same (withRow 0 to k g xs) i (g k) 0 (omega (arith, length-row 0 to k g xs))
+    ∙ (simp (getD-row 0 to (k + 1) g xs i h, within-yes to (k + 1) i (omega arith) c) (ap g f))
+row-place to k g xs i h (no a) (no b) (no c) =
+    getD-set-other (withRow 0 to k g xs) (to + k) i (g k) 0 (λ (e : i ≡ to + k). omega arith)
+    ∙ (simp (getD-row 0 to k g xs i h, getD-row 0 to (k + 1) g xs i h, within-high to k i (omega arith), within-high to (k + 1) i (omega arith)))
+
+row-longer : (to k : ℕ) (g : ℕ → ℕ) (xs : List ℕ) → set (withRow 0 to k g xs) (to + k) (g k) ≡ withRow 0 to (k + 1) g xs
+row-longer to k g xs =
+    let long : length (set (withRow 0 to k g xs) (to + k) (g k)) ≡ length xs = length-set (withRow 0 to k g xs) (to + k) (g k) ∙ length-row 0 to k g xs in
+    ext-getD 0 (set (withRow 0 to k g xs) (to + k) (g k)) (withRow 0 to (k + 1) g xs) (long ∙ sym (length-row 0 to (k + 1) g xs))
+    (λ i h. row-place to k g xs i (subst (λ (n : ℕ). i < n) long h) (decLt i to) (decLt i (to + k)) (decLt i (to + (k + 1))))
+
+pub row-more : (to k : ℕ) (g : ℕ → ℕ) (xs ys : List ℕ) → ys ≡ withRow 0 to k g xs → set ys (to + k) (g k) ≡ withRow 0 to (k + 1) g xs
+row-more to k g xs ys e = ap (λ (l : List ℕ). set l (to + k) (g k)) e ∙ row-longer to k g xs
 
 -- ---- four rows, and their lines
 
 -- a place before a row is written before it or after it
-set-row : (to n : ℕ) (g : ℕ → ℕ) (i v : ℕ) (xs : List ℕ) → i < to → putRow to n g (set xs i v) ≡ set (putRow to n g xs) i v
-unfolding putRow
-set-row to zero g i v xs h = refl
+set-row : (to n : ℕ) (g : ℕ → ℕ) (i v : ℕ) (xs : List ℕ) → i < to → withRow 0 to n g (set xs i v) ≡ set (withRow 0 to n g xs) i v
+set-row to zero g i v xs h = sym (row-none to g (set xs i v)) ∙ ap (λ (l : List ℕ). set l i v) (row-none to g xs)
 set-row to (suc n) g i v xs h =
-    ap (λ (l : List ℕ). set l (to + n) (g n)) (set-row to n g i v xs h) ∙ set-comm (putRow to n g xs) i (to + n) v (g n) (λ (e : i ≡ to + n). omega arith)
+    rw (← add-one n)
+    (sym (row-longer to n g (set xs i v)) ∙ ap (λ (l : List ℕ). set l (to + n) (g n)) (set-row to n g i v xs h)
+    ∙ set-comm (withRow 0 to n g xs) i (to + n) v (g n) (λ (e : i ≡ to + n). omega arith) ∙ ap (λ (l : List ℕ). set l i v) (row-longer to n g xs))
 
-put-row : (w z : Bool) (to n : ℕ) (g : ℕ → ℕ) (i v : ℕ) → i < to → (xs : List ℕ) → putRowIf w to n g (putIf z i v xs) ≡ putIf z i v (putRowIf w to n g xs)
+put-row : (w z : Bool) (to n : ℕ) (g : ℕ → ℕ) (i v : ℕ) → i < to → (xs : List ℕ) → withRowIf w to n g (putIf z i v xs) ≡ putIf z i v (withRowIf w to n g xs)
 put-row true true to n g i v h xs = set-row to n g i v xs h
 put-row true false to n g i v h xs = refl
 put-row false z to n g i v h xs = refl
 
 -- a row of one sample more
-longer : (w : Bool) (to n i : ℕ) (g : ℕ → ℕ) → to + n ≡ i → (xs : List ℕ) → putRowIf w to (suc n) g xs ≡ putIf w i (g n) (putRowIf w to n g xs)
-unfolding putRow
-longer true to n i g e xs = ap (λ (j : ℕ). set (putRow to n g xs) j (g n)) e
+longer : (w : Bool) (to n i : ℕ) (g : ℕ → ℕ) → to + n ≡ i → (xs : List ℕ) → withRowIf w to (suc n) g xs ≡ putIf w i (g n) (withRowIf w to n g xs)
+longer true to n i g e xs = rw (← add-one n) (sym (row-longer to n g xs) ∙ ap (λ (j : ℕ). set (withRow 0 to n g xs) j (g n)) e)
 longer false to n i g e xs = refl
 
 -- of no sample
-empty : (w : Bool) (to : ℕ) (g : ℕ → ℕ) (xs : List ℕ) → putRowIf w to 0 g xs ≡ xs
-unfolding putRow
-empty true to g xs = refl
+empty : (w : Bool) (to : ℕ) (g : ℕ → ℕ) (xs : List ℕ) → withRowIf w to 0 g xs ≡ xs
+empty true to g xs = sym (row-none to g xs)
 empty false to g xs = refl
 
 -- the stores a, b, c pass the rows that are written after them
@@ -82,16 +106,16 @@ module _ (a b c d rb rc rd : List ℕ → List ℕ) (ba : (x : List ℕ) → rb 
 module _ (m : Mask) (q : ℕ → Quad) (step at : ℕ) where
   -- the rows of n lines
   abbrev ra : ℕ → List ℕ → List ℕ
-  ra n xs = putRowIf (m .a) at n (λ (k : ℕ). q k .a) xs
+  ra n xs = withRowIf (m .a) at n (λ (k : ℕ). q k .a) xs
 
   abbrev rb : ℕ → List ℕ → List ℕ
-  rb n xs = putRowIf (m .b) (at + step) n (λ (k : ℕ). q k .b) xs
+  rb n xs = withRowIf (m .b) (at + step) n (λ (k : ℕ). q k .b) xs
 
   abbrev rc : ℕ → List ℕ → List ℕ
-  rc n xs = putRowIf (m .c) (at + 2 * step) n (λ (k : ℕ). q k .c) xs
+  rc n xs = withRowIf (m .c) (at + 2 * step) n (λ (k : ℕ). q k .c) xs
 
   abbrev rd : ℕ → List ℕ → List ℕ
-  rd n xs = putRowIf (m .d) (at + 3 * step) n (λ (k : ℕ). q k .d) xs
+  rd n xs = withRowIf (m .d) (at + 3 * step) n (λ (k : ℕ). q k .d) xs
 
   pub rows-lines : (n : ℕ) (xs : List ℕ) → n ≤ step → rd n (rc n (rb n (ra n xs))) ≡ putLines m q step 1 at n xs
   unfolding putLines
@@ -136,15 +160,15 @@ lanes-put p xs t first (suc n) e h l =
 
 -- rows of s, `step` apart, copied over those of xs, `apart` from each other: the lines of s over those of xs
 pub rows-copied : (m : Mask) (to apart from step n : ℕ) (s xs x₁ x₂ x₃ x₄ : List ℕ) → n ≤ apart
-    → x₁ ≡ putRowIf (m .a) to n (λ (k : ℕ). getD s (from + k) 0) xs
-    → x₂ ≡ putRowIf (m .b) (to + apart) n (λ (k : ℕ). getD s (from + step + k) 0) x₁
-    → x₃ ≡ putRowIf (m .c) (to + 2 * apart) n (λ (k : ℕ). getD s (from + 2 * step + k) 0) x₂
-    → x₄ ≡ putRowIf (m .d) (to + 3 * apart) n (λ (k : ℕ). getD s (from + 3 * step + k) 0) x₃
+    → x₁ ≡ withRowIf (m .a) to n (λ (k : ℕ). getD s (from + k) 0) xs
+    → x₂ ≡ withRowIf (m .b) (to + apart) n (λ (k : ℕ). getD s (from + step + k) 0) x₁
+    → x₃ ≡ withRowIf (m .c) (to + 2 * apart) n (λ (k : ℕ). getD s (from + 2 * step + k) 0) x₂
+    → x₄ ≡ withRowIf (m .d) (to + 3 * apart) n (λ (k : ℕ). getD s (from + 3 * step + k) 0) x₃
     → x₄ ≡ putLines m (λ (k : ℕ). samplesAt step (from + k) s) apart 1 to n xs
 rows-copied m to apart from step n s xs x₁ x₂ x₃ x₄ h ea eb ec ed =
-    ed ∙ (λ i. putRowIf (m .d) (to + 3 * apart) n (λ (k : ℕ). getD s (turn (3 * step) k i) 0)
-    ((ec ∙ (λ i. putRowIf (m .c) (to + 2 * apart) n (λ (k : ℕ). getD s (turn (2 * step) k i) 0)
-    ((eb ∙ (λ i. putRowIf (m .b) (to + apart) n (λ (k : ℕ). getD s (turn step k i) 0) (ea i))) i))) i))
+    ed ∙ (λ i. withRowIf (m .d) (to + 3 * apart) n (λ (k : ℕ). getD s (turn (3 * step) k i) 0)
+    ((ec ∙ (λ i. withRowIf (m .c) (to + 2 * apart) n (λ (k : ℕ). getD s (turn (2 * step) k i) 0)
+    ((eb ∙ (λ i. withRowIf (m .b) (to + apart) n (λ (k : ℕ). getD s (turn step k i) 0) (ea i))) i))) i))
     ∙ rows-lines m (λ (k : ℕ). samplesAt step (from + k) s) apart to n xs h
   where
     turn : (j k : ℕ) → from + j + k ≡ from + k + j

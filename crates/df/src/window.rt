@@ -11,7 +11,8 @@ ghost use Rattle.lanes.specs.Lanes.{laneOf, halves};
 ghost use Rattle.df_rules.specs.Window.{putIf, windowAt, windowsAt};
 ghost use Rattle.df_rules.specs.Lanes.{samplesAt, putLine, putLines};
 ghost use Rattle.df.specs.Edges.{Inside, Beside, Lying, Gathered};
-ghost use Rattle.df.specs.Rows.{putRow, putRowIf};
+ghost use Rattle.laws.specs.Plane.{withRow};
+ghost use Rattle.df.specs.Rows.{withRowIf};
 use def::Component;
 use line::Mask;
 use line::Quad;
@@ -112,7 +113,7 @@ fn scatter(s: &mut [u16], mask: Mask, t: &[u16; 32], first: usize, n: usize, p: 
 // A row of them: n samples of s, from `from` on, over those of r from `to` on.
 fn copy_row(r: &mut [u16], to: usize, s: &[u16], from: usize, n: usize)
     requires { ⌜ (to + n ≤ length (now r)) × (from + n ≤ length (now s)) ⌝ }
-    ensures { λ _. ⌜ now (r .exit) ≡ putRow to n (λ k. getD (now (s .entry)) (from + k) 0) (now (r .entry)) ⌝ }
+    ensures { λ _. ⌜ now (r .exit) ≡ withRow 0 to n (λ k. getD (now (s .entry)) (from + k) 0) (now (r .entry)) ⌝ }
 {
     for k in 0..n {
         r[to + k] = s[from + k];
@@ -121,7 +122,7 @@ fn copy_row(r: &mut [u16], to: usize, s: &[u16], from: usize, n: usize)
 
 fn copy_row_if(r: &mut [u16], written: bool, to: usize, s: &[u16], from: usize, n: usize)
     requires { ⌜ (to + n ≤ length (now r)) × (from + n ≤ length (now s)) ⌝ }
-    ensures { λ _. ⌜ now (r .exit) ≡ putRowIf written to n (λ k. getD (now (s .entry)) (from + k) 0) (now (r .entry)) ⌝ }
+    ensures { λ _. ⌜ now (r .exit) ≡ withRowIf written to n (λ k. getD (now (s .entry)) (from + k) 0) (now (r .entry)) ⌝ }
 {
     if written {
         copy_row(r, to, s, from, n);

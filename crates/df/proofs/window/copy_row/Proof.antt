@@ -4,13 +4,13 @@ use mathlib.Core.Path.{_≡_, refl, _∙_}
 use native.Mathlib.Omega.{arith}
 use borrow.Author.Needs.{needs}
 use lib.ListN.{length, getD, length-set}
-use Rattle.df.specs.Rows.{putRow}
+use Rattle.laws.specs.Plane.{withRow}
 use Rattle.df.proofs.Rows.{row-none, row-more}
 use Rattle.df.proofs.window.copy_row.Statement.{statement}
 use Rattle.df.proofs.window.copy_row.Tie as tie
 
 abbrev Inv-loop : tie.InvT-loop
-Inv-loop r₀ to s from n k₀ r k = (k ≤ n) × (length r ≡ length r₀) × (r ≡ putRow to k (λ j. getD s (from + j) 0) r₀)
+Inv-loop r₀ to s from n k₀ r k = (k ≤ n) × (length r ≡ length r₀) × (r ≡ withRow 0 to k (λ j. getD s (from + j) 0) r₀)
 
 abbrev μ-loop : tie.MeasureT-loop
 μ-loop r₀ to s from n k₀ r k = n - k
