@@ -41,7 +41,7 @@ use Rattle.df.specs.Band as band
 use Rattle.df.specs.Plan.{entriesIn}
 use Rattle.df.proofs.Entries.{by-format}
 use Rattle.df.proofs.Lengths.{stepOf, places-step}
-use Rattle.df.proofs.Told.{Told, told, is-done}
+use Rattle.df.proofs.BandPassed.{BandPassed, band-passed, outcome-done}
 
 -- of the rows above those that are handed to the passes, and those that are not
 abbrev pub near : ℕ → ℕ
@@ -117,8 +117,8 @@ module _ (j : band.Input) (fine : band.check j ≡ Done) (pos : 1 ≤ band.wide 
   abbrev f : Format
   f = j .settings .format
 
-  abbrev t : Told j
-  t = told j fine
+  abbrev t : BandPassed j
+  t = band-passed j fine
 
   abbrev entries : List ℕ
   entries = entriesIn f (j .strengths) (j .table0) (j .settings .«u_offset») (j .table1) (j .settings .«v_offset»)
@@ -233,7 +233,7 @@ module _ (j : band.Input) (fine : band.check j ≡ Done) (pos : 1 ≤ band.wide 
       let nv = b .ups-counted ∙ sym (edges-long skip (list vertical)) ∙ ap length (list-lent vertical) in
       let nh = b .levels-counted ∙ sym (edges-long skip (list horizontal)) ∙ ap length (list-lent horizontal) in
       let ew = split (skip * w) words ∙ ap₂ _++_ tw (b .marks) ∙ words-lent in
-      (λ i. record { reading = record { number = 0; vertical = nv i; horizontal = nh i; next = j .next + 1 }; y = ey i; u = eu i; v = ev i; words = ew i }) ∙ sym (is-done j fine)
+      (λ i. record { reading = record { number = 0; vertical = nv i; horizontal = nh i; next = j .next + 1 }; y = ey i; u = eu i; v = ev i; words = ew i }) ∙ sym (outcome-done j fine)
     where
       edges-long : (k : ℕ) (l : List Edge) → length (map (edgeDown k) l) ≡ length l
       edges-long k [] = refl

@@ -1,4 +1,4 @@
--- The call: what its checks tell of the picture, and its outcome.
+-- The call: what holds of a picture that passed its checks, and its outcome.
 -- Assumes nothing.
 use Prim.Native.Nat.{ℕ, _*_, _/_, _≤_}
 use mathlib.Core.Path.{_≡_, sym, ap, _∙_}
@@ -17,20 +17,20 @@ use Rattle.df_check.proofs.Passed.{Passed, passed}
 use Rattle.df_rules.specs.Filter.{Planes}
 use Rattle.df_rules.specs.Lent.{LentPicture, BothPasses}
 use Rattle.split.specs.Accepted.{Accepted}
-use Rattle.df.specs.Deblock.{Input, readingOf, checked, check, passEdges, mapsOf, outcome}
+use Rattle.df.specs.Deblock.{Input, Reading, readingOf, checked, check, passEdges, mapsOf, outcome}
 use Rattle.df.specs.Plan.{entriesIn}
 use Rattle.df.specs.declared.Deblocked.the-variants.{Done, Refused}
 use Rattle.df.proofs.Entries.{by-format}
 
 module _ (i : Input) (fine : check i ≡ Fine) where
-  abbrev told : Passed (checked i)
-  told = passed (checked i) fine
+  abbrev checks-passed : Passed (checked i)
+  checks-passed = passed (checked i) fine
 
   abbrev size : Sized (i .w) (i .h)
-  size = sized (i .w) (i .h) (told .size)
+  size = sized (i .w) (i .h) (checks-passed .size)
 
   pub accepted : Accepted (i .w) (i .h) (i .splits)
-  accepted = record { size = told .size; long = told .lengths .splits; walked = told .walk }
+  accepted = record { size = checks-passed .size; long = checks-passed .lengths .splits; walked = checks-passed .walk }
 
   units : unitCount (i .w) (i .h) ≡ i .h / 4 * (i .w / 4)
   units = mul-comm (i .w / 4) (i .h / 4)
@@ -39,7 +39,7 @@ module _ (i : Input) (fine : check i ≡ Fine) where
 
   pub lent-picture : (t : List ℕ) → length t ≡ 624 → LentPicture (i .settings .format) (i .w / 4) (i .h / 4) (i .y) (i .u) (i .v) (i .words) (mapsOf i .over) t
   lent-picture t e =
-      let n = told .lengths in
+      let n = checks-passed .lengths in
       let z = size in
       let a : 4 * (i .w / 4) ≡ i .w = omega (arith, z .by-four) in
       let b : 4 * (i .h / 4) ≡ i .h = omega (arith, z .by-four-down) in
@@ -57,11 +57,11 @@ module _ (i : Input) (fine : check i ≡ Fine) where
         long-refs = n .refs ∙ ap (λ (k : ℕ). 2 * k) units;
         long-keep = n .keep ∙ units;
         long-entries = e;
-        qps = told .qp;
-        marks = told .mark;
-        all-y = told .y;
-        all-u = told .u;
-        all-v = told .v;
+        qps = checks-passed .qp;
+        marks = checks-passed .mark;
+        all-y = checks-passed .y;
+        all-u = checks-passed .u;
+        all-v = checks-passed .v;
       }
 
   -- ---- the outcome
@@ -69,16 +69,17 @@ module _ (i : Input) (fine : check i ≡ Fine) where
   pub deblock-done : (t : List ℕ) (y u v words : List ℕ) (m n : ℕ)
       → t ≡ entriesIn (i .settings .format) (i .strengths) (i .table0) (i .settings .«u_offset») (i .table1) (i .settings .«v_offset»)
       → BothPasses (mapsOf i) t (i .w / 4) (passEdges vertical i) (passEdges horizontal i) (record { y = i .y; u = i .u; v = i .v }) (record { y = y; u = u; v = v }) words m n
-      → (record { reading = readingOf (Done m n); y = y; u = u; v = v; words = words }) ≡ outcome i
+      → {r : Reading} → r ≡ readingOf (Done m n) → (record { reading = r; y = y; u = u; v = v; words = words }) ≡ outcome i
   unfolding outcome
-  deblock-done t y u v words m n e b =
+  deblock-done t y u v words m n e b g =
+      let reading = g ∙ (λ k. readingOf (Done (b .ups-counted k) (b .levels-counted k))) in
       let start : Planes = record { y = i .y; u = i .u; v = i .v } in
       let planes = b .planes
       ∙ by-format (i .strengths) (i .table0) (i .settings .«u_offset») (i .table1) (i .settings .«v_offset») (mapsOf i) (i .w / 4) (λ d. passEdges d i)
-      (i .settings .format) t e (told .lengths .strengths) (told .qp) start (chromaLength (i .w) (i .h)) (told .lengths .u) (told .lengths .v) in
+      (i .settings .format) t e (checks-passed .lengths .strengths) (checks-passed .qp) start (chromaLength (i .w) (i .h)) (checks-passed .lengths .u) (checks-passed .lengths .v) in
       rw fine
       (λ k. record {
-        reading = readingOf (Done (b .ups-counted k) (b .levels-counted k));
+        reading = reading k;
         y = planes k .y;
         u = planes k .u;
         v = planes k .v;

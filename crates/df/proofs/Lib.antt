@@ -1,4 +1,5 @@
 pub mod BandCalls
+pub mod BandPassed
 pub mod ByRows
 pub mod Calls
 pub mod Edges
@@ -10,5 +11,4 @@ pub mod Pairs
 pub mod Plans
 pub mod Room
 pub mod Rows
-pub mod Told
 pub mod Turns

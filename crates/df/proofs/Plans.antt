@@ -116,8 +116,8 @@ module _ (l : List Edge) (few : length l ≤ 256) {out list : List ℕ} {r : ℕ
 
 -- ---- an edge's units lie in the maps
 
-pub known : (d : Pass) {format : Format} {w h : ℕ} {y u v words : List ℕ} {over : Over} {t : List ℕ} (a b : ℕ) → LentPicture format w h y u v words over t → At d w h a b → Known d w words over a b
-known vertical {w} {h} a b f g =
+pub edge-known : (d : Pass) {format : Format} {w h : ℕ} {y u v words : List ℕ} {over : Over} {t : List ℕ} (a b : ℕ) → LentPicture format w h y u v words over t → At d w h a b → Known d w words over a b
+edge-known vertical {w} {h} a b f g =
     let k = spot vertical w h a b (f .wide) (f .high) g in
     record {
       few-x = k .few-x;
@@ -129,7 +129,7 @@ known vertical {w} {h} a b f g =
       q-mark = unit-q w h _ (mark-of w h f) vertical (a / 4) (b / 4) (k .across) (k .along);
       p-mark = unit-p w h _ (mark-of w h f) vertical (a / 4) (b / 4) (k .across) (k .along);
     }
-known horizontal {w} {h} a b f g =
+edge-known horizontal {w} {h} a b f g =
     let k = spot horizontal w h b a (f .wide) (f .high) g in
     record {
       few-x = k .few-z;
@@ -152,8 +152,8 @@ at-cross vertical x y = refl
 at-cross horizontal x y = refl
 
 -- the mask by an edge's marks is that by its units
-mask-given : (m : Maps) → ((k : ℕ) → getD (m .over .keep) k 0 ≤ 1) → (c : Component) (d : Pass) (w : ℕ) (e : Edge) (k : ℕ) → k ≡ marksAt m d w e → maskBy c k ≡ maskAt m d c w e
-mask-given m few c d w e k g =
+mask-by-units : (m : Maps) → ((k : ℕ) → getD (m .over .keep) k 0 ≤ 1) → (c : Component) (d : Pass) (w : ℕ) (e : Edge) (k : ℕ) → k ≡ marksAt m d w e → maskBy c k ≡ maskAt m d c w e
+mask-by-units m few c d w e k g =
     let p : k % 2 ≡ getD (m .over .keep) (unitP d w e) 0 = omega (arith, g, few (unitP d w e)) in
     let q : k / 2 ≡ getD (m .over .keep) (unitQ w e) 0 = omega (arith, g, few (unitP d w e)) in
     λ i. maskOf c (eqb (p i) 1) (eqb (q i) 1)
@@ -162,9 +162,9 @@ mask-given m few c d w e k g =
 
 module _ (t : List ℕ) (first : ℕ) (c : Component) (d : Pass) (w : ℕ) where
   -- the strength at an edge's place is its own
-  strong : (m : Maps) (at : ℕ → ℕ) → ((r q : ℕ) → first + (r + q) ≡ r + at q) → (e : Edge) (k : ℕ) → k ≡ placeAt m d w e → 4 * getD t (first + k) 0 ≡ strength m t at d w e
+  strength-at-place : (m : Maps) (at : ℕ → ℕ) → ((r q : ℕ) → first + (r + q) ≡ r + at q) → (e : Edge) (k : ℕ) → k ≡ placeAt m d w e → 4 * getD t (first + k) 0 ≡ strength m t at d w e
   unfolding strengthOf
-  strong m at f e k q = ap (λ (j : ℕ). 4 * getD t j 0) (ap (λ (j : ℕ). first + j) q ∙ f _ _)
+  strength-at-place m at f e k q = ap (λ (j : ℕ). 4 * getD t j 0) (ap (λ (j : ℕ). first + j) q ∙ f _ _)
 
   -- so filtering by a plan is filtering its edges
   pub plan-filters : (m : Maps) (at : ℕ → ℕ) → ((r q : ℕ) → first + (r + q) ≡ r + at q) → ((k : ℕ) → getD (m .over .keep) k 0 ≤ 1)
@@ -178,7 +178,7 @@ module _ (t : List ℕ) (first : ℕ) (c : Component) (d : Pass) (w : ℕ) where
       ap (window (maskBy c (getD marks n 0)) d c w (4 * getD t (first + getD places n 0) 0) e)
       (plan-filters m at f few l places marks n xs (record { at = λ k i. g .at k (omega arith); kept = λ k i. g .kept k (omega arith) }))
       ∙ ap₂ (λ (k : Mask) (st : ℕ). window k d c w st e (run (filtered m t at d c w) (edgesFrom l n) xs))
-      (mask-given m few c d w e (getD marks n 0) (g .kept n h)) (strong m at f e (getD places n 0) (g .at n h))
+      (mask-by-units m few c d w e (getD marks n 0) (g .kept n h)) (strength-at-place m at f e (getD places n 0) (g .at n h))
       ∙ sym (run-append (filtered m t at d c w) (edgesFrom l n) (e ∷ []) xs)
 
   module _ (l places marks : List ℕ) where
@@ -214,16 +214,16 @@ module _ (t : List ℕ) (first : ℕ) (c : Component) (d : Pass) (w : ℕ) where
 -- ---- by numbers that were read
 
 -- a unit of the maps
-pub there : {words : List ℕ} {motion refs : List ℤ} {k : ℕ} → Unit words motion refs k → There words motion refs k
-there u = record { word = u .word; mv = u .mv; refi = u .refi }
+pub unit-there : {words : List ℕ} {motion refs : List ℤ} {k : ℕ} → Unit words motion refs k → There words motion refs k
+unit-there u = record { word = u .word; mv = u .mv; refi = u .refi }
 
 -- a byte of the map says the row of an edge
-pub says-given : (d : Pass) (w : ℕ) (words : List ℕ) (motion refs : List ℤ) (rows : List ℕ) {q p k : ℕ} → RowsLent w words motion refs rows → hasSide d w k ≡ true
+pub byte-has-row : (d : Pass) (w : ℕ) (words : List ℕ) (motion refs : List ℤ) (rows : List ℕ) {q p k : ℕ} → RowsLent w words motion refs rows → hasSide d w k ≡ true
     → q ≡ k → p ≡ k - stepAcross d w → Says d words motion refs rows q p
-says-given d w words motion refs rows {q} {p} {k} r s e f = rw (e, f) (λ l. row-said words motion refs w d k _ (r k l) s)
+byte-has-row d w words motion refs rows {q} {p} {k} r s e f = rw (e, f) (λ l. row-said words motion refs w d k _ (r k l) s)
 
-pub known-given : {d : Pass} {w : ℕ} {words : List ℕ} {over : Over} {x y a b : ℕ} → x ≡ a → y ≡ b → Known d w words over a b → Known d w words over x y
-known-given e f k = rw (e, f) k
+pub known-as : {d : Pass} {w : ℕ} {words : List ℕ} {over : Over} {x y a b : ℕ} → x ≡ a → y ≡ b → Known d w words over a b → Known d w words over x y
+known-as e f k = rw (e, f) k
 
 module _ (d : Pass) {x y a b c e : ℕ} (p : x ≡ a) (q : y ≡ b) (r : c ≡ crossOf d (edge x y)) (s : e ≡ alongOf d (edge x y)) where
   pub at-given : {w h : ℕ} → At d w h a b → AtUnit d w h c e

@@ -8,6 +8,7 @@ ghost use Rattle.df_rules.specs.Lent.{LentPicture};
 ghost use Rattle.split.specs.Accepted.{Accepted};
 ghost use Rattle.bands_rules.specs.Bands.{listFrom, BothPassesFrom};
 ghost use Rattle.laws.specs.Call.{Gives};
+ghost use Rattle.def.specs.declared.Answer.the-variants as Answer;
 ghost use Rattle.df.specs.Band as Band;
 use crate::Counts;
 use crate::entries_by;
@@ -100,6 +101,97 @@ impl Bands {
         Bands { next: 0 }
     }
 
+    // Deblocks a band whose checks found nothing.
+    fn deblock_checked(
+        self,
+        band: usize,
+        w: usize,
+        h: usize,
+        y: &mut [u16],
+        u: &mut [u16],
+        v: &mut [u16],
+        words: &mut [u32],
+        splits: &[u8],
+        motion: &[i16],
+        refs: &[i8],
+        keep: &[u8],
+        table0: &[i8],
+        table1: &[i8],
+        strengths: &[u8],
+        settings: Settings,
+    ) -> Banded
+        requires { ⌜ Band.check
+            (record {
+              next = self .next;
+              band = band;
+              w = w;
+              h = h;
+              y = now y;
+              u = now u;
+              v = now v;
+              words = now words;
+              splits = now splits;
+              motion = now motion;
+              refs = now refs;
+              keep = now keep;
+              table0 = now table0;
+              table1 = now table1;
+              strengths = now strengths;
+              settings = settings;
+            }) ≡ Answer.Done ⌝ }
+        ensures { λ r. ⌜ Gives Band.outcome
+            (record {
+              next = self .next;
+              band = band;
+              w = w;
+              h = h;
+              y = now (y .entry);
+              u = now (u .entry);
+              v = now (v .entry);
+              words = now (words .entry);
+              splits = now (splits .entry);
+              motion = now (motion .entry);
+              refs = now (refs .entry);
+              keep = now (keep .entry);
+              table0 = now (table0 .entry);
+              table1 = now (table1 .entry);
+              strengths = now (strengths .entry);
+              settings = settings;
+            })
+            (record { reading = Band.readingOf r; y = now (y .exit); u = now (u .exit); v = now (v .exit); words = now (words .exit) }) ⌝ }
+    {
+        let table = entries_by(settings, strengths, table0, table1);
+        let rows = band_rows(h, band);
+        let above = rows_above(band);
+        let top = above / 16;
+        let skip = above - top;
+        let own = 4 * rows;
+        let format = settings.format;
+        let n = band_passes(
+            format,
+            settings.limit == 5,
+            w,
+            own,
+            skip,
+            top,
+            y,
+            u,
+            v,
+            words,
+            splits,
+            motion,
+            refs,
+            keep,
+            &table,
+        );
+        let after = self.next + 1;
+        Banded::Done {
+            vertical: n.vertical,
+            horizontal: n.horizontal,
+            next: Bands { next: after },
+        }
+    }
+
     // Deblocks band `band` of a picture of w by h: everything is checked before the first write.
     pub fn deblock_band(
         self,
@@ -140,9 +232,8 @@ impl Bands {
             })
             (record { reading = Band.readingOf r; y = now (y .exit); u = now (u .exit); v = now (v .exit); words = now (words .exit) }) ⌝ }
     {
-        let next = self.next;
-        let found = checked_band(
-            next,
+        if let Answer::Refused(r) = checked_band(
+            self.next,
             band,
             w,
             h,
@@ -158,24 +249,13 @@ impl Bands {
             table1.len(),
             strengths.len(),
             settings,
-        );
-        if let Answer::Refused(r) = found {
+        ) {
             return Banded::Refused(r, self);
         }
-        let table = entries_by(settings, strengths, table0, table1);
-        let rows = band_rows(h, band);
-        let above = rows_above(band);
-        let top = above / 16;
-        let skip = above - top;
-        let own = 4 * rows;
-        let format = settings.format;
-        let n = band_passes(
-            format,
-            settings.limit == 5,
+        self.deblock_checked(
+            band,
             w,
-            own,
-            skip,
-            top,
+            h,
             y,
             u,
             v,
@@ -184,13 +264,10 @@ impl Bands {
             motion,
             refs,
             keep,
-            &table,
-        );
-        let after = next + 1;
-        Banded::Done {
-            vertical: n.vertical,
-            horizontal: n.horizontal,
-            next: Bands { next: after },
-        }
+            table0,
+            table1,
+            strengths,
+            settings,
+        )
     }
 }

@@ -135,7 +135,7 @@ pub fn deblock_by_rows(
         })
         (record { reading = Deblock.readingOf r; y = now (y .exit); u = now (u .exit); v = now (v .exit); words = now (words .exit) }) ⌝ }
 {
-    let found = checked_by_rows(
+    if let Answer::Refused(r) = checked_by_rows(
         w,
         h,
         &*y,
@@ -151,8 +151,7 @@ pub fn deblock_by_rows(
         table1,
         strengths,
         settings,
-    );
-    if let Answer::Refused(r) = found {
+    ) {
         return Deblocked::Refused(r);
     }
     let table = entries_by(settings, strengths, table0, table1);
@@ -174,8 +173,5 @@ pub fn deblock_by_rows(
         rows,
         &table,
     );
-    Deblocked::Done {
-        vertical: n.vertical,
-        horizontal: n.horizontal,
-    }
+    n.done()
 }

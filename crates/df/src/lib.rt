@@ -82,6 +82,27 @@ pub(crate) struct Counts {
     pub(crate) horizontal: usize,
 }
 
+impl Counts {
+    fn new(vertical: usize, horizontal: usize) -> Counts
+        ensures { λ r. ⌜ (r .vertical ≡ vertical) × (r .horizontal ≡ horizontal) ⌝ }
+    {
+        Counts {
+            vertical,
+            horizontal,
+        }
+    }
+
+    // The answer of a call that did both passes.
+    pub(crate) fn done(self) -> Deblocked
+        ensures { λ r. ⌜ Deblock.readingOf r ≡ record { number = 0; vertical = self .vertical; horizontal = self .horizontal } ⌝ }
+    {
+        Deblocked::Done {
+            vertical: self.vertical,
+            horizontal: self.horizontal,
+        }
+    }
+}
+
 // Both passes over h rows of samples, below `top` rows of units: the vertical pass covers all of them first. Then every unit of
 // theirs is done. The rows of edges are read from a map of them, where one is lent.
 pub(crate) fn passes_by(
@@ -145,10 +166,7 @@ pub(crate) fn passes_by(
     );
     let from = top * (w / 4);
     all_done(&mut words[from..]);
-    Counts {
-        vertical: m,
-        horizontal: n,
-    }
+    Counts::new(m, n)
 }
 
 // evc_deblock: everything is checked before the first write. No map of edge rows is lent.

@@ -1,7 +1,7 @@
 // A pass over a picture: a root's edges are listed, their strengths and marks looked up, and then they are filtered.
 // The Rust beside it: df.rs, evc_deblock_tree, evc_deblock. Its vertical pass asks which units are done; `left-done` and `right-not` of `split` have the answers.
 ghost use mathlib.Core.Path.{_≡_};
-ghost use Prim.Native.Nat.{_+_, _*_, _/_, _%_, _≤_, _<_};
+ghost use Prim.Native.Nat.{_+_, _/_, _≤_, _<_};
 ghost use lib.ListN.{length};
 ghost use Rattle.def.specs.Picture.{rootCount};
 ghost use Rattle.bands_rules.specs.Bands.{listFrom};
@@ -17,7 +17,16 @@ use crate::place::is_horizontal;
 use crate::plan::plan;
 use def::Format;
 use def::Pel;
+use def::roots_along;
 use split::Walked;
+
+// How many roots h rows of w samples have.
+fn root_count(w: usize, h: usize) -> usize
+    requires { ⌜ (w ≤ 4096) × (h ≤ 4096) ⌝ }
+    ensures { λ r. ⌜ (r ≡ rootCount w h) × (r ≤ 4096) ⌝ }
+{
+    roots_along(w) * roots_along(h)
+}
 
 // A pass's edges of root i, as listing writes them, `top` rows of units further down, and how many they are. The walk of the picture was checked, and is not
 // refused here.
@@ -34,7 +43,7 @@ fn root_edges(
     requires { ⌜ Accepted w h (now splits) × (i < rootCount w h) × (length (now out) ≡ 512) × (top + h / 4 ≤ 1024) ⌝ }
     ensures { λ r. ⌜ ListedRoot w h (now (splits .entry)) (passOf pass) halved top i (now (out .exit)) r ⌝ }
 {
-    let across = (w + 63) / 64;
+    let across = roots_along(w);
     let x = Pel(64 * (i % across));
     let y = Pel(64 * (i / across));
     match edges::root_list(w, h, splits, x, y, is_horizontal(pass), halved, top, out) {
@@ -71,7 +80,7 @@ pub(crate) fn deblock_pass(
         columns: w / 4,
         rows: top + h / 4,
     };
-    let roots = (w + 63) / 64 * ((h + 63) / 64);
+    let roots = root_count(w, h);
     let mut list = [0u16; 512];
     let mut places = [0u8; 256];
     let mut marks = [0u8; 256];

@@ -47,7 +47,7 @@ use Rattle.laws.proofs.ScanAll.{scan-pass}
 use Rattle.split.specs.Picture.{across}
 use Rattle.df.specs.Band as band
 use Rattle.df.proofs.Lengths.{luma-places, chroma-places, stepOf, places-step}
-use Rattle.df.proofs.Told.{fine, is-done, Told, told, at-next}
+use Rattle.df.proofs.BandPassed.{check-done, outcome-done, BandPassed, band-passed, at-next}
 use Rattle.df_laws.specs.Bands.{State, start, stateAfter, inputOf, after, lent, wordsBack, planePart, planeBack, bands, AcceptedTo, Accepted, Plane, luma-plane}
 use Rattle.df_laws.specs.Bands.{u-plane, v-plane, componentOf, mappedAs, planeIn, planeOf, planeAfter, Joined}
 use Rattle.df.specs.Deblock.{Input, Outcome, checked, check, passEdges, qpY, mapsOf, deblocked, refused, done, outcome}
@@ -210,21 +210,21 @@ module _ (i : Input) (sides : sizeOk (i .w) (i .h) ≡ true) where
         }
 
 module _ (i : Input) (sides : sizeOk (i .w) (i .h) ≡ true) (long : length (i .words) ≡ i .h / 4 * (i .w / 4)) (n : ℕ) (few : n ≤ bands i) (acc : AcceptedTo i n) where
-  abbrev pub band-told : (k : ℕ) → k < n → Told (inputOf i k (stateAfter i k))
-  band-told k l = told _ (fine _ (acc k l))
+  abbrev pub band-told : (k : ℕ) → k < n → BandPassed (inputOf i k (stateAfter i k))
+  band-told k l = band-passed _ (check-done _ (acc k l))
 
   pub position : (k : ℕ) → k ≤ n → stateAfter i k .next ≡ k
   unfolding stateAfter
   position zero l = refl
   position (suc k) l =
       let p = at-next (band-told k l) in
-      ap (λ (o : band.Outcome). o .reading .next) (is-done _ (fine _ (acc k l))) ∙ omega arith
+      ap (λ (o : band.Outcome). o .reading .next) (outcome-done _ (check-done _ (acc k l))) ∙ omega arith
 
   pub words-marked : (k : ℕ) → k ≤ n → Marked i sides k (stateAfter i k .words)
   unfolding stateAfter
   words-marked zero l = none-marked i sides long
   words-marked (suc k) l =
-      subst (Marked i sides (suc k)) (sym (ap (λ (o : band.Outcome). wordsBack i k (o .words) (stateAfter i k .words)) (is-done _ (fine _ (acc k l)))))
+      subst (Marked i sides (suc k)) (sym (ap (λ (o : band.Outcome). wordsBack i k (o .words) (stateAfter i k .words)) (outcome-done _ (check-done _ (acc k l)))))
       (one-marked i sides long k (omega arith) (stateAfter i k .words) (words-marked k (omega arith)))
 
   -- ---- the planes
@@ -261,7 +261,7 @@ module _ (i : Input) (sides : sizeOk (i .w) (i .h) ≡ true) (long : length (i .
   unfolding stateAfter calledAll
   after-plane x zero l = start-plane x
   after-plane x (suc k) l =
-      ap (λ (o : band.Outcome). planeOf x (after i k (stateAfter i k) o)) (is-done _ (fine _ (acc k l)))
+      ap (λ (o : band.Outcome). planeOf x (after i k (stateAfter i k) o)) (outcome-done _ (check-done _ (acc k l)))
       ∙ after-one k l x
       ∙ ap (called (mapsOf i) (i .strengths) (mappedAs x i) (componentOf x) (limit5 i sides) (i .splits) (i .w / 4) (i .h / 4) k) (after-plane x k (omega arith))
 
@@ -318,7 +318,7 @@ module _ (i : Input) (sides : sizeOk (i .w) (i .h) ≡ true) (lengths : checks.l
   abbrev words-long : length (i .words) ≡ i .h / 4 * (i .w / 4)
   words-long = long-words i sides lengths
 
-  abbrev each-told : (k : ℕ) → k < bands i → Told (inputOf i k (stateAfter i k))
+  abbrev each-told : (k : ℕ) → k < bands i → BandPassed (inputOf i k (stateAfter i k))
   each-told = band-told i sides words-long (bands i) all acc
 
   abbrev halved : Bool
@@ -447,7 +447,7 @@ module _ (i : Input) (sides : sizeOk (i .w) (i .h) ≡ true) (lengths : checks.l
   counted d zero l = none-counted d
   counted d (suc k) l =
       let f = bandList d halved (i .splits) (i .w / 4) (i .h / 4) in
-      ap (λ (o : band.Outcome). countIn d (after i k (stateAfter i k) o)) (is-done _ (fine _ (acc k l)))
+      ap (λ (o : band.Outcome). countIn d (after i k (stateAfter i k) o)) (outcome-done _ (check-done _ (acc k l)))
       ∙ counted-one d k ∙ ap₂ _+_ (counted d k (omega arith)) (list-long d k) ∙ sym (length-append (joined-lists f k) (f k))
 
   all-lists : (d : Pass) → passEdges d i ≡ joined-lists (bandList d halved (i .splits) (i .w / 4) (i .h / 4)) (bands i)

@@ -20,7 +20,7 @@ use Rattle.df_laws.specs.Bands.{State, start, stateAfter, inputOf, after
 use Rattle.df.specs.Deblock.{Input, Outcome, passEdges, checked, check, done}
 use Rattle.df_laws.specs.Luma.{SameLuma, LumaAgrees, BandsAgree, withoutColour}
 use Rattle.df_laws.proofs.Demand3.{is-done}
-use Rattle.df.proofs.Told.{fine, is-done as band-done}
+use Rattle.df.proofs.BandPassed.{check-done, outcome-done as band-done}
 use Rattle.df_laws.proofs.Parted.{size, onward}
 
 -- what a state has of luma
@@ -74,9 +74,9 @@ module _ {i j : Input} (s : SameLuma i j) where
   agree (suc n) a b =
       let here : n < suc n = omega arith in
       let before = agree n (λ k l. a k (omega arith)) (λ k l. b k (omega arith)) in
-      ap (λ (o : band.Outcome). lumaOf (after i n (stateAfter i n) o)) (band-done _ (fine _ (a n here)))
+      ap (λ (o : band.Outcome). lumaOf (after i n (stateAfter i n) o)) (band-done _ (check-done _ (a n here)))
       ∙ no-colour i n (stateAfter i n) ∙ (λ t. lumaAfter (grey-same t) n (before t)) ∙ sym (no-colour j n (stateAfter j n))
-      ∙ ap (λ (o : band.Outcome). lumaOf (after j n (stateAfter j n) o)) (sym (band-done _ (fine _ (b n here))))
+      ∙ ap (λ (o : band.Outcome). lumaOf (after j n (stateAfter j n) o)) (sym (band-done _ (check-done _ (b n here))))
 
   pub same-bands : (n : ℕ) → AcceptedTo i n → AcceptedTo j n → BandsAgree i j n
   same-bands n a b =

@@ -44,7 +44,7 @@ use Rattle.df_laws.specs.Bands.{stateAfter, inputOf, lent, planePart, ba
 use Rattle.df.specs.Deblock.{Input, checked, check, mapsOf, refused, done, outcome}
 use Rattle.df_laws.proofs.Joined.{Marked, marked-alikes, pos, position, words-marked, after-plane, inPlane, long-plane, held-plane, long-words}
 use Rattle.df.proofs.Lengths.{luma-places, chroma-places, unit-places, stepOf, places-step}
-use Rattle.df.proofs.Told.{is-done}
+use Rattle.df.proofs.BandPassed.{outcome-done}
 
 -- ---- parts of a list
 
@@ -239,7 +239,7 @@ module _ (i : Input) (ok : check i ≡ Done) where
         )
 
     pub next-accepted : call.outcome j .reading .number ≡ 0
-    next-accepted = ap (λ (o : call.Outcome). o .reading .number) (is-done j band-fine)
+    next-accepted = ap (λ (o : call.Outcome). o .reading .number) (outcome-done j band-fine)
 
   one-more : (n : ℕ) → n < bands i → AcceptedTo i n → AcceptedTo i (suc n)
   one-more n l acc k h = go (decLt k n) where

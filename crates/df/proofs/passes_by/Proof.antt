@@ -1,13 +1,19 @@
 -- `df::passes_by` meets its contract: the vertical pass, then the horizontal over what it left; then every unit is done. Assumes nothing.
 use Prim.Native.Nat.{ℕ, _+_, _*_, _/_, _≤_}
-use mathlib.Core.Path.{_∙_}
+use mathlib.Core.List.{List}
+use mathlib.Core.Path.{_≡_, _∙_}
 use native.Mathlib.Nat.{add-mul, mul-le-mul-right, le-refl}
 use native.Mathlib.Omega.{arith}
 use mir.Syntax.{w64}
 use mir.Val.{Fits}
 use lib.ListN.{length}
+use Rattle.split.specs.Edges.{vertical, horizontal, Edge}
+use Rattle.df_rules.specs.Filter.{Planes}
+use Rattle.df_rules.specs.Strength.{Maps}
 use Rattle.df_rules.specs.Visit.{allDone}
+use Rattle.bands_rules.specs.Bands.{doneFrom, BothPassesFrom}
 use Rattle.df_check.proofs.Fronts.{end-put}
+use Rattle.df.specs.Plan.{PassDone}
 use Rattle.df.proofs.Turns.{both-done, frame-done}
 use Rattle.df.proofs.passes_by.Statement.{statement}
 use Rattle.df.proofs.passes_by.Tie as tie
@@ -42,12 +48,26 @@ deblock-pass-requires-2 c κs =
     let s = d .before .before .before .before .before .before .before .before .before .before .before .before .before in
     (frame-done (d .deblock-pass .ensures) (s .pre .0), s .pre .1, s .pre .2)
 
+-- both passes, with the counts as they are handed back
+both-counted : {m : Maps} {t : List ℕ} {w top : ℕ} {ups levels : List Edge} {p q r : Planes} {a b x y : ℕ} {words : List ℕ}
+    → PassDone m t vertical w ups p q a → PassDone m t horizontal w levels q r b → words ≡ doneFrom (top * w) (m .words) → (x ≡ a) × (y ≡ b)
+    → BothPassesFrom m t w top ups levels p r words x y
+both-counted g k e n =
+    let b = both-done g k e in
+    record {
+      planes = b .planes;
+      ups-counted = n .0 ∙ b .ups-counted;
+      levels-counted = n .1 ∙ b .levels-counted;
+      marks = b .marks;
+    }
+
 returns : tie.Need-returns
 returns c =
-    let d = c .before .before .before .before .before .before .before .before .before .before in
+    let d = c .before .before .before .before .before .before .before .before .before .before .before in
     let e = d .before .before .before .before .before .before .before .before .before .before .before in
     let s = e .before .before .before .before .before .before .before .before .before .before .before .before .before in
-    both-done (e .deblock-pass .ensures) (d .deblock-pass2 .ensures) (end-put (s .args .top * (s .args .w / 4)) (s .args .words .now) allDone _ (c .before .before .all-done .ensures))
+    both-counted (e .deblock-pass .ensures) (d .deblock-pass2 .ensures)
+    (end-put (s .args .top * (s .args .w / 4)) (s .args .words .now) allDone _ (c .before .before .before .all-done .ensures)) (c .new .ensures)
 
 pub passes-by-spec : {M : Type 1} → statement M
 passes-by-spec =
@@ -61,11 +81,12 @@ passes-by-spec =
     (λ c. room (begun c))
     (λ c. le-refl _)
     (λ c κs. tt)
-    (λ c. let d = c .before .before .before .before .before .before .before .before .before .before in
+    (λ c κs. tt)
+    (λ c. let d = c .before .before .before .before .before .before .before .before .before .before .before in
     d .deblock-pass2 .kept .1 .1 .1 .1 .1 .1 .0 ∙ d .before .before .before .before .before .before .before .before .before .before .before .deblock-pass .kept .1 .1 .1 .1 .1 .1 .0)
-    (λ c. let d = c .before .before .before .before .before .before .before .before .before .before in
+    (λ c. let d = c .before .before .before .before .before .before .before .before .before .before .before in
     d .deblock-pass2 .kept .1 .1 .1 .1 .1 .1 .1 .0 ∙ d .before .before .before .before .before .before .before .before .before .before .before .deblock-pass .kept .1 .1 .1 .1 .1 .1 .1 .0)
-    (λ c. let d = c .before .before .before .before .before .before .before .before .before .before in
+    (λ c. let d = c .before .before .before .before .before .before .before .before .before .before .before in
     d .deblock-pass2 .kept .1 .1 .1 .1 .1 .1 .1 .1 .0 ∙ d .before .before .before .before .before .before .before .before .before .before .before .deblock-pass .kept .1 .1 .1 .1 .1 .1 .1 .1 .0)
     (λ c. search)
     returns)

@@ -1,6 +1,5 @@
 -- `df::by_rows::deblock_by_rows` meets its contract: nothing is written before all checks passed, and then both passes follow, by a map that is right. Assumes nothing.
-use mathlib.Core.Path.{_≡_, sym, ap, _∙_}
-use borrow.Author.Needs.{needs}
+use mathlib.Core.Path.{_≡_, refl, sym, ap, _∙_}
 use denote.Ref.{now}
 use lib.ListN.{length}
 use Rattle.def.specs.declared.Answer.the-variants.{Done}
@@ -38,7 +37,7 @@ of s =
     }
 
 returns : tie.Need-returns
-returns c = by-refused _ _ _ (c .before .before .before .checked-by-rows .ensures) (c .before .found .given .1)
+returns c = by-refused _ _ _ (c .before .before .before .checked-by-rows .ensures) (c .before .r .given .1)
 
 -- the checks found nothing
 fine : (c : tie.After-enum-told) → check (of (c .before .before .before .before .before .before .before .before .before .before .before .before .before .before .before)) ≡ Done
@@ -56,31 +55,33 @@ passes-by-requires c κs =
 returns-2 : tie.Need-returns-2
 unfolding of
 returns-2 c =
-    let told = c .before .before .before .before .before .before .before .before .before .before .before .before .before .before .before .before in
-    let i = of (told .before .before .before .before .before .before .before .before .before .before .before .before .before .before .before) in
-    let e = fine told in
+    let checked = c .before .before .before .before .before .before .before .before .before .before .before .before .before .before .before .before .before in
+    let i = of (checked .before .before .before .before .before .before .before .before .before .before .before .before .before .before .before) in
+    let e = fine checked in
     deblock-done (i .given) (picture-fine i e) _ _ _ _ _ _ _
-    (c .before .before .before .before .before .before .before .before .before .before .before .before .before .before .before .entries-by .ensures)
-    (both-zero _ _ _ (c .before .before .before .before .before .before .before .before .passes-by .ensures))
+    (c .before .before .before .before .before .before .before .before .before .before .before .before .before .before .before .before .entries-by .ensures)
+    (both-zero _ _ _ (c .before .before .before .before .before .before .before .before .before .passes-by .ensures))
+    (c .done .ensures)
     ∙ same-outcome i e
 
 pub deblock-by-rows-spec : {M : Type 1} → statement M
 deblock-by-rows-spec =
     tie.close
     (tie.spec
-    (λ c κs. search needs)
-    (λ c. search needs)
-    (λ c. search needs)
-    (λ c. search needs)
-    (λ c. search needs)
-    (λ c. search needs)
+    (λ c κs. tt)
+    (λ c. search)
+    (λ c. refl)
+    (λ c. refl)
+    (λ c. refl)
+    (λ c. refl)
     returns
-    (λ c. search needs)
-    (λ c κs. search needs)
-    (λ c. search needs)
+    (λ c. search)
+    (λ c κs. tt)
+    (λ c. sym (ap length (c .before .before .before .before .before .before .entries-by .ensures) ∙ entries-long _ _ _ _ _ _))
     passes-by-requires
-    (λ c. search needs)
-    (λ c. search needs)
-    (λ c. search needs)
-    (λ c. search needs)
+    (λ c κs. tt)
+    (λ c. c .before .before .before .before .before .before .before .before .before .passes-by .kept .1 .1 .1 .1 .1 .0)
+    (λ c. c .before .before .before .before .before .before .before .before .before .passes-by .kept .1 .1 .1 .1 .1 .1 .0)
+    (λ c. c .before .before .before .before .before .before .before .before .before .passes-by .kept .1 .1 .1 .1 .1 .1 .1 .0)
+    (λ c. c .before .before .before .before .before .before .before .before .before .passes-by .kept .1 .1 .1 .1 .1 .1 .1 .1 .0)
     returns-2)

@@ -1,15 +1,15 @@
 -- `df::pass::deblock_pass` meets its contract: after i turns the edges of the first i roots are filtered. Assumes nothing.
-use Prim.Native.Nat.{_+_, _-_, _*_, _/_, _≤_}
-use mathlib.Core.Path.{_≡_, refl, sym, _∙_}
+use Prim.Native.Nat.{ℕ, _+_, _-_, _/_, _≤_, _<_}
+use mathlib.Core.Path.{_≡_, refl, _∙_, subst}
 use native.Mathlib.Omega.{arith}
 use borrow.Author.Needs.{needs}
 use lib.ListN.{length}
 use Rattle.def.proofs.Sizes.{Sized, sized}
-use Rattle.split.proofs.Roots.{few-roots, roots-units}
+use Rattle.split.proofs.Roots.{roots-units}
 use Rattle.df_rules.specs.Strength.{Maps}
 use Rattle.df_rules.proofs.LentPlanes.{LentPlanes}
 use Rattle.df.specs.Edges.{passOf}
-use Rattle.df.proofs.Plans.{known, plan-few}
+use Rattle.df.proofs.Plans.{edge-known, plan-few}
 use Rattle.df.proofs.Turns.{Roots, roots-none, roots-more, roots-frame, roots-all, luma-plane, u-plane, v-plane}
 use Rattle.df.proofs.pass.deblock_pass.Statement.{statement}
 use Rattle.df.proofs.pass.deblock_pass.Tie as tie
@@ -30,35 +30,27 @@ maps s = record { words = s .args .words .now; over = record { motion = s .args 
 size : (s : tie.Start Inv-loop μ-loop) → Sized (s .args .w) (s .args .h)
 size s = sized _ _ (s .pre .1 .size)
 
-few : (s : tie.Start Inv-loop μ-loop) → (s .args .w + 63) / 64 * ((s .args .h + 63) / 64) ≤ 4096
-few s = few-roots (s .args .w) (s .args .h) (size s .wide) (size s .high)
+add-t27 : tie.Need-add-t27 Inv-loop μ-loop
+add-t27 c = omega (arith, c .before .before .before .before .before .before .before .before .pre .0 .high)
 
-add-roots : tie.Need-add-roots Inv-loop μ-loop
-add-roots c = omega (arith, c .before .before .before .before .before .before .before .before .pre .0 .high)
-
-add-roots-2 : tie.Need-add-roots-2 Inv-loop μ-loop
-add-roots-2 c = omega (arith, size (c .before .before .before .before .before .before .before .before) .wide)
-
-add-roots-3 : tie.Need-add-roots-3 Inv-loop μ-loop
-add-roots-3 c = omega (arith, size (c .before .before .before .before .before .before .before .before) .high)
-
-mul-roots : tie.Need-mul-roots Inv-loop μ-loop
-mul-roots c = omega (arith, few (c .before .before .before .before .before .before .before .before))
+root-count-requires : tie.Need-root-count-requires Inv-loop μ-loop
+root-count-requires c κs = let z = size (c .before .before .before .before .before .before .before .before) in (z .wide, z .high)
 
 loop-holds : tie.Need-loop-holds Inv-loop μ-loop
-loop-holds c = (omega arith, refl, refl, refl, refl, refl, refl, roots-none _ _ (passOf (c .before .before .before .before .before .before .before .before .args .pass)) _ _ _ _ _ _)
+loop-holds c =
+    (omega arith, refl, refl, refl, refl, refl, refl, roots-none _ _ (passOf (c .before .before .before .before .before .before .before .before .before .args .pass)) _ _ _ _ _ _)
 
 root-edges-requires : tie.Need-root-edges-requires Inv-loop μ-loop
 root-edges-requires c κs = (
-  c .before .before .before .before .before .before .before .before .before .before .before .pre .1,
-  c .before .loop-test .taken,
+  c .before .before .before .before .before .before .before .before .before .before .before .before .pre .1,
+  subst (λ (n : ℕ). c .before .before .loop .i < n) (c .before .before .before .root-count .ensures .0) (c .before .loop-test .taken),
   c .before .before .loop .inv .4,
-  c .before .before .before .before .before .before .before .before .before .before .before .pre .0 .high,
+  c .before .before .before .before .before .before .before .before .before .before .before .before .pre .0 .high,
 )
 
 plan-requires : tie.Need-plan-requires Inv-loop μ-loop
 plan-requires c κs =
-    let s = c .before .before .before .before .before .before .before .before .before .before .before .before .before .before .before .before in
+    let s = c .before .before .before .before .before .before .before .before .before .before .before .before .before .before .before .before .before in
     let r = c .before .before .before .before .root-edges .ensures in
     record {
       wide = s .pre .0 .wide;
@@ -66,20 +58,20 @@ plan-requires c κs =
       fits = omega (arith, r .few, c .before .before .before .before .before .before .before .loop .inv .5);
       fits-marks = omega (arith, r .few, c .before .before .before .before .before .before .before .loop .inv .6);
       right = s .pre .2;
-      edges = λ k g. known (passOf (s .args .pass)) _ _ (s .pre .0) (r .units k g);
+      edges = λ k g. edge-known (passOf (s .args .pass)) _ _ (s .pre .0) (r .units k g);
     }
 
 -- the picture, at a turn
-current : (c : tie.At-loop Inv-loop μ-loop) → let a = c .before .before .before .before .before .before .before .before .before .args in
+current : (c : tie.At-loop Inv-loop μ-loop) → let a = c .before .before .before .before .before .before .before .before .before .before .args in
     LentPlanes (a .format) (a .w / 4) (a .top + a .h / 4) (record { motion = a .motion .now; refs = a .refs .now; keep = a .keep .now }) (a .entries .now)
     (record { y = c .loop .y; u = c .loop .u; v = c .loop .v }) (a .words .now)
-current c = let s = c .before .before .before .before .before .before .before .before .before in
+current c = let s = c .before .before .before .before .before .before .before .before .before .before in
     roots-frame (maps s) _ (passOf (s .args .pass)) _ _ _ _ _ (c .loop .i) _ _ _ (c .loop .inv .7) (s .pre .0)
 
 filter-luma-requires : tie.Need-filter-luma-requires Inv-loop μ-loop
 filter-luma-requires c κs =
     let turn = c .before .before .before .before .before .before .before .before .before .before .before in
-    let s = turn .before .before .before .before .before .before .before .before .before .before .before .before in
+    let s = turn .before .before .before .before .before .before .before .before .before .before .before .before .before in
     let r = turn .root-edges .ensures in
     let p = c .before .before .before .before .before .before .plan in (
       luma-plane (current (turn .before .before .before)),
@@ -106,7 +98,7 @@ filter-luma-requires c κs =
 filter-colour-requires : tie.Need-filter-colour-requires Inv-loop μ-loop
 filter-colour-requires c κs =
     let turn = c .before .before .before .before .before .before .before .before .before .before .before .before .before .before in
-    let s = turn .before .before .before .before .before .before .before .before .before .before .before .before .before .before .before .before .before in
+    let s = turn .before .before .before .before .before .before .before .before .before .before .before .before .before .before .before .before .before .before in
     let r = turn .before .before .before .before .before .root-edges .ensures in
     let p = turn .plan in (
       u-plane (current (turn .before .before .before .before .before .before .before .before)),
@@ -137,7 +129,7 @@ add-count c =
     let turn = after .before .before .before .before .before .before .before .before .before .before .before .before in
     omega (
       arith,
-      few (turn .before .before .before .before .before .before .before .before .before .before .before .before),
+      turn .before .before .before .before .root-count .ensures .1,
       turn .before .before .before .loop .inv .7 .few,
       turn .before .before .before .loop .inv .0,
       turn .root-edges .ensures .few,
@@ -149,7 +141,7 @@ add-i c =
     let turn = after .before .before .before .before .before .before .before .before .before .before .before .before .before .before in
     omega (
       arith,
-      few (turn .before .before .before .before .before .before .before .before .before .before),
+      turn .before .before .root-count .ensures .1,
       turn .loop-test .taken,
     )
 
@@ -166,7 +158,7 @@ loop-again : tie.Need-loop-again Inv-loop μ-loop
 loop-again c =
     let turn = c .before .before .before .before .before .before .before .before .before .before .before .before in
     let top = turn .before .before .before .before .before .before .before .before .before .before .before .before .before .before .before in
-    let s = top .before .before .before .before .before .before .before .before .before in
+    let s = top .before .before .before .before .before .before .before .before .before .before in
     let l = turn .before .before .before .before .before .before .before .before .before .before .before .before .before .before .before .loop in
     let ky = turn .filter-luma .kept in
     let k = c .before .before .before .before .filter-colour .kept in
@@ -186,14 +178,14 @@ loop-again c =
 
 returns : tie.Need-returns Inv-loop μ-loop
 returns c =
-    let s = c .before .before .before .before .before .before .before .before .before .before in
+    let s = c .before .before .before .before .before .before .before .before .before .before .before in
     let l = c .before .loop in
-    roots-all _ _ (passOf (s .args .pass)) _ _ _ _ _ (l .i) _ _ _ (omega (arith, l .inv .0, c .loop-test .left, roots-units (size s))) (l .inv .7)
+    roots-all _ _ (passOf (s .args .pass)) _ _ _ _ _ (l .i) _ _ _ (omega (arith, l .inv .0, c .loop-test .left, roots-units (size s), c .before .before .root-count .ensures .0)) (l .inv .7)
 
 pub deblock-pass-spec : {M : Type 1} → statement M
 deblock-pass-spec =
     tie.close
-    (tie.spec Inv-loop μ-loop add-roots add-roots-2 add-roots-3 mul-roots loop-holds (λ c. search needs) root-edges-requires (λ c. search needs) (λ c. search needs)
+    (tie.spec Inv-loop μ-loop add-t27 root-count-requires loop-holds (λ c. search needs) root-edges-requires (λ c. search needs) (λ c. search needs)
     (λ c. search needs) plan-requires (λ c. search needs) (λ c. search needs) (λ c. search needs) filter-luma-requires
     (λ c. search needs) (λ c. search needs) (λ c. search needs) filter-colour-requires add-count add-i loop-less loop-again (λ c. c .before .loop .inv .1)
     (λ c. c .before .loop .inv .2) (λ c. c .before .loop .inv .3) returns)

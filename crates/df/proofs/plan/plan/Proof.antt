@@ -11,7 +11,7 @@ use Rattle.df_rules.specs.Places.{unitQ, unitP}
 use Rattle.df_rules.specs.Strength.{Over, Maps}
 use Rattle.df.specs.Edges.{passOf}
 use Rattle.df.specs.Plan.{placeBy, placeAt, marksBy, marksAt, edgeFrom, Known}
-use Rattle.df.proofs.Plans.{known-given, says-given}
+use Rattle.df.proofs.Plans.{known-as, byte-has-row}
 use Rattle.df.proofs.plan.plan.Statement.{statement}
 use Rattle.df.proofs.plan.plan.Tie as tie
 
@@ -41,7 +41,7 @@ number-at-requires-2 c κs = omega (arith, c .before .before .before .before .be
 -- the edge of a turn
 turn : (c : tie.After-number-at2 Inv-loop μ-loop) → let a = c .before .before .before .before .before .before .before .before .before .before .args in
     Known (passOf (a .pass)) (a .columns) (a .words .now) (record { motion = a .motion .now; refs = a .refs .now; keep = a .keep .now }) (c .before .number-at .result) (c .number-at2 .result)
-turn c = known-given (c .before .number-at .ensures) (c .number-at2 .ensures)
+turn c = known-as (c .before .number-at .ensures) (c .number-at2 .ensures)
     (c .before .before .before .before .before .before .before .before .before .before .pre .edges (c .before .before .before .loop .k) (c .before .before .loop-test .taken))
 
 units-at-requires : tie.Need-units-at-requires Inv-loop μ-loop
@@ -53,7 +53,7 @@ place-at-requires c κs =
     let k = turn (c .before) in (
       subst (Unit (a .words .now) (a .motion .now) (a .refs .now)) (sym (c .units-at .ensures .0)) (k .q),
       subst (Unit (a .words .now) (a .motion .now) (a .refs .now)) (sym (c .units-at .ensures .1)) (k .p),
-      says-given (passOf (a .pass)) (a .columns) (a .words .now) (a .motion .now) (a .refs .now) (a .rows .now)
+      byte-has-row (passOf (a .pass)) (a .columns) (a .words .now) (a .motion .now) (a .refs .now) (a .rows .now)
           (c .before .before .before .before .before .before .before .before .before .before .before .pre .right) (k .side) (c .units-at .ensures .0) (c .units-at .ensures .1),
     )
 

@@ -2,7 +2,7 @@
 use mathlib.Core.Path.{_∙_}
 use borrow.Author.Needs.{needs}
 use Rattle.row.proofs.Units.{row-in}
-use Rattle.df.proofs.Plans.{there}
+use Rattle.df.proofs.Plans.{unit-there}
 use Rattle.df.proofs.plan.row_of.Statement.{statement}
 use Rattle.df.proofs.plan.row_of.Tie as tie
 
@@ -10,7 +10,7 @@ returns : tie.Need-returns
 returns c = (c .row-in .ensures .0 ∙ c .before .before .before .before .before .pre .2 (c .before .before .if1 .taken), c .row-in .ensures .1)
 
 returns-2 : tie.Need-returns-2
-returns-2 c = let p = c .before .before .before .before .pre in (c .row-at .ensures .0 ∙ row-in _ _ _ _ _ (there (p .0)) (there (p .1)), c .row-at .ensures .1)
+returns-2 c = let p = c .before .before .before .before .pre in (c .row-at .ensures .0 ∙ row-in _ _ _ _ _ (unit-there (p .0)) (unit-there (p .1)), c .row-at .ensures .1)
 
 pub row-of-spec : {M : Type 1} → statement M
 row-of-spec =

@@ -1,21 +1,9 @@
--- `df::band::Bands::deblock_band` meets its contract: nothing is written before all checks passed, and then both passes over the band follow.
+-- `df::band::Bands::deblock_band` meets its contract: where the checks refuse nothing was written, and where they found nothing the band is deblocked.
 -- Assumes nothing.
-use Prim.Native.Nat.{ℕ, zero, suc, _+_, _-_, _*_, _/_, _≤_}
-use mathlib.Core.Path.{_≡_, refl, sym, ap, _∙_}
-use native.Mathlib.Omega.{arith}
-use mir.Syntax.{w64}
-use mir.Val.{Fits}
+use mathlib.Core.Path.{refl, sym, _∙_}
 use denote.Ref.{now}
-use lib.ListN.{length}
-use Rattle.def.specs.declared.Answer.the-variants.{Done}
-use Rattle.def.proofs.Sizes.{sized}
-use Rattle.df_check.specs.Rows.{bandRows, rowsAbove}
-use Rattle.df_check.proofs.Bands.{few-rows}
-use Rattle.split.proofs.Roots.{some-wide}
-use Rattle.df.specs.Band.{Input, check, wide}
-use Rattle.df.proofs.BandCalls.{near, band-refused, asked, done-by}
-use Rattle.df.proofs.Told.{told, next-few}
-use Rattle.df.proofs.Entries.{entries-long}
+use Rattle.df.specs.Band.{Input}
+use Rattle.df.proofs.BandCalls.{band-refused}
 use Rattle.df.proofs.band.Bands.deblock_band.Statement.{statement}
 use Rattle.df.proofs.band.Bands.deblock_band.Tie as tie
 
@@ -44,74 +32,10 @@ inputOf s =
 returns : tie.Need-returns
 unfolding inputOf
 returns c = band-refused (inputOf (c .before .before .before .before .before .before .before .before .before .before .before .before .before .before .before)) _
-    (c .before .before .before .checked-band .ensures) _ (c .before .found .given .1)
+    (c .before .before .before .checked-band .ensures) _ (c .before .r .given .1)
 
-abbrev start : tie.After-enum-told → tie.Start
-start c = c .before .before .before .before .before .before .before .before .before .before .before .before .before .before
-
--- the checks found nothing
-fine : (c : tie.After-enum-told) → check (inputOf (start c)) ≡ Done
-unfolding inputOf
-fine c = sym (c .before .before .checked-band .ensures) ∙ c .enum-told .given .1
-
-some : (c : tie.After-enum-told) → 1 ≤ wide (inputOf (start c))
-unfolding inputOf
-some c = let i = inputOf (start c) in some-wide (sized (i .w) (i .h) (told i (fine c) .size))
-
--- of the rows above, the one that is handed on
-one-above : (k : ℕ) → rowsAbove k / 16 ≡ near k
-one-above zero = refl
-one-above (suc k) = refl
-
-rest-above : (k : ℕ) → rowsAbove k - rowsAbove k / 16 ≡ rowsAbove k - 1
-rest-above zero = refl
-rest-above (suc k) = refl
-
-top-is : (c : tie.After-rows-above) → c .rows-above .result / 16 ≡ near (start (c .before .before .before) .args .band)
-top-is c = ap (λ (n : ℕ). n / 16) (c .rows-above .ensures) ∙ one-above (start (c .before .before .before) .args .band)
-
-skip-is : (c : tie.After-rows-above) → c .rows-above .result - c .rows-above .result / 16 ≡ rowsAbove (start (c .before .before .before) .args .band) - 1
-skip-is c = ap (λ (n : ℕ). n - n / 16) (c .rows-above .ensures) ∙ rest-above (start (c .before .before .before) .args .band)
-
-own-is : (c : tie.After-rows-above) → 4 * c .before .band-rows .result ≡ 4 * bandRows (start (c .before .before .before) .args .h / 4) (start (c .before .before .before) .args .band)
-own-is c = ap (λ (n : ℕ). 4 * n) (c .before .band-rows .ensures)
-
-own-fits : (h k : ℕ) {r : ℕ} → r ≡ bandRows h k → Fits w64 (4 * r)
-own-fits h k e = omega (arith, few-rows h k)
-
-next-fits : {n : ℕ} → n ≤ 64 → Fits w64 (n + 1)
-next-fits l = omega arith
-
-sixteenth : (n : ℕ) → n / 16 ≤ n
-sixteenth n = omega arith
-
--- the entries are as many as the passes ask for
-long : (c : tie.After-entries-by) → length (c .entries-by .result) ≡ 624
-long c = ap length (c .entries-by .ensures) ∙ entries-long _ _ _ _ _ _
-
-band-passes-requires : tie.Need-band-passes-requires
-unfolding inputOf
-band-passes-requires c κs =
-    let d = c .before .before .before .before .before .before in
-    let g = d .before .before .before in
-    let t = c .before .before .before .before .before .before .before .before in
-    asked (inputOf (start g)) (fine g) (some g) (skip-is d) (top-is d) (own-is d) (t .entries-by .result) (long t)
-
-add-after : tie.Need-add-after
-unfolding inputOf
-add-after c =
-    let g = c .before .before .before .before .before .before .before .before .before .before .before .before .before .before .before .before .before .before in
-    next-fits (next-few (told (inputOf (start g)) (fine g)))
-
-returns-2 : tie.Need-returns-2
-unfolding inputOf
-returns-2 c =
-    let d = c .before .before .before .before .before .before .before .before .before .before .before .before .before .before .before in
-    let g = d .before .before .before in
-    let b = c .before .before .before .before .before .before .before .before .band-passes in
-    done-by (inputOf (start g)) (fine g) (some g) (skip-is d) (top-is d) (own-is d) (d .before .before .entries-by .ensures)
-    (b .last .1 .1 .1 .1 .1 .1 .0) (b .last .1 .1 .1 .1 .1 .1 .1 .0) (b .last .1 .1 .1 .1 .1 .1 .1 .1 .0) (b .last .1 .1 .1 .1 .1 .1 .1 .1 .1 .0)
-    (b .result .vertical) (b .result .horizontal) (b .ensures)
+deblock-checked-requires : tie.Need-deblock-checked-requires
+deblock-checked-requires c κs = let d = c .before .before .before .before in sym (d .before .before .checked-band .ensures) ∙ d .enum-told .given .1
 
 pub deblock-band-spec : {M : Type 1} → statement M
 deblock-band-spec =
@@ -125,16 +49,9 @@ deblock-band-spec =
     (λ c. refl)
     returns
     (λ c. search)
-    (λ c κs. tt)
-    (λ c κs. tt)
-    (λ c κs. tt)
-    (λ c. sixteenth (c .rows-above .result))
-    (λ c. own-fits _ _ (c .before .band-rows .ensures))
-    (λ c. sym (long (c .before .before .before .before .before .before .before .before)))
-    band-passes-requires
-    add-after
-    (λ c. c .before .before .before .before .before .before .before .before .band-passes .kept .1 .1 .1 .1 .1 .1 .0)
-    (λ c. c .before .before .before .before .before .before .before .before .band-passes .kept .1 .1 .1 .1 .1 .1 .1 .0)
-    (λ c. c .before .before .before .before .before .before .before .before .band-passes .kept .1 .1 .1 .1 .1 .1 .1 .1 .0)
-    (λ c. c .before .before .before .before .before .before .before .before .band-passes .kept .1 .1 .1 .1 .1 .1 .1 .1 .1 .0)
-    returns-2)
+    deblock-checked-requires
+    (λ c. c .before .before .before .before .before .before .before .before .deblock-checked .kept .1 .1 .1 .1 .0)
+    (λ c. c .before .before .before .before .before .before .before .before .deblock-checked .kept .1 .1 .1 .1 .1 .0)
+    (λ c. c .before .before .before .before .before .before .before .before .deblock-checked .kept .1 .1 .1 .1 .1 .1 .0)
+    (λ c. c .before .before .before .before .before .before .before .before .deblock-checked .kept .1 .1 .1 .1 .1 .1 .1 .0)
+    (λ c. c .before .before .before .before .before .before .before .before .deblock-checked .ensures))

@@ -1,4 +1,8 @@
--- The call of a band: what an accepted band tells.
+-- The call of a band: what holds of a band that passed its checks.
+--     check-done    its number is 0 only where the checks found nothing
+--     outcome-done    and then its outcome is that of the rule
+--     band-passed    each check, as a fact of what is lent
+--     at-next, next-few    the band is the position's next, and its number is small
 -- Assumes nothing.
 use Prim.Native.Nat.{ℕ, _+_, _*_, _/_, _≤_}
 use mathlib.Core.Path.{_≡_, refl, sym, ap, _∙_}
@@ -33,18 +37,18 @@ use Rattle.df.specs.Band as band
 use Rattle.df.proofs.Lengths.{luma-places, chroma-places, unit-places}
 use Rattle.df.specs.Deblock.{Input, check, refused, done, outcome}
 
-pub fine : (j : band.Input) → band.outcome j .reading .number ≡ 0 → band.check j ≡ Done
+pub check-done : (j : band.Input) → band.outcome j .reading .number ≡ 0 → band.check j ≡ Done
 unfolding band.outcome
-fine j e = go (band.check j) refl e where
+check-done j e = go (band.check j) refl e where
   go : (a : Answer) → band.check j ≡ a → afterChecks (band.refused j) (band.done j) a .reading .number ≡ 0 → band.check j ≡ Done
   go Done q z = q
   go (Refused r) q z = absurd (let n = number-some r in omega arith)
 
-pub is-done : (j : band.Input) → band.check j ≡ Done → band.outcome j ≡ band.done j
+pub outcome-done : (j : band.Input) → band.check j ≡ Done → band.outcome j ≡ band.done j
 unfolding band.outcome
-is-done j e = ap (afterChecks (band.refused j) (band.done j)) e
+outcome-done j e = ap (afterChecks (band.refused j) (band.done j)) e
 
-pub record Told (j : band.Input) : Type 0 where
+pub record BandPassed (j : band.Input) : Type 0 where
   pub size : sizeOk (j .w) (j .h) ≡ true
   pub position : bandOk (j .next) (j .band) (j .h) ≡ true
   pub settings : settingsOk (j .settings) ≡ true
@@ -69,9 +73,9 @@ colour-small : (f : Format) (n m l : ℕ) (p : List ℕ) → m ≡ n → length 
 colour-small Grey n m l p q e g = samples-pass (drop n p) (λ k h. absurd (omega (arith, length-drop n p)))
 colour-small Colour n m l p q e g = ap (λ (k : ℕ). samplesOk (drop k p)) (sym q) ∙ g
 
-pub told : (j : band.Input) → band.check j ≡ Done → Told j
+pub band-passed : (j : band.Input) → band.check j ≡ Done → BandPassed j
 unfolding band-check.checkOf
-told j e =
+band-passed j e =
     let size = passes _ _ _ e in
     let next = passes _ _ _ (size .rest) in
     let rest = rest-passed _ _ _ _ (next .rest) in
@@ -104,11 +108,11 @@ told j e =
     }
 
 -- the band is the position's next
-pub at-next : {j : band.Input} → Told j → j .band ≡ j .next
+pub at-next : {j : band.Input} → BandPassed j → j .band ≡ j .next
 unfolding bandOk
 at-next {j} t = eqb-true _ _ (and-true _ _ (t .position) .0)
 
-pub next-few : {j : band.Input} → Told j → j .next ≤ 64
+pub next-few : {j : band.Input} → BandPassed j → j .next ≤ 64
 unfolding bandOk
 next-few {j} t =
     let e = at-next t in
