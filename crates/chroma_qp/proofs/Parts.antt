@@ -3,6 +3,7 @@
 --     up-least, down-least, down-exact      and at its end, where a part that falls over two entries or more ends at most 1 above
 --     entry-most, end-least, end-most
 --     held-up, held-down      of the two quotients of an entry one is of 0
+--     held-step     by 1 nothing is divided
 --     between-held
 -- Assumes nothing.
 use mathlib.Core.Path.{_≡_, sym, ap, _∙_}
@@ -103,6 +104,11 @@ module _ (v from to n m : ℕ) where
   pub held-down : to * m + n / 2 < from * m → v - (from * m - (to * m + n / 2)) / n ≡ heldBetween v from to n m
   unfolding heldBetween
   held-down h = rw (none (to * m + n / 2) (from * m) n (omega arith)) (omega arith)
+
+-- the next entry, where the next pivot's in is
+pub held-step : (v from to : ℕ) → from ≤ v → v + to - from ≡ heldBetween v from to 1 (0 + 1)
+unfolding heldBetween
+held-step v from to h = omega arith
 
 module _ (i v from to n m : ℕ) (some : 0 < n) (within : m ≤ n) (high : from ≤ v) where
   moved : entryQp v +ℤ (pos ((to * m + n / 2 - from * m) / n) -ℤ pos ((from * m - (to * m + n / 2)) / n)) ≡ entryQp (heldBetween v from to n m)

@@ -78,11 +78,15 @@ fn fill_below(t: &mut [i8], qp_in: usize, qp_out: usize)
     }
 }
 
-// The n entries past a pivot, up to the next.
+// The n entries past a pivot, up to the next. Where it is the next entry nothing is divided.
 fn fill_between(t: &mut [i8], qp_in: usize, v: usize, from: usize, to: usize, n: usize)
     requires { ⌜ (length (now t) ≡ 70) × («qp_in» + n ≤ 69) × (0 < n) × (from ≤ v) × (2 * v ≤ 2 * from + «qp_in») × (from ≤ 69) × (to ≤ 69) ⌝ }
     ensures { λ _. ⌜ now (t .exit) ≡ withRow (pos 0) («qp_in» + 1) n (λ (m : ℕ). entryQp (heldBetween v from to n (m + 1))) (now (t .entry)) ⌝ }
 {
+    if n == 1 {
+        put(t, qp_in + 1, v + to - from);
+        return;
+    }
     let mut m = 0;
     while m < n {
         put(t, qp_in + 1 + m, between(v, from, to, n, m + 1));
