@@ -1,6 +1,7 @@
 -- A chroma QP as the code finds it: the comparisons are the clips, and the sums fit.
 --     offset-fits, sum-fits, machine-terms, machine-sum    the sum of a QP and an offset, in 16 bits
 --     index-low, index-high, index-within    its clip: a sum below -12, over 57, and between
+--     index-plain, index-short    the last without a sign, and below 0
 --     mapped-most, qps-most    a mapped QP is at most 51
 -- Assumes nothing.
 use Prim.Native.Nat.{ℕ, suc, _+_, _-_, _≤_, _<_}
@@ -57,6 +58,16 @@ unfolding clipZ maxZ minZ
 index-high (pos n) e = rw e
 index-high (negsuc n) e = cc
 
+pub index-plain : (n : ℕ) → ltZ (pos 57) (pos n) ≡ false → n + 12 ≡ heldFrom (pos n)
+unfolding clipZ maxZ minZ
+index-plain n b = rw b (omega arith)
+
+pub index-short : (n : ℕ) → n ≤ 11 → 12 - suc n ≡ heldFrom (negsuc n)
+unfolding clipZ maxZ minZ
+index-short n p =
+    by-lt (λ t. 12 - suc n ≡ natAbs (pos 12 +ℤ cond t (negsuc n) (negsuc 11))) n 11
+    (λ h. rw (le-ltb 12 (suc n) (omega arith))) (λ h. (omega arith))
+
 -- a sum that is held as it is
 pub record Between (z : ℤ) : Type 0 where
   pub n : ℕ
@@ -65,18 +76,10 @@ pub record Between (z : ℤ) : Type 0 where
   pub same : n ≡ heldFrom z
 
 pub index-within : (z : ℤ) → ltZ z (negsuc 11) ≡ false → ltZ (pos 57) z ≡ false → Between z
-unfolding clipZ maxZ minZ
-index-within (pos n) a b =
-    record { n = n + 12; more = refl; few = omega (arith, ltb-false 57 n b); same = rw b (omega arith) }
+index-within (pos n) a b = record { n = n + 12; more = refl; few = omega (arith, ltb-false 57 n b); same = index-plain n b }
 index-within (negsuc n) a b =
     let p : n ≤ 11 = ltb-false 11 n a in
-    record {
-      n = 12 - suc n;
-      more = rw (le-ltb 12 (suc n) (omega arith));
-      few = omega arith;
-      same = by-lt (λ t. 12 - suc n ≡ natAbs (pos 12 +ℤ cond t (negsuc n) (negsuc 11))) n 11
-          (λ h. rw (le-ltb 12 (suc n) (omega arith))) (λ h. (omega arith));
-    }
+    record { n = 12 - suc n; more = rw (le-ltb 12 (suc n) (omega arith)); few = omega arith; same = index-short n p }
 
 -- ---- a mapped QP
 

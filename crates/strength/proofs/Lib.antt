@@ -1,2 +1,3 @@
 pub mod ChromaQp
+pub mod Straight
 pub mod Strengths

@@ -1,6 +1,6 @@
 -- The QP of a chroma plane: the lent table at clip(-12, 57, QP + offset), held within 0..51, where a row has entries.
 -- Assumes nothing: these are definitions.
-use Prim.Native.Nat.{ℕ}
+use Prim.Native.Nat.{ℕ, _+_}
 use mathlib.Core.List.{List}
 use lib.IntN.{ℤ, pos, negsuc, natAbs, _+ℤ_}
 use lib.ListN.{getD}
@@ -24,3 +24,7 @@ mapped table offset qp = heldQp (mappedZ table offset qp)
 -- those of the 52 QPs of a row
 abbrev pub mappedQps : (table : List ℤ) → (offset : ℤ) → List ℕ
 mappedQps table offset = tabulate 52 (mapped table offset)
+
+-- the same where the QPs' places in the table follow one another, from the first on
+abbrev pub straightQps : (table : List ℤ) → (first : ℕ) → List ℕ
+straightQps table first = tabulate 52 (λ (qp : ℕ). heldQp (getD table (first + qp) (pos 0)))

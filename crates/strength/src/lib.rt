@@ -4,7 +4,7 @@ ghost use mathlib.Core.Path.{_≡_};
 ghost use Prim.Native.Nat.{ℕ, _+_, _≤_};
 ghost use lib.ListN.{length, getD};
 ghost use Rattle.laws.specs.Plane.{withRow};
-ghost use Rattle.strength.specs.ChromaQp.{indexOf, heldQp, mapped, mappedQps};
+ghost use Rattle.strength.specs.ChromaQp.{indexOf, heldQp, mapped, mappedQps, straightQps};
 ghost use Rattle.strength.specs.Entries.{rowsBy, entriesOf};
 
 // ---- a chroma QP
@@ -48,8 +48,22 @@ fn mapped(table: &[i8], offset: i8, qp: u8) -> u8
     }
 }
 
-// Those of a whole row. A table is looked up here and nowhere else: once for each QP, and not for each entry.
-fn mapped_qps(table: &[i8], offset: i8) -> [u8; 52]
+// Those of a whole row, where the QPs' places in the table follow one another from `first` on: so the loop can be done many QPs at a time.
+fn straight_qps(table: &[i8], first: usize) -> [u8; 52]
+    requires { ⌜ first + 52 ≤ length (now table) ⌝ }
+    ensures { λ r. ⌜ r ≡ straightQps (now (table .entry)) first ⌝ }
+{
+    let mut qps = [0u8; 52];
+    let mut qp = 0;
+    while qp < 52 {
+        qps[qp] = held_qp(table[first + qp]);
+        qp += 1;
+    }
+    qps
+}
+
+// The same where some QPs' sums are clipped, or the table does not reach so far.
+fn clipped_qps(table: &[i8], offset: i8) -> [u8; 52]
     ensures { λ r. ⌜ r ≡ mappedQps (now (table .entry)) offset ⌝ }
 {
     let mut qps = [0u8; 52];
@@ -59,6 +73,23 @@ fn mapped_qps(table: &[i8], offset: i8) -> [u8; 52]
         qp += 1;
     }
     qps
+}
+
+// Those of a whole row. A table is looked up here and nowhere else: once for each QP, and not for each entry. Where the places of QP 0 and QP 51 lie 51
+// apart, no sum between is clipped.
+fn mapped_qps(table: &[i8], offset: i8) -> [u8; 52]
+    ensures { λ r. ⌜ r ≡ mappedQps (now (table .entry)) offset ⌝ }
+{
+    let first = index_of(offset, 0);
+    let last = index_of(offset, 51);
+    if last < table.len() {
+        if first <= last {
+            if last - first == 51 {
+                return straight_qps(table, first);
+            }
+        }
+    }
+    clipped_qps(table, offset)
 }
 
 // ---- the entries
