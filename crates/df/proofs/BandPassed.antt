@@ -73,6 +73,10 @@ colour-small : (f : Format) (n m l : ℕ) (p : List ℕ) → m ≡ n → length 
 colour-small Grey n m l p q e g = samples-pass (drop n p) (λ k h. absurd (omega (arith, length-drop n p)))
 colour-small Colour n m l p q e g = ap (λ (k : ℕ). samplesOk (drop k p)) (sym q) ∙ g
 
+-- rows of units, as rows of samples and back
+in-units : (n : ℕ) → 4 * n / 4 ≡ n
+in-units n = omega arith
+
 pub band-passed : (j : band.Input) → band.check j ≡ Done → BandPassed j
 unfolding band-check.checkOf
 band-passed j e =
@@ -85,7 +89,6 @@ band-passed j e =
     let n = rest .lengths in
     let small : (c : Component) (p : List ℕ) (m : ℕ) → m ≡ placesOf c (band.wide j) (band.unchecked j) → samplesOk (drop m p) ≡ true → samplesOk (band.checkedPlane j c p) ≡ true =
     λ c p m q g. ap (λ (k : ℕ). samplesOk (drop k p)) (sym q) ∙ g in
-    let units : 4 * band.rows j / 4 ≡ band.rows j = omega arith in
     record {
       size = size .holds;
       position = next .holds;
@@ -99,7 +102,7 @@ band-passed j e =
       long-refs = n .refs ∙ ap (λ (k : ℕ). 2 * k) (unit-places (j .w) r whole);
       long-keep = n .keep ∙ unit-places (j .w) r whole;
       long-strengths = n .strengths;
-      walk = ap (λ (k : ℕ). pictureWalk (j .splits) (band.wide j) k .answer) (sym units) ∙ rest .walk;
+      walk = ap (λ (k : ℕ). pictureWalk (j .splits) (band.wide j) k .answer) (sym (in-units (band.rows j))) ∙ rest .walk;
       marks = ap (λ (k : ℕ). keepOk (drop k (j .keep))) (sym (unit-places (j .w) (band.unchecked j) whole)) ∙ rest .marks;
       qps = ap (λ (k : ℕ). qpsOk (drop k (j .words))) (sym (unit-places (j .w) (band.unchecked j) whole)) ∙ rest .qps;
       y = small Luma (j .y) _ (luma-places (j .w) (band.unchecked j) whole) (rest .y);

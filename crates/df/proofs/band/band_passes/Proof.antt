@@ -1,8 +1,8 @@
 -- `df::band::band_passes` meets its contract: both passes over the rest of what is lent. Assumes nothing.
 use Prim.Native.Nat.{ℕ, _+_, _-_, _*_, _/_, _≤_}
 use mathlib.Core.Path.{_≡_, refl, sym, ap, _∙_, subst}
-use mathlib.Core.List.{List}
-use native.Mathlib.Nat.{le-refl}
+use mathlib.Core.List.{List, []}
+use native.Mathlib.Nat.{le-refl, not-suc-le-zero}
 use native.Mathlib.Omega.{arith}
 use mir.Syntax.{w64}
 use mir.Val.{Fits}
@@ -18,6 +18,7 @@ use Rattle.df_rules.specs.Filter.{Planes, filterAll}
 use Rattle.df_rules.specs.Lent.{LentPicture}
 use Rattle.df_rules.specs.Strength.{Maps}
 use Rattle.bands_rules.specs.Bands.{listFrom, doneFrom, BothPassesFrom}
+use Rattle.df.specs.Plan.{RowsLent}
 use Rattle.df.proofs.band.band_passes.Statement.{statement}
 use Rattle.df.proofs.band.band_passes.Tie as tie
 
@@ -88,6 +89,10 @@ module _ (f : Format) (w n k : ℕ) (e : k ≡ inFormat f (4 * n)) (y u v words 
 abbrev start : tie.After-passes-by → tie.Start
 start d = d .before .before .before .before .before .before .before .before .before .before .before .before .before .before .before .before .before
 
+-- no map of edge rows is lent
+no-rows : (w : ℕ) (words : List ℕ) (motion refs : List ℤ) → RowsLent w words motion refs []
+no-rows w words motion refs k l = absurd (not-suc-le-zero l)
+
 passes-by-requires : tie.Need-passes-by-requires
 passes-by-requires c κs =
     let s = c .before .before .before .before .before .before .before .before .before .before .before .before .before .before .before .before in
@@ -96,7 +101,7 @@ passes-by-requires c κs =
       lent-picture (a .format) (a .w / 4) (a .skip * (a .w / 4)) (k .result) (k .ensures) (a .y .now) (a .u .now) (a .v .now) (a .words .now)
           (a .motion .now) (a .refs .now) (a .keep .now) (a .entries .now) (a .top + a .h / 4) (s .pre .0 .0),
       s .pre .0 .1,
-      λ k h. absurd (omega arith),
+      no-rows _ _ _ _,
     )
 
 returns : tie.Need-returns

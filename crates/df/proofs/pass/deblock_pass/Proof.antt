@@ -1,8 +1,9 @@
 -- `df::pass::deblock_pass` meets its contract: after i turns the edges of the first i roots are filtered. Assumes nothing.
-use Prim.Native.Nat.{ℕ, _+_, _-_, _/_, _≤_, _<_}
-use mathlib.Core.Path.{_≡_, refl, _∙_, subst}
+use Prim.Native.Nat.{ℕ, _+_, _-_, _*_, _/_, _≤_, _<_}
+use mathlib.Core.Path.{_≡_, refl, sym, _∙_, subst}
 use native.Mathlib.Omega.{arith}
-use borrow.Author.Needs.{needs}
+use mir.Syntax.{w64}
+use mir.Val.{Fits}
 use lib.ListN.{length}
 use Rattle.def.proofs.Sizes.{Sized, sized}
 use Rattle.split.proofs.Roots.{roots-units}
@@ -30,8 +31,30 @@ maps s = record { words = s .args .words .now; over = record { motion = s .args 
 size : (s : tie.Start Inv-loop μ-loop) → Sized (s .args .w) (s .args .h)
 size s = sized _ _ (s .pre .1 .size)
 
+-- numbers of a turn, away from the states: there are few roots, and a root has few edges
+few-fit : {n : ℕ} → n ≤ 1024 → Fits w64 n
+few-fit l = omega arith
+
+next-fits : {i n : ℕ} → n ≤ 4096 → i < n → Fits w64 (i + 1)
+next-fits f l = omega arith
+
+count-fits : {count i n k : ℕ} → n ≤ 4096 → i ≤ n → count ≤ 256 * i → k ≤ 256 → Fits w64 (count + k)
+count-fits f l g e = omega arith
+
+one-more : {i n : ℕ} → i < n → i + 1 ≤ n
+one-more l = omega arith
+
+one-less : {i n : ℕ} → i < n → n - (i + 1) < n - i
+one-less l = omega arith
+
+pairs-fit : {n k : ℕ} → n ≤ 256 → k ≡ 512 → 2 * n ≤ k
+pairs-fit l e = omega arith
+
+all-fit : {n k : ℕ} → n ≤ 256 → k ≡ 256 → n ≤ k
+all-fit l e = omega arith
+
 add-t27 : tie.Need-add-t27 Inv-loop μ-loop
-add-t27 c = omega (arith, c .before .before .before .before .before .before .before .before .pre .0 .high)
+add-t27 c = few-fit (c .before .before .before .before .before .before .before .before .pre .0 .high)
 
 root-count-requires : tie.Need-root-count-requires Inv-loop μ-loop
 root-count-requires c κs = let z = size (c .before .before .before .before .before .before .before .before) in (z .wide, z .high)
@@ -54,9 +77,9 @@ plan-requires c κs =
     let r = c .before .before .before .before .root-edges .ensures in
     record {
       wide = s .pre .0 .wide;
-      long = omega (arith, r .long, r .few);
-      fits = omega (arith, r .few, c .before .before .before .before .before .before .before .loop .inv .5);
-      fits-marks = omega (arith, r .few, c .before .before .before .before .before .before .before .loop .inv .6);
+      long = pairs-fit (r .few) (r .long);
+      fits = all-fit (r .few) (c .before .before .before .before .before .before .before .loop .inv .5);
+      fits-marks = all-fit (r .few) (c .before .before .before .before .before .before .before .loop .inv .6);
       right = s .pre .2;
       edges = λ k g. edge-known (passOf (s .args .pass)) _ _ (s .pre .0) (r .units k g);
     }
@@ -68,6 +91,13 @@ current : (c : tie.At-loop Inv-loop μ-loop) → let a = c .before .before .befo
 current c = let s = c .before .before .before .before .before .before .before .before .before .before in
     roots-frame (maps s) _ (passOf (s .args .pass)) _ _ _ _ _ (c .loop .i) _ _ _ (c .loop .inv .7) (s .pre .0)
 
+-- a root's plan has the room that it had before the turn
+places-long : (c : tie.After-plan Inv-loop μ-loop) → length (c .plan .last .1 .1 .1 .1 .1 .1 .1 .1 .1 .0) ≡ 256
+places-long c = c .plan .kept .1 .1 .1 .1 .1 .1 .1 .1 .1 .0 ∙ c .before .before .before .before .before .before .before .before .loop .inv .5
+
+marks-long : (c : tie.After-plan Inv-loop μ-loop) → length (c .plan .last .1 .1 .1 .1 .1 .1 .1 .1 .1 .1 .0) ≡ 256
+marks-long c = c .plan .kept .1 .1 .1 .1 .1 .1 .1 .1 .1 .1 .0 ∙ c .before .before .before .before .before .before .before .before .loop .inv .6
+
 filter-luma-requires : tie.Need-filter-luma-requires Inv-loop μ-loop
 filter-luma-requires c κs =
     let turn = c .before .before .before .before .before .before .before .before .before .before .before in
@@ -76,19 +106,9 @@ filter-luma-requires c κs =
     let p = c .before .before .before .before .before .before .plan in (
       luma-plane (current (turn .before .before .before)),
       record {
-        long = omega (arith, r .long, r .few);
-        fits = omega (
-          arith,
-          r .few,
-          turn .before .before .before .loop .inv .5,
-          p .kept .1 .1 .1 .1 .1 .1 .1 .1 .1 .0,
-        );
-        fits-marks = omega (
-          arith,
-          r .few,
-          turn .before .before .before .loop .inv .6,
-          p .kept .1 .1 .1 .1 .1 .1 .1 .1 .1 .1 .0,
-        );
+        long = pairs-fit (r .few) (r .long);
+        fits = all-fit (r .few) (places-long (c .before .before .before .before .before .before));
+        fits-marks = all-fit (r .few) (marks-long (c .before .before .before .before .before .before));
         units = r .units;
         few = λ k g. plan-few (maps s) (passOf (s .args .pass)) _ _ _ _ _ (p .ensures) (s .pre .0 .qps) k g;
       },
@@ -104,19 +124,9 @@ filter-colour-requires c κs =
       u-plane (current (turn .before .before .before .before .before .before .before .before)),
       v-plane (current (turn .before .before .before .before .before .before .before .before)),
       record {
-        long = omega (arith, r .long, r .few);
-        fits = omega (
-          arith,
-          r .few,
-          turn .before .before .before .before .before .before .before .before .loop .inv .5,
-          p .kept .1 .1 .1 .1 .1 .1 .1 .1 .1 .0,
-        );
-        fits-marks = omega (
-          arith,
-          r .few,
-          turn .before .before .before .before .before .before .before .before .loop .inv .6,
-          p .kept .1 .1 .1 .1 .1 .1 .1 .1 .1 .1 .0,
-        );
+        long = pairs-fit (r .few) (r .long);
+        fits = all-fit (r .few) (places-long turn);
+        fits-marks = all-fit (r .few) (marks-long turn);
         units = r .units;
         few = λ k g. plan-few (maps s) (passOf (s .args .pass)) _ _ _ _ _ (p .ensures) (s .pre .0 .qps) k g;
       },
@@ -127,32 +137,20 @@ add-count : tie.Need-add-count Inv-loop μ-loop
 add-count c =
     let after = c .before .before .before .before .before .before .before .before .before .before .before .before in
     let turn = after .before .before .before .before .before .before .before .before .before .before .before .before in
-    omega (
-      arith,
-      turn .before .before .before .before .root-count .ensures .1,
-      turn .before .before .before .loop .inv .7 .few,
-      turn .before .before .before .loop .inv .0,
-      turn .root-edges .ensures .few,
-    )
+    let l = turn .before .before .before .loop in
+    count-fits (turn .before .before .before .before .root-count .ensures .1) (l .inv .0) (l .inv .7 .few) (turn .root-edges .ensures .few)
 
 add-i : tie.Need-add-i Inv-loop μ-loop
 add-i c =
     let after = c .before .before .before .before .before .before .before .before .before .before .before .before in
     let turn = after .before .before .before .before .before .before .before .before .before .before .before .before .before .before in
-    omega (
-      arith,
-      turn .before .before .root-count .ensures .1,
-      turn .loop-test .taken,
-    )
+    next-fits (turn .before .before .root-count .ensures .1) (turn .loop-test .taken)
 
 loop-less : tie.Need-loop-less Inv-loop μ-loop
 loop-less c =
     let after = c .before .before .before .before .before .before .before .before .before .before .before .before in
     let turn = after .before .before .before .before .before .before .before .before .before .before .before .before .before .before in
-    omega (
-      arith,
-      turn .loop-test .taken,
-    )
+    one-less (turn .loop-test .taken)
 
 loop-again : tie.Need-loop-again Inv-loop μ-loop
 loop-again c =
@@ -165,13 +163,13 @@ loop-again c =
     let r = turn .before .before .before .before .before .before .before .before .before .before .before .before .root-edges .ensures in
     let p = turn .before .before .before .before .before .before .before .plan in
     let f = c .before .before .before .before .filter-colour .ensures in (
-      omega (arith, turn .before .before .before .before .before .before .before .before .before .before .before .before .before .before .loop-test .taken),
+      one-more (turn .before .before .before .before .before .before .before .before .before .before .before .before .before .before .loop-test .taken),
       ky .1 .1 .0 ∙ l .inv .1,
       k .1 .1 .1 .0 ∙ l .inv .2,
       k .1 .1 .1 .1 .0 ∙ l .inv .3,
       r .long,
-      p .kept .1 .1 .1 .1 .1 .1 .1 .1 .1 .0 ∙ l .inv .5,
-      p .kept .1 .1 .1 .1 .1 .1 .1 .1 .1 .1 .0 ∙ l .inv .6,
+      places-long (turn .before .before .before .before .before .before .before),
+      marks-long (turn .before .before .before .before .before .before .before),
       roots-more _ _ (passOf (s .args .pass)) _ _ _ _ _ (l .i) _ _ _ _ _ _ _ _ _ _ (r .few) (r .same) (s .pre .0 .marks) (p .ensures) (l .inv .7)
           (turn .filter-luma .ensures) (f .0) (f .1),
     )
@@ -185,7 +183,18 @@ returns c =
 pub deblock-pass-spec : {M : Type 1} → statement M
 deblock-pass-spec =
     tie.close
-    (tie.spec Inv-loop μ-loop add-t27 root-count-requires loop-holds (λ c. search needs) root-edges-requires (λ c. search needs) (λ c. search needs)
-    (λ c. search needs) plan-requires (λ c. search needs) (λ c. search needs) (λ c. search needs) filter-luma-requires
-    (λ c. search needs) (λ c. search needs) (λ c. search needs) filter-colour-requires add-count add-i loop-less loop-again (λ c. c .before .loop .inv .1)
-    (λ c. c .before .loop .inv .2) (λ c. c .before .loop .inv .3) returns)
+    (tie.spec Inv-loop μ-loop add-t27 root-count-requires loop-holds
+    (λ c. sym (c .before .before .loop .inv .4))
+    root-edges-requires
+    (λ c. sym (c .before .before .root-edges .ensures .long))
+    (λ c. sym (c .before .before .before .before .before .before .loop .inv .5))
+    (λ c. sym (c .before .before .before .before .before .before .before .loop .inv .6))
+    plan-requires
+    (λ c. sym (c .before .before .before .before .before .before .before .before .before .root-edges .ensures .long))
+    (λ c. sym (places-long (c .before .before .before .before .before)))
+    (λ c. sym (marks-long (c .before .before .before .before .before .before)))
+    filter-luma-requires
+    (λ c. sym (c .before .before .before .before .before .before .before .before .before .before .before .before .before .before .before .before .before .root-edges .ensures .long))
+    (λ c. sym (places-long (c .before .before .before .before .before .before .before .before .before .before .before .before .before)))
+    (λ c. sym (marks-long (c .before .before .before .before .before .before .before .before .before .before .before .before .before .before)))
+    filter-colour-requires add-count add-i loop-less loop-again (λ c. c .before .loop .inv .1) (λ c. c .before .loop .inv .2) (λ c. c .before .loop .inv .3) returns)
