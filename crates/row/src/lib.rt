@@ -1,11 +1,14 @@
 // The strength row of the edge between two units of a picture's maps.
 // The Rust beside it: df.rs, evc_get_tbl_qp_to_st.
 ghost use mathlib.Core.Path.{_≡_};
-ghost use Prim.Native.Nat.{_+_, _*_, _≤_};
+ghost use mathlib.Core.Bool.{true, false};
+ghost use Prim.Native.Nat.{ℕ, _+_, _*_, _≤_};
+ghost use lib.Dec.{leb};
 ghost use lib.ListN.{length};
 ghost use Rattle.line.specs.Row.{eqZ, motionRow};
 ghost use Rattle.df_rules.specs.Strength.{motionAt, rowBy};
-ghost use Rattle.row.specs.Between.{inMaps, rowIn, sameRefs, sameMotion, There};
+ghost use Rattle.row.specs.Between.{inMaps, rowIn, sameRefs, crossedRefs, sameMotion, There};
+ghost use Rattle.row.specs.Runs.{runInMaps, runsIn, RunThere, FirstOf};
 use def::get_cbfl;
 use def::get_if;
 use line::Motion;
@@ -64,7 +67,17 @@ fn same_refs(refs: &[i8], q: usize, p: usize) -> bool
     same_ref(refs[a], refs[b]) & same_ref(refs[a + 1], refs[b + 1])
 }
 
-// And the same motion.
+// Whether they are the same crosswise.
+fn crossed_refs(refs: &[i8], q: usize, p: usize) -> bool
+    requires { ⌜ (2 * q + 2 ≤ length (now refs)) × (2 * p + 2 ≤ length (now refs)) ⌝ }
+    ensures { λ r. ⌜ r ≡ crossedRefs (now (refs .entry)) q p ⌝ }
+{
+    let a = 2 * q;
+    let b = 2 * p;
+    same_ref(refs[a], refs[b + 1]) & same_ref(refs[a + 1], refs[b])
+}
+
+// Whether they have the same motion.
 fn same_motion(motion: &[i16], q: usize, p: usize) -> bool
     requires { ⌜ (4 * q + 4 ≤ length (now motion)) × (4 * p + 4 ≤ length (now motion)) ⌝ }
     ensures { λ r. ⌜ r ≡ sameMotion (now (motion .entry)) q p ⌝ }
@@ -78,7 +91,7 @@ fn same_motion(motion: &[i16], q: usize, p: usize) -> bool
 }
 
 // The row of the edge between the units q and p of the maps. Most units of a station's pictures move as their neighbours do: their row is 3 by two comparisons.
-// The references are compared first, so that the compiler makes each of the two calls below it for references that are known to be equal in place, or not to be.
+// And where the references differ both ways it is 2, whatever the motion.
 fn row_between(words: &[u32], motion: &[i16], refs: &[i8], q: usize, p: usize) -> usize
     requires { ⌜ There (now words) (now motion) (now refs) q × There (now words) (now motion) (now refs) p ⌝ }
     ensures { λ r. ⌜ (r ≡ rowBy (now (words .entry)) (now (motion .entry)) (now (refs .entry)) q p) × (r ≤ 3) ⌝ }
@@ -92,6 +105,9 @@ fn row_between(words: &[u32], motion: &[i16], refs: &[i8], q: usize, p: usize) -
         return 1;
     }
     if !same_refs(refs, q, p) {
+        if !crossed_refs(refs, q, p) {
+            return 2;
+        }
         return by_motion(motion, refs, q, p);
     }
     if same_motion(motion, q, p) {
@@ -111,4 +127,68 @@ pub fn row_at(words: &[u32], motion: &[i16], refs: &[i8], q: usize, p: usize) ->
         return 0;
     }
     row_between(words, motion, refs, q, p)
+}
+
+// ---- a run of units, whose places are tested once
+
+// Whether n from k on are below `units`.
+fn fits(units: usize, k: usize, n: usize) -> bool
+    ensures { λ r. ⌜ r ≡ leb (k + n) units ⌝ }
+{
+    if units < n {
+        return false;
+    }
+    k <= units - n
+}
+
+// Whether n from k on are units of maps of these lengths.
+fn run_in_maps(words: usize, motion: usize, refs: usize, k: usize, n: usize) -> bool
+    ensures { λ r. ⌜ r ≡ runInMaps words motion refs k n ⌝ }
+{
+    fits(words, k, n) & fits(motion / 4, k, n) & fits(refs / 2, k, n)
+}
+
+// The rows between n units from q on and those from p on.
+fn put_rows(
+    words: &[u32],
+    motion: &[i16],
+    refs: &[i8],
+    q: usize,
+    p: usize,
+    n: usize,
+    rows: &mut [u8],
+)
+    requires { ⌜ RunThere (now words) (now motion) (now refs) q n × RunThere (now words) (now motion) (now refs) p n × (n ≤ length (now rows)) ⌝ }
+    ensures { λ _. ⌜ FirstOf (λ (j : ℕ). rowBy (now (words .entry)) (now (motion .entry)) (now (refs .entry)) (q + j) (p + j)) n (now (rows .entry)) (now (rows .exit)) ⌝ }
+{
+    for j in 0..n {
+        rows[j] = row_between(words, motion, refs, q + j, p + j) as u8;
+    }
+}
+
+// The same for any numbers. Where not all of them are units of the maps, or there is no room for n rows, the answer is false and nothing is written.
+pub fn rows_at(
+    words: &[u32],
+    motion: &[i16],
+    refs: &[i8],
+    q: usize,
+    p: usize,
+    n: usize,
+    rows: &mut [u8],
+) -> bool
+    ensures { λ r. ⌜ (r ≡ runsIn (length (now (words .entry))) (length (now (motion .entry))) (length (now (refs .entry))) (length (now (rows .entry))) q p n)
+        × (r ≡ true → FirstOf (λ (j : ℕ). rowBy (now (words .entry)) (now (motion .entry)) (now (refs .entry)) (q + j) (p + j)) n (now (rows .entry)) (now (rows .exit)))
+        × (r ≡ false → now (rows .exit) ≡ now (rows .entry)) ⌝ }
+{
+    if rows.len() < n {
+        return false;
+    }
+    if !run_in_maps(words.len(), motion.len(), refs.len(), q, n) {
+        return false;
+    }
+    if !run_in_maps(words.len(), motion.len(), refs.len(), p, n) {
+        return false;
+    }
+    put_rows(words, motion, refs, q, p, n, rows);
+    true
 }

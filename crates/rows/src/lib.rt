@@ -18,13 +18,14 @@ ghost use Rattle.rows.specs.MotionCall as MotionCall;
 ghost use Rattle.rows.specs.MotionCall.{withMotion, withRefs};
 ghost use Rattle.rows.specs.Rule.{hasSide, firstBit, edgeRow, ruleByte, ruleMap, editedMap};
 use crate::run::all_right;
+use crate::run::fill;
 use def::Answer;
 use def::Refusal;
 use def::Scu;
 use line::Motion;
 use row::row_at;
 
-mod run; // run.rt: the test of a map, many units at a time
+mod run; // run.rt: a map filled and tested, many units at a time
 
 // ---- a unit's edges
 
@@ -187,28 +188,6 @@ pub(crate) fn rule_byte(
     let left = edge_row(Side::Left, columns, words, motion, refs, 0 < x, k);
     let top = edge_row(Side::Top, columns, words, motion, refs, columns <= k, k);
     4 * top + left
-}
-
-// The column after x, or the first.
-fn next_column(columns: usize, x: usize) -> usize
-    requires { ⌜ x < columns ⌝ }
-    ensures { λ r. ⌜ r ≡ (x + 1) % columns ⌝ }
-{
-    let next = x + 1;
-    if next == columns { 0 } else { next }
-}
-
-// Every unit's byte.
-fn fill(columns: usize, words: &[u32], motion: &[i16], refs: &[i8], rows: &mut [u8])
-    requires { ⌜ Lent columns (now words) (now motion) (now refs) × (length (now rows) ≡ length (now words)) ⌝ }
-    ensures { λ _. ⌜ now (rows .exit) ≡ ruleMap (now (words .entry)) (now (motion .entry)) (now (refs .entry)) columns (length (now (rows .entry))) ⌝ }
-{
-    let n = rows.len();
-    let mut x = 0;
-    for k in 0..n {
-        rows[k] = rule_byte(columns, words, motion, refs, x, k);
-        x = next_column(columns, x);
-    }
 }
 
 // ---- the calls

@@ -1,14 +1,19 @@
-// The test of a map of edge rows. It goes by runs of units in a row of units: where all of a run are intra, or all move as their neighbours do, its rows are
-// known without looking at one unit after the other. No loop has a way out at the first that fails, so that many are compared at a time.
+// The bytes of a run of units that follow each other in a row of units: what fills a map of edge rows, and what tests one. Where all of a run are intra, or are
+// what the units above them are, its bytes are known without looking at one unit after the other: motion belongs to a leaf, and most leaves are two units high or
+// more. No loop has a way out at the first that fails, so that many are compared at a time.
 ghost use mathlib.Core.Bool.{true};
 ghost use mathlib.Core.Path.{_≡_};
-ghost use Prim.Native.Nat.{_+_, _%_, _≤_, _<_};
-ghost use lib.ListN.{length};
+ghost use Prim.Native.Nat.{ℕ, _+_, _-_, _*_, _%_, _≤_, _<_};
+ghost use lib.Dec.{eqb};
+ghost use lib.ListN.{length, getD, set};
+ghost use Rattle.laws.specs.Index.{pick};
 ghost use Rattle.line.specs.Row.{eqZ};
+ghost use Rattle.row.specs.Runs.{FirstOf};
 ghost use Rattle.rows.specs.Inside.{Lent};
-ghost use Rattle.rows.specs.Rule.{rightBytes};
-ghost use Rattle.rows.specs.Runs.{sameFrom, allIntra, allMoved, allAre, rightRun, Run};
+ghost use Rattle.rows.specs.Rule.{ruleByte, ruleMap, rightBytes};
+ghost use Rattle.rows.specs.Runs.{sameFrom, sameFlags, flagsFrom, unitsFrom, allIntra, bytesFrom, selfRow, rightRun, Run, RightBelow, Stored};
 use crate::rule_byte;
+use row::rows_at;
 
 fn same_number(a: i16, b: i16) -> bool
     ensures { λ r. ⌜ r ≡ eqZ a b ⌝ }
@@ -58,112 +63,194 @@ fn all_intra(words: &[u32], at: usize, n: usize) -> bool
     ok
 }
 
-// Whether they are neither intra nor luma-coded: their rows are by motion.
-fn all_moved(words: &[u32], at: usize, n: usize) -> bool
-    requires { ⌜ at + n ≤ length (now words) ⌝ }
-    ensures { λ r. ⌜ r ≡ allMoved (now (words .entry)) at n ⌝ }
+// Whether two units are both intra or both not, and both luma-coded or both not.
+fn same_flags(a: u32, b: u32) -> bool
+    ensures { λ r. ⌜ r ≡ sameFlags a b ⌝ }
+{
+    (a / 32768 % 2 == b / 32768 % 2) & (a / 16777216 % 2 == b / 16777216 % 2)
+}
+
+// The same of n units from `at` on and those from `from` on.
+fn all_same_flags(words: &[u32], at: usize, from: usize, n: usize) -> bool
+    requires { ⌜ (at + n ≤ length (now words)) × (from + n ≤ length (now words)) ⌝ }
+    ensures { λ r. ⌜ r ≡ flagsFrom (now (words .entry)) at from n ⌝ }
 {
     let mut ok = true;
     for j in 0..n {
-        let word = words[at + j];
-        ok = ok & !(def::get_if(word) | def::get_cbfl(word));
+        ok = ok & same_flags(words[at + j], words[from + j]);
     }
     ok
 }
 
-// Whether n bytes of the map from `at` on are `byte`.
-fn all_are(rows: &[u8], byte: u8, at: usize, n: usize) -> bool
-    requires { ⌜ at + n ≤ length (now rows) ⌝ }
-    ensures { λ r. ⌜ r ≡ allAre (now (rows .entry)) byte at n ⌝ }
+// Whether n units from `at` on are what those from `from` on are, as far as a row goes by it.
+fn same_units(words: &[u32], motion: &[i16], refs: &[i8], at: usize, from: usize, n: usize) -> bool
+    requires { ⌜ (length (now words) ≤ 1048576) × (length (now motion) ≡ 4 * length (now words)) × (length (now refs) ≡ 2 * length (now words)) × (at + n ≤ length (now words)) × (from + n ≤ length (now words)) ⌝ }
+    ensures { λ r. ⌜ (r ≡ true → unitsFrom (now (words .entry)) (now (motion .entry)) (now (refs .entry)) at from n ≡ true) ⌝ }
 {
-    let mut ok = true;
-    for j in 0..n {
-        ok = ok & (rows[at + j] == byte);
+    if !same_refs(refs, 2 * at, 2 * from, 2 * n) {
+        return false;
     }
-    ok
+    if !same_motion(motion, 4 * at, 4 * from, 4 * n) {
+        return false;
+    }
+    all_same_flags(words, at, from, n)
 }
 
-// Whether the bytes of n units from k on are right, one after the other.
-fn each_right(
+// 1 where a unit lies left of column x, and else 0.
+fn units_left(x: usize) -> usize
+    ensures { λ r. ⌜ (r ≤ x) × (r ≤ 1) × (0 < x → r ≡ 1) ⌝ }
+{
+    if x == 0 { 0 } else { 1 }
+}
+
+// Whether n units from k on are what those above them are, and the one left of them is, too: then each left edge lies between two units like those of the edge above.
+fn as_above(
     columns: usize,
     words: &[u32],
     motion: &[i16],
     refs: &[i8],
-    rows: &[u8],
     x: usize,
     k: usize,
     n: usize,
 ) -> bool
-    requires { ⌜ Lent columns (now words) (now motion) (now refs) × (length (now rows) ≡ length (now words)) × Run columns (length (now words)) x k n ⌝ }
-    ensures { λ r. ⌜ r ≡ rightRun (now (words .entry)) (now (motion .entry)) (now (refs .entry)) columns (now (rows .entry)) k n ⌝ }
+    requires { ⌜ Lent columns (now words) (now motion) (now refs) × Run columns (length (now words)) x k n × (columns ≤ k) ⌝ }
+    ensures { λ r. ⌜ (r ≡ true → (j : ℕ) → j < n → ruleByte (now (words .entry)) (now (motion .entry)) (now (refs .entry)) columns (k + j) ≡ ruleByte (now (words .entry)) (now (motion .entry)) (now (refs .entry)) columns (k - columns + j) % 4 + 4 * selfRow (getD (now (words .entry)) (k + j) 0)) ⌝ }
 {
-    let mut ok = true;
-    for j in 0..n {
-        ok = ok & (rows[k + j] == rule_byte(columns, words, motion, refs, x + j, k + j));
-    }
-    ok
-}
-
-// Whether n units from k on all move as those left of them and above them do, and their bytes say so: row 3 on both sides.
-fn still(
-    columns: usize,
-    words: &[u32],
-    motion: &[i16],
-    refs: &[i8],
-    rows: &[u8],
-    k: usize,
-    n: usize,
-) -> bool
-    requires { ⌜ Lent columns (now words) (now motion) (now refs) × (length (now rows) ≡ length (now words)) × Run columns (length (now words)) (k % columns) k n × (0 < k % columns) × (columns ≤ k) ⌝ }
-    ensures { λ r. ⌜ (r ≡ true → rightRun (now (words .entry)) (now (motion .entry)) (now (refs .entry)) columns (now (rows .entry)) k n ≡ true) ⌝ }
-{
-    let left = k - 1;
+    let left = units_left(x);
     let top = k - columns;
-    all_are(rows, 15, k, n)
-        & all_moved(words, left, n + 1)
-        & all_moved(words, top, n)
-        & same_motion(motion, 4 * k, 4 * left, 4 * n)
-        & same_motion(motion, 4 * k, 4 * top, 4 * n)
-        & same_refs(refs, 2 * k, 2 * left, 2 * n)
-        & same_refs(refs, 2 * k, 2 * top, 2 * n)
+    same_units(words, motion, refs, k - left, top - left, n + left)
 }
 
-// Whether the bytes of a run are right: n units from k on, which stands in column x. The edges of an intra unit have row 0.
-fn run_right(
-    columns: usize,
-    words: &[u32],
-    motion: &[i16],
-    refs: &[i8],
-    rows: &[u8],
-    x: usize,
-    k: usize,
-    n: usize,
-) -> bool
-    requires { ⌜ Lent columns (now words) (now motion) (now refs) × (length (now rows) ≡ length (now words)) × Run columns (length (now words)) x k n ⌝ }
-    ensures { λ r. ⌜ r ≡ rightRun (now (words .entry)) (now (motion .entry)) (now (refs .entry)) columns (now (rows .entry)) k n ⌝ }
+// The row between two units that are alike.
+fn self_row(word: u32) -> u8
+    ensures { λ r. ⌜ (r ≡ selfRow word) × (r ≤ 3) ⌝ }
 {
-    if all_are(rows, 0, k, n) & all_intra(words, k, n) {
-        return true;
+    if def::get_if(word) {
+        return 0;
     }
-    if x == 0 {
-        return each_right(columns, words, motion, refs, rows, x, k, n);
-    }
-    if columns <= k {
-        if still(columns, words, motion, refs, rows, k, n) {
-            return true;
-        }
-    }
-    each_right(columns, words, motion, refs, rows, x, k, n)
-}
-
-// How long a run from column x is: the first unit of a row by itself, which has none left of it, and then at most 64, in the row and in the map.
-fn run_length(columns: usize, x: usize, rest: usize) -> usize
-    requires { ⌜ (x < columns) × (0 < rest) ⌝ }
-    ensures { λ r. ⌜ (0 < r) × (x + r ≤ columns) × (r ≤ rest) ⌝ }
-{
-    if x == 0 {
+    if def::get_cbfl(word) {
         return 1;
     }
+    3
+}
+
+// The bytes of n intra units.
+fn put_zeros(n: usize, bytes: &mut [u8])
+    requires { ⌜ n ≤ length (now bytes) ⌝ }
+    ensures { λ _. ⌜ FirstOf (λ (j : ℕ). 0) n (now (bytes .entry)) (now (bytes .exit)) ⌝ }
+{
+    for j in 0..n {
+        bytes[j] = 0;
+    }
+}
+
+// The bytes of n units from k on that are what those above them are: their left rows are those of the bytes above.
+fn put_as_above(words: &[u32], rows: &[u8], top: usize, k: usize, n: usize, bytes: &mut [u8])
+    requires { ⌜ (k + n ≤ length (now words)) × (top + n ≤ length (now rows)) × (length (now words) ≤ 1048576) × (length (now rows) ≤ 1048576) × (n ≤ length (now bytes)) ⌝ }
+    ensures { λ _. ⌜ FirstOf (λ (j : ℕ). getD (now (rows .entry)) (top + j) 0 % 4 + 4 * selfRow (getD (now (words .entry)) (k + j) 0)) n (now (bytes .entry)) (now (bytes .exit)) ⌝ }
+{
+    for j in 0..n {
+        bytes[j] = rows[top + j] % 4 + 4 * self_row(words[k + j]);
+    }
+}
+
+// The bytes of n units from k on, one after the other.
+fn put_each(
+    columns: usize,
+    words: &[u32],
+    motion: &[i16],
+    refs: &[i8],
+    x: usize,
+    k: usize,
+    n: usize,
+    bytes: &mut [u8],
+)
+    requires { ⌜ Lent columns (now words) (now motion) (now refs) × Run columns (length (now words)) x k n × (n ≤ length (now bytes)) ⌝ }
+    ensures { λ _. ⌜ FirstOf (λ (j : ℕ). ruleByte (now (words .entry)) (now (motion .entry)) (now (refs .entry)) columns (k + j)) n (now (bytes .entry)) (now (bytes .exit)) ⌝ }
+{
+    for j in 0..n {
+        bytes[j] = rule_byte(columns, words, motion, refs, x + j, k + j);
+    }
+}
+
+// n bytes of the rows of their left and top edges.
+fn put_joined(left: &[u8], top: &[u8], n: usize, bytes: &mut [u8])
+    requires { ⌜ (n ≤ length (now left)) × (n ≤ length (now top)) × (n ≤ length (now bytes)) × ((j : ℕ) → j < n → getD (now left) j 0 ≤ 3) × ((j : ℕ) → j < n → getD (now top) j 0 ≤ 3) ⌝ }
+    ensures { λ _. ⌜ FirstOf (λ (j : ℕ). 4 * getD (now (top .entry)) j 0 + getD (now (left .entry)) j 0) n (now (bytes .entry)) (now (bytes .exit)) ⌝ }
+{
+    for j in 0..n {
+        bytes[j] = 4 * top[j] + left[j];
+    }
+}
+
+// The first unit of a row has none left of it: what lies before it is the last of the row above.
+fn clear_first(x: usize, left: &mut [u8])
+    requires { ⌜ 0 < length (now left) ⌝ }
+    ensures { λ _. ⌜ now (left .exit) ≡ pick (eqb x 0) (set (now (left .entry)) 0 0) (now (left .entry)) ⌝ }
+{
+    if x != 0 {
+        return;
+    }
+    left[0] = 0;
+}
+
+// The bytes of n units from k on, below the first row, one side after the other.
+fn put_sides(
+    columns: usize,
+    words: &[u32],
+    motion: &[i16],
+    refs: &[i8],
+    x: usize,
+    k: usize,
+    n: usize,
+    bytes: &mut [u8],
+)
+    requires { ⌜ Lent columns (now words) (now motion) (now refs) × Run columns (length (now words)) x k n × (columns ≤ k) × (n ≤ 64) × (n ≤ length (now bytes)) ⌝ }
+    ensures { λ _. ⌜ FirstOf (λ (j : ℕ). ruleByte (now (words .entry)) (now (motion .entry)) (now (refs .entry)) columns (k + j)) n (now (bytes .entry)) (now (bytes .exit)) ⌝ }
+{
+    let mut left = [0u8; 64];
+    let mut top = [0u8; 64];
+    rows_at(words, motion, refs, k, k - 1, n, &mut left);
+    rows_at(words, motion, refs, k, k - columns, n, &mut top);
+    clear_first(x, &mut left);
+    put_joined(&left, &top, n, bytes)
+}
+
+// The bytes of a run: n units from k on, which stands in column x. The map is right up to k. The edges of an intra unit have row 0.
+fn put_run(
+    columns: usize,
+    words: &[u32],
+    motion: &[i16],
+    refs: &[i8],
+    rows: &[u8],
+    x: usize,
+    k: usize,
+    n: usize,
+    bytes: &mut [u8],
+)
+    requires { ⌜ Lent columns (now words) (now motion) (now refs) × (length (now rows) ≡ length (now words)) × Run columns (length (now words)) x k n × (n ≤ 64) × (n ≤ length (now bytes)) ⌝ }
+    ensures { λ _. ⌜ (RightBelow (now (words .entry)) (now (motion .entry)) (now (refs .entry)) columns (now (rows .entry)) k → FirstOf (λ (j : ℕ). ruleByte (now (words .entry)) (now (motion .entry)) (now (refs .entry)) columns (k + j)) n (now (bytes .entry)) (now (bytes .exit))) × (length (now (bytes .exit)) ≡ length (now (bytes .entry))) ⌝ }
+{
+    if all_intra(words, k, n) {
+        put_zeros(n, bytes);
+        return;
+    }
+    if k < columns {
+        put_each(columns, words, motion, refs, x, k, n, bytes);
+        return;
+    }
+    if as_above(columns, words, motion, refs, x, k, n) {
+        put_as_above(words, rows, k - columns, k, n, bytes);
+        return;
+    }
+    put_sides(columns, words, motion, refs, x, k, n, bytes)
+}
+
+// How long a run from column x is: at most 64, in the row and in the map.
+fn run_length(columns: usize, x: usize, rest: usize) -> usize
+    requires { ⌜ (x < columns) × (0 < rest) ⌝ }
+    ensures { λ r. ⌜ (0 < r) × (x + r ≤ columns) × (r ≤ rest) × (r ≤ 64) ⌝ }
+{
     if rest < columns - x {
         if rest < 64 {
             return rest;
@@ -174,6 +261,68 @@ fn run_length(columns: usize, x: usize, rest: usize) -> usize
         return columns - x;
     }
     64
+}
+
+// ---- a map filled
+
+// n bytes into the map, from k on.
+fn store(bytes: &[u8], k: usize, n: usize, rows: &mut [u8])
+    requires { ⌜ (n ≤ length (now bytes)) × (k + n ≤ length (now rows)) ⌝ }
+    ensures { λ _. ⌜ Stored (now (bytes .entry)) k n (now (rows .entry)) (now (rows .exit)) ⌝ }
+{
+    for j in 0..n {
+        rows[k + j] = bytes[j];
+    }
+}
+
+// Every unit's byte.
+pub(crate) fn fill(columns: usize, words: &[u32], motion: &[i16], refs: &[i8], rows: &mut [u8])
+    requires { ⌜ Lent columns (now words) (now motion) (now refs) × (length (now rows) ≡ length (now words)) ⌝ }
+    ensures { λ _. ⌜ now (rows .exit) ≡ ruleMap (now (words .entry)) (now (motion .entry)) (now (refs .entry)) columns (length (now (rows .entry))) ⌝ }
+{
+    let size = rows.len();
+    let mut bytes = [0u8; 64];
+    let mut k = 0;
+    while k < size {
+        let x = k % columns;
+        let n = run_length(columns, x, size - k);
+        put_run(columns, words, motion, refs, &*rows, x, k, n, &mut bytes);
+        store(&bytes, k, n, &mut *rows);
+        k += n;
+    }
+}
+
+// ---- a map tested
+
+// Whether n bytes of the map from k on are these.
+fn same_bytes(bytes: &[u8], k: usize, n: usize, rows: &[u8]) -> bool
+    requires { ⌜ (n ≤ length (now bytes)) × (k + n ≤ length (now rows)) ⌝ }
+    ensures { λ r. ⌜ r ≡ bytesFrom (now (bytes .entry)) k n (now (rows .entry)) ⌝ }
+{
+    let mut ok = true;
+    for j in 0..n {
+        ok = ok & (rows[k + j] == bytes[j]);
+    }
+    ok
+}
+
+// Whether the bytes of a run are right, where all before it are.
+fn run_right(
+    columns: usize,
+    words: &[u32],
+    motion: &[i16],
+    refs: &[i8],
+    rows: &[u8],
+    x: usize,
+    k: usize,
+    n: usize,
+) -> bool
+    requires { ⌜ Lent columns (now words) (now motion) (now refs) × (length (now rows) ≡ length (now words)) × Run columns (length (now words)) x k n × (n ≤ 64) ⌝ }
+    ensures { λ r. ⌜ (RightBelow (now (words .entry)) (now (motion .entry)) (now (refs .entry)) columns (now (rows .entry)) k → r ≡ rightRun (now (words .entry)) (now (motion .entry)) (now (refs .entry)) columns (now (rows .entry)) k n) ⌝ }
+{
+    let mut bytes = [0u8; 64];
+    put_run(columns, words, motion, refs, rows, x, k, n, &mut bytes);
+    same_bytes(&bytes, k, n, rows)
 }
 
 // Whether every byte is right: a map that is lent is right but for an error.

@@ -3,13 +3,14 @@ use Prim.Native.Nat.{ℕ, _-_, _≤_}
 use mathlib.Core.Path.{_≡_, refl, sym, _∙_}
 use native.Mathlib.Nat.{mod-lt}
 use native.Mathlib.Omega.{arith}
+use borrow.Author.Tests.{eqb-true}
 use denote.Ref.{now}
 use lib.Dec.{eqb}
 use lib.ListN.{length, getD}
 use Rattle.laws.specs.Scan.{allBelow}
 use Rattle.laws.proofs.Scans.{scan-none}
 use Rattle.rows.specs.Rule.{ruleByte, rightBytes}
-use Rattle.rows.proofs.Runs.{run-joins}
+use Rattle.rows.proofs.Runs.{joins-if}
 use Rattle.rows.proofs.run.all_right.Statement.{statement}
 use Rattle.rows.proofs.run.all_right.Tie as tie
 
@@ -32,7 +33,7 @@ run-right-requires : tie.Need-run-right-requires Inv-loop μ-loop
 run-right-requires c κs =
     let s = c .before .before .before .before .before in
     let r = c .run-length .ensures in
-    (s .pre .0, s .pre .1, record { column = refl; fits = r .1; inside = omega (arith, r .2, s .pre .1, c .before .loop-test .taken) })
+    (s .pre .0, s .pre .1, record { column = refl; fits = r .1; inside = omega (arith, r .2, s .pre .1, c .before .loop-test .taken) }, r .3)
 
 add-k : tie.Need-add-k Inv-loop μ-loop
 add-k c = omega (arith, c .before .run-length .ensures .2, c .before .before .loop-test .taken)
@@ -43,7 +44,7 @@ loop-less c = omega (arith, c .before .run-length .ensures .0, c .before .run-le
 loop-again : tie.Need-loop-again Inv-loop μ-loop
 loop-again c = (
   omega (arith, c .before .run-length .ensures .2, c .before .before .loop-test .taken),
-  rw (c .before .before .before .loop .inv .1, c .run-right .ensures) (sym (run-joins _ _ _)),
+  joins-if _ _ _ _ _ (c .before .before .before .loop .inv .1) (λ all. c .run-right .ensures (λ i l. eqb-true _ _ (all i l))),
 )
 
 returns : tie.Need-returns Inv-loop μ-loop

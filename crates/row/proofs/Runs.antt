@@ -1,0 +1,62 @@
+-- Runs of units: what the tests of a run tell.
+--     fits-test    n from k on are below a number
+--     run-there, run-in    the test passes exactly where the maps hold the run
+--     unit-of    each unit of a run is one of the maps
+--     no-room, none-at-q, none-at-p, all-there    the answer of `rows_at`, by what its tests found
+-- Assumes nothing.
+use Prim.Native.Nat.{ℕ, _+_, _-_, _*_, _/_, _≤_, _<_}
+use mathlib.Core.Path.{_≡_, sym, _∙_}
+use mathlib.Core.Bool.{Bool, true, false}
+use mathlib.Core.List.{List, [], _∷_}
+use native.Mathlib.Decide.{decLt}
+use native.Mathlib.Omega.{arith}
+use borrow.Author.Tests.{leb-true, le-leb, lt-leb}
+use lib.Dec.{leb}
+use lib.IntN.{ℤ}
+use lib.ListN.{length}
+use Rattle.laws.proofs.Calls.{all-at, all-fails}
+use Rattle.row.specs.Between.{There}
+use Rattle.row.specs.Runs.{runInMaps, runsIn, RunThere}
+
+pub fits-test : (u k n : ℕ) → n ≤ u → leb k (u - n) ≡ leb (k + n) u
+fits-test u k n h = go (decLt u (k + n)) where
+  go : Dec (u < k + n) → leb k (u - n) ≡ leb (k + n) u
+  go (yes p) = lt-leb k (u - n) (omega arith) ∙ sym (lt-leb (k + n) u p)
+  go (no p) = le-leb k (u - n) (omega arith) ∙ sym (le-leb (k + n) u (omega arith))
+
+module _ (words : List ℕ) (motion refs : List ℤ) where
+  pub run-there : (k n : ℕ) → runInMaps (length words) (length motion) (length refs) k n ≡ true → RunThere words motion refs k n
+  unfolding runInMaps
+  run-there k n e =
+      let tests = leb (k + n) (length words) ∷ leb (k + n) (length motion / 4) ∷ leb (k + n) (length refs / 2) ∷ [] in
+      let a = leb-true (k + n) (length words) (all-at tests 0 e) in
+      let b = leb-true (k + n) (length motion / 4) (all-at tests 1 e) in
+      let c = leb-true (k + n) (length refs / 2) (all-at tests 2 e) in
+      record { word = a; mv = omega arith; refi = omega arith }
+
+  pub run-in : (k n : ℕ) → RunThere words motion refs k n → runInMaps (length words) (length motion) (length refs) k n ≡ true
+  unfolding runInMaps
+  run-in k n u =
+      let b : k + n ≤ length motion / 4 = omega (arith, u .mv) in
+      let c : k + n ≤ length refs / 2 = omega (arith, u .refi) in
+      rw (le-leb (k + n) (length words) (u .word), le-leb (k + n) (length motion / 4) b, le-leb (k + n) (length refs / 2) c)
+
+  pub unit-of : (k n j : ℕ) → RunThere words motion refs k n → j < n → There words motion refs (k + j)
+  unit-of k n j u l = record { word = omega (arith, u .word); mv = omega (arith, u .mv); refi = omega (arith, u .refi) }
+
+module _ (words motion refs rows q p n : ℕ) where
+  pub no-room : rows < n → false ≡ runsIn words motion refs rows q p n
+  unfolding runsIn
+  no-room h = sym (all-fails (leb n rows ∷ runInMaps words motion refs q n ∷ runInMaps words motion refs p n ∷ []) 0 (lt-leb n rows h))
+
+  pub none-at-q : runInMaps words motion refs q n ≡ false → false ≡ runsIn words motion refs rows q p n
+  unfolding runsIn
+  none-at-q e = sym (all-fails (leb n rows ∷ runInMaps words motion refs q n ∷ runInMaps words motion refs p n ∷ []) 1 e)
+
+  pub none-at-p : runInMaps words motion refs p n ≡ false → false ≡ runsIn words motion refs rows q p n
+  unfolding runsIn
+  none-at-p e = sym (all-fails (leb n rows ∷ runInMaps words motion refs q n ∷ runInMaps words motion refs p n ∷ []) 2 e)
+
+  pub all-there : n ≤ rows → runInMaps words motion refs q n ≡ true → runInMaps words motion refs p n ≡ true → true ≡ runsIn words motion refs rows q p n
+  unfolding runsIn
+  all-there h e f = rw (le-leb n rows h, e, f)

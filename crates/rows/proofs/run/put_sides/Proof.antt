@@ -1,0 +1,76 @@
+-- `rows::run::put_sides` meets its contract: the rows of the left edges and those of the top edges, joined. Assumes nothing.
+use Prim.Native.Nat.{ℕ, _+_, _-_, _<_}
+use mathlib.Core.Path.{_≡_, sym, _∙_}
+use mathlib.Core.Bool.{true}
+use native.Mathlib.Omega.{arith}
+use borrow.Author.Needs.{needs}
+use lib.ListN.{getD}
+use Rattle.split.specs.Edges.{vertical, horizontal}
+use Rattle.rows.specs.Rule.{edgeRow}
+use Rattle.rows.proofs.Runs.{left-row, top-row, runs-there, long-cleared, joined}
+use Rattle.rows.proofs.Sides.{edge-few}
+use Rattle.rows.proofs.run.put_sides.Statement.{statement}
+use Rattle.rows.proofs.run.put_sides.Tie as tie
+
+-- both calls find their runs in the maps
+lefts-there : (c : tie.After-clear-first) → c .before .before .before .before .before .before .rows-at .result ≡ true
+lefts-there c =
+    let s = c .before .before .before .before .before .before .before .before .before .before in
+    let a = s .args in
+    let p = s .pre in
+    c .before .before .before .before .before .before .rows-at .ensures .0
+    ∙ sym (runs-there (a .words .now) (a .motion .now) (a .refs .now) (a .columns) (p .0) 64 (a .k) (a .k - 1) (a .n) (p .1 .inside) (omega (arith, p .1 .inside)) (p .3))
+
+tops-there : (c : tie.After-clear-first) → c .before .before .before .rows-at2 .result ≡ true
+tops-there c =
+    let s = c .before .before .before .before .before .before .before .before .before .before in
+    let a = s .args in
+    let p = s .pre in
+    c .before .before .before .rows-at2 .ensures .0
+    ∙ sym (runs-there (a .words .now) (a .motion .now) (a .refs .now) (a .columns) (p .0) 64 (a .k) (a .k - a .columns) (a .n) (p .1 .inside) (omega (arith, p .1 .inside, p .2)) (p .3))
+
+left-rows : (c : tie.After-clear-first) →
+    let a = c .before .before .before .before .before .before .before .before .before .before .args in
+    (j : ℕ) → j < a .n → getD (c .clear-first .last .1 .0) j 0 ≡ edgeRow (a .words .now) (a .motion .now) (a .refs .now) (a .columns) vertical (a .k + j)
+left-rows c =
+    let s = c .before .before .before .before .before .before .before .before .before .before in
+    let a = s .args in
+    let p = s .pre in
+    let u = c .before .before .before .before .before .before .rows-at .ensures .1 (lefts-there c) in
+    left-row (a .words .now) (a .motion .now) (a .refs .now) (a .columns) (a .x) (a .k) (a .n) (p .0 .some) (p .1) (p .2) _ _ _ u (omega (arith, u .long)) (c .clear-first .ensures)
+
+top-rows : (c : tie.After-clear-first) →
+    let a = c .before .before .before .before .before .before .before .before .before .before .args in
+    (j : ℕ) → j < a .n → getD (c .before .before .before .rows-at2 .last .1 .1 .1 .1 .1 .1 .0) j 0 ≡ edgeRow (a .words .now) (a .motion .now) (a .refs .now) (a .columns) horizontal (a .k + j)
+top-rows c =
+    let s = c .before .before .before .before .before .before .before .before .before .before in
+    let a = s .args in
+    let p = s .pre in
+    top-row (a .words .now) (a .motion .now) (a .refs .now) (a .columns) (a .x) (a .k) (a .n) (p .0 .some) (p .1) (p .2) _ _ (c .before .before .before .rows-at2 .ensures .1 (tops-there c))
+
+put-joined-requires : tie.Need-put-joined-requires
+put-joined-requires c κs =
+    let s = c .before .before .before .before .before .before .before .before .before .before .before .before .before .before in
+    let a = s .args in
+    let p = s .pre in
+    let k = c .before .before .before .before in
+    let few = edge-few (a .words .now) (a .motion .now) (a .refs .now) (a .columns) in (
+      omega (arith, p .3, long-cleared (a .x) (k .before .before .before .before .before .before .rows-at .last .1 .1 .1 .1 .1 .1 .0) (k .clear-first .last .1 .0) (k .clear-first .ensures), k .before .before .before .before .before .before .rows-at .ensures .1 (lefts-there k) .long),
+      omega (arith, p .3, k .before .before .before .rows-at2 .ensures .1 (tops-there k) .long),
+      p .4,
+      (λ j h. omega (arith, left-rows k j h, few vertical (a .k + j))),
+      (λ j h. omega (arith, top-rows k j h, few horizontal (a .k + j))),
+    )
+
+returns : tie.Need-returns
+returns c =
+    let u = c .before .before .put-joined .ensures in
+    let k = c .before .before .before .before .before .before .before in
+    let a = k .before .before .before .before .before .before .before .before .before .before .args in
+    record { long = u .long; at = λ j h. u .at j h ∙ joined (a .words .now) (a .motion .now) (a .refs .now) (a .columns) (a .k + j) _ _ (left-rows k j h) (top-rows k j h) }
+
+pub put-sides-spec : {M : Type 1} → statement M
+put-sides-spec =
+    tie.close
+    (tie.spec (λ c. search needs) (λ c. search needs) (λ c κs. search needs) (λ c. search needs) (λ c. search needs) (λ c κs. search needs) (λ c. search needs) (λ c κs. search needs)
+    (λ c. search needs) (λ c. search needs) put-joined-requires (λ c. search needs) returns)

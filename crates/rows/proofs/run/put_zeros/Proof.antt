@@ -1,0 +1,28 @@
+-- `rows::run::put_zeros` meets its contract: a loop that stores from the front. Assumes nothing.
+use Prim.Native.Nat.{ℕ, _-_, _≤_}
+use mathlib.Core.Path.{refl}
+use native.Mathlib.Omega.{arith}
+use Rattle.laws.proofs.Fill.{Upto, upto-none, upto-more}
+use Rattle.rows.proofs.run.put_zeros.Statement.{statement}
+use Rattle.rows.proofs.run.put_zeros.Tie as tie
+
+abbrev Inv-loop : tie.InvT-loop
+Inv-loop n bytes₀ j₀ bytes j = Upto 0 (λ (i : ℕ). 0) bytes₀ bytes j × (j ≤ n)
+
+abbrev μ-loop : tie.MeasureT-loop
+μ-loop n bytes₀ j₀ bytes j = n - j
+
+loop-holds : tie.Need-loop-holds Inv-loop μ-loop
+loop-holds c = (upto-none _ _ _, omega arith)
+
+slice-write-bytes : tie.Need-slice-write-bytes Inv-loop μ-loop
+slice-write-bytes c = omega (arith, c .before .loop .inv .0 .long)
+
+loop-again : tie.Need-loop-again Inv-loop μ-loop
+loop-again c = let l = c .before .loop in (upto-more _ _ _ _ (l .j) _ (omega arith) refl (l .inv .0), omega arith)
+
+returns : tie.Need-returns Inv-loop μ-loop
+returns c = let l = c .before .loop in record { long = l .inv .0 .long; at = λ i h. l .inv .0 .below i (omega (arith, c .loop-test .left)) }
+
+pub put-zeros-spec : {M : Type 1} → statement M
+put-zeros-spec = tie.close (tie.spec Inv-loop μ-loop loop-holds slice-write-bytes (λ c. omega arith) (λ c. omega arith) loop-again (λ c. c .before .loop .inv .0 .long) returns)
