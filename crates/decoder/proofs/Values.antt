@@ -3,10 +3,11 @@
 -- Assumes nothing.
 use Prim.Native.Nat.{ℕ}
 use mathlib.Core.Path.{sym, ap, _∙_}
+use mathlib.Core.List.{[], _∷_}
 use denote.Ref.{now}
 use lib.IntN.{natAbs}
 use Rattle.chroma_qp_check.proofs.Offsets.{qp-apart}
-use Rattle.decoder.specs.Promise.{Sole}
+use Rattle.decoder.specs.Promise.{ended, Sole}
 use Rattle.decoder.proofs.pel2scu.Kinds as pel2scu-kinds
 use Rattle.decoder.proofs.pel2scu.Reads as pel2scu-reads
 use Rattle.decoder.proofs.in_component.Kinds as in-component-kinds
@@ -91,6 +92,8 @@ use Rattle.decoder.proofs.motion_row.Kinds as motion-row-kinds
 use Rattle.decoder.proofs.motion_row.Reads as motion-row-reads
 use Rattle.decoder.proofs.row_at.Kinds as row-at-kinds
 use Rattle.decoder.proofs.row_at.Reads as row-at-reads
+use Rattle.decoder.proofs.rows_at.Kinds as rows-at-kinds
+use Rattle.decoder.proofs.rows_at.Reads as rows-at-reads
 use Rattle.decoder.proofs.rows_right.Kinds as rows-right-kinds
 use Rattle.decoder.proofs.rows_right.Reads as rows-right-reads
 
@@ -204,6 +207,9 @@ motion-row-once κs a r r′ x x′ p q = p .0 ∙ sym (q .0)
 
 pub row-at-once : Sole 3 row-at-kinds.ps row-at-kinds.r row-at-reads.Post (λ κs r x. r)
 row-at-once κs a r r′ x x′ p q = p .0 ∙ sym (q .0)
+
+pub rows-at-once : Sole 4 rows-at-kinds.ps rows-at-kinds.r rows-at-reads.Post (λ κs r x. ended r (now (x .1 .1 .1 .1 .1 .1 .0) ∷ []))
+rows-at-once κs a r r′ x x′ p q = λ i. ended ((p .0 ∙ sym (q .0)) i) ((p .1 ∙ sym (q .1)) i ∷ [])
 
 pub rows-right-once : Sole 4 rows-right-kinds.ps rows-right-kinds.r rows-right-reads.Post (λ κs r x. r)
 rows-right-once κs a r r′ x x′ p q = p ∙ sym q

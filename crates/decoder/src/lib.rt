@@ -11,14 +11,14 @@
 //     8 walk            leaves, check, visiting_rank, list_edges; root_leaves, root_list, list_marks, take_marks, mark_place, mark_byte, root_count
 //       deblocking      deblock; Bands::first, deblock_band; checked, checked_band, band_rows, rows_above, entries, mask_of, line, lanes,
 //                       lanes_by_halves, motion_row
-//       edge rows       fill_rows, set_motion, set_flag, deblock_by_rows; row_at, rows_right
+//       edge rows       fill_rows, set_motion, set_flag, deblock_by_rows; row_at, rows_at, rows_right
 //     the sheet         read, listing
 //     the compact map   put_map, get_map; take_map; write_to, write_map, read_from, read_map; get_bit, put_bit
 //     a torn map        mend
 //     streams           read_header, write_header, read_frame, write_frame, import_frame
 // Inside are those that a caller needs none of. They are public because another crate calls them, and total like the rest: checked_points, start_qp, delta_in,
 // delta_out, checked_leaves, coded_y, coded_u, coded_v, mode_of, word_of, roots_along, root_leaves, root_list, list_marks, take_marks, mark_place, mark_byte, root_count, checked,
-// checked_band, entries, mask_of, line, lanes, lanes_by_halves, motion_row, read.
+// checked_band, entries, mask_of, line, lanes, lanes_by_halves, motion_row, rows_at, read.
 pub use avail::Avail;
 pub use avail::Neighbours;
 pub use avail::get_avail_inter;
@@ -108,6 +108,7 @@ pub use rank::visiting_rank;
 pub use recon::recon;
 pub use recon::recon_plane;
 pub use row::row_at;
+pub use row::rows_at;
 pub use rows::Flag;
 pub use rows::fill_rows;
 pub use rows::rows_right;

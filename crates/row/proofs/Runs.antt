@@ -2,21 +2,28 @@
 --     fits-test    n from k on are below a number
 --     run-there, run-in    the test passes exactly where the maps hold the run
 --     unit-of    each unit of a run is one of the maps
+--     first-all    a loop that stores from the front has put its first n
+--     put-none, put-all    what `rows_at` leaves
+--     rows-long, rows-at    and what is read from it
 --     no-room, none-at-q, none-at-p, all-there    the answer of `rows_at`, by what its tests found
 -- Assumes nothing.
 use Prim.Native.Nat.{ℕ, _+_, _-_, _*_, _/_, _≤_, _<_}
-use mathlib.Core.Path.{_≡_, sym, _∙_}
+use mathlib.Core.Path.{_≡_, sym, ap, _∙_}
 use mathlib.Core.Bool.{Bool, true, false}
 use mathlib.Core.List.{List, [], _∷_}
 use native.Mathlib.Decide.{decLt}
 use native.Mathlib.Omega.{arith}
-use borrow.Author.Tests.{leb-true, le-leb, lt-leb}
-use lib.Dec.{leb}
+use borrow.Author.Tests.{leb-true, le-leb, lt-leb, lt-ltb, le-ltb}
+use lib.Dec.{leb, ltb}
 use lib.IntN.{ℤ}
-use lib.ListN.{length}
+use lib.ListN.{length, getD}
+use Rattle.laws.specs.Index.{pick}
 use Rattle.laws.proofs.Calls.{all-at, all-fails}
+use Rattle.laws.proofs.Fill.{Upto}
+use Rattle.laws.proofs.Tabulate.{length-tabulate, getD-tabulate, is-tabulate}
+use Rattle.df_rules.specs.Strength.{rowBy}
 use Rattle.row.specs.Between.{There}
-use Rattle.row.specs.Runs.{runInMaps, runsIn, RunThere}
+use Rattle.row.specs.Runs.{runInMaps, runsIn, RunThere, withFirst, rowsPut}
 
 pub fits-test : (u k n : ℕ) → n ≤ u → leb k (u - n) ≡ leb (k + n) u
 fits-test u k n h = go (decLt u (k + n)) where
@@ -60,3 +67,34 @@ module _ (words motion refs rows q p n : ℕ) where
   pub all-there : n ≤ rows → runInMaps words motion refs q n ≡ true → runInMaps words motion refs p n ≡ true → true ≡ runsIn words motion refs rows q p n
   unfolding runsIn
   all-there h e f = rw (le-leb n rows h, e, f)
+
+-- a loop that has stored its first n
+pub first-all : (f : ℕ → ℕ) (n j : ℕ) (l₀ l : List ℕ) → Upto 0 f l₀ l j → n ≡ j → l ≡ withFirst f n l₀
+unfolding withFirst
+first-all f n j l₀ l u e = is-tabulate (λ (i : ℕ). pick (ltb i n) (f i) (getD l₀ i 0)) (length l₀) l 0 (u .long) (λ i h. go i (decLt i n)) where
+  go : (i : ℕ) → Dec (i < n) → getD l i 0 ≡ pick (ltb i n) (f i) (getD l₀ i 0)
+  go i (yes p) = rw (lt-ltb i n p) (u .below i (omega arith))
+  go i (no p) = rw (le-ltb i n (omega arith)) (u .above i (omega arith))
+
+module _ (words : List ℕ) (motion refs : List ℤ) (q p n : ℕ) (rows : List ℕ) where
+  abbrev Tests : Bool
+  Tests = runsIn (length words) (length motion) (length refs) (length rows) q p n
+
+  pub put-none : false ≡ Tests → rows ≡ rowsPut words motion refs q p n rows
+  unfolding rowsPut
+  put-none e = λ i. pick (e i) (withFirst (λ (j : ℕ). rowBy words motion refs (q + j) (p + j)) n rows) rows
+
+  pub put-all : true ≡ Tests → withFirst (λ (j : ℕ). rowBy words motion refs (q + j) (p + j)) n rows ≡ rowsPut words motion refs q p n rows
+  unfolding rowsPut
+  put-all e = λ i. pick (e i) (withFirst (λ (j : ℕ). rowBy words motion refs (q + j) (p + j)) n rows) rows
+
+  -- where all are there the first n are the rows
+  pub rows-long : (l : List ℕ) → true ≡ Tests → l ≡ rowsPut words motion refs q p n rows → length l ≡ length rows
+  unfolding withFirst
+  rows-long l e f = ap length (f ∙ sym (put-all e)) ∙ length-tabulate _ (length rows)
+
+  pub rows-at : (l : List ℕ) → true ≡ Tests → l ≡ rowsPut words motion refs q p n rows → n ≤ length rows → (j : ℕ) → j < n → getD l j 0 ≡ rowBy words motion refs (q + j) (p + j)
+  unfolding withFirst
+  rows-at l e f r j h =
+      ap (λ (m : List ℕ). getD m j 0) (f ∙ sym (put-all e))
+      ∙ getD-tabulate (λ (i : ℕ). pick (ltb i n) (rowBy words motion refs (q + i) (p + i)) (getD rows i 0)) (length rows) j 0 (omega arith) ∙ rw (lt-ltb j n h)

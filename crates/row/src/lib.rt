@@ -1,14 +1,13 @@
 // The strength row of the edge between two units of a picture's maps.
 // The Rust beside it: df.rs, evc_get_tbl_qp_to_st.
 ghost use mathlib.Core.Path.{_≡_};
-ghost use mathlib.Core.Bool.{true, false};
 ghost use Prim.Native.Nat.{ℕ, _+_, _*_, _≤_};
 ghost use lib.Dec.{leb};
 ghost use lib.ListN.{length};
 ghost use Rattle.line.specs.Row.{eqZ, motionRow};
 ghost use Rattle.df_rules.specs.Strength.{motionAt, rowBy};
 ghost use Rattle.row.specs.Between.{inMaps, rowIn, sameRefs, crossedRefs, sameMotion, There};
-ghost use Rattle.row.specs.Runs.{runInMaps, runsIn, RunThere, FirstOf};
+ghost use Rattle.row.specs.Runs.{runInMaps, runsIn, RunThere, withFirst, rowsPut};
 use def::get_cbfl;
 use def::get_if;
 use line::Motion;
@@ -159,7 +158,7 @@ fn put_rows(
     rows: &mut [u8],
 )
     requires { ⌜ RunThere (now words) (now motion) (now refs) q n × RunThere (now words) (now motion) (now refs) p n × (n ≤ length (now rows)) ⌝ }
-    ensures { λ _. ⌜ FirstOf (λ (j : ℕ). rowBy (now (words .entry)) (now (motion .entry)) (now (refs .entry)) (q + j) (p + j)) n (now (rows .entry)) (now (rows .exit)) ⌝ }
+    ensures { λ _. ⌜ now (rows .exit) ≡ withFirst (λ (j : ℕ). rowBy (now (words .entry)) (now (motion .entry)) (now (refs .entry)) (q + j) (p + j)) n (now (rows .entry)) ⌝ }
 {
     for j in 0..n {
         rows[j] = row_between(words, motion, refs, q + j, p + j) as u8;
@@ -177,8 +176,7 @@ pub fn rows_at(
     rows: &mut [u8],
 ) -> bool
     ensures { λ r. ⌜ (r ≡ runsIn (length (now (words .entry))) (length (now (motion .entry))) (length (now (refs .entry))) (length (now (rows .entry))) q p n)
-        × (r ≡ true → FirstOf (λ (j : ℕ). rowBy (now (words .entry)) (now (motion .entry)) (now (refs .entry)) (q + j) (p + j)) n (now (rows .entry)) (now (rows .exit)))
-        × (r ≡ false → now (rows .exit) ≡ now (rows .entry)) ⌝ }
+        × (now (rows .exit) ≡ rowsPut (now (words .entry)) (now (motion .entry)) (now (refs .entry)) q p n (now (rows .entry))) ⌝ }
 {
     if rows.len() < n {
         return false;

@@ -5,7 +5,7 @@
 --     stored-none, stored-more    a loop that stores bytes from a place on
 --     intra-byte    an intra unit's byte
 --     above-byte    the byte of a unit of a run that is what lies above it
---     left-row, top-row, runs-there, long-cleared, joined    any other unit's byte, by the rows of a run's edges
+--     left-row, top-row, runs-there, first-rows, long-cleared, joined    any other unit's byte, by the rows of a run's edges
 --     right-more    a map that is right up to a run's end
 -- Assumes nothing.
 use Prim.Native.Nat.{ℕ, zero, suc, _+_, _-_, _*_, _%_, _≤_, _<_}
@@ -31,11 +31,11 @@ use Rattle.line.proofs.Rows.{eqZ-same, motion-self}
 use Rattle.split.specs.Edges.{Pass, vertical, horizontal}
 use Rattle.df_rules.specs.Places.{stepAcross}
 use Rattle.df_rules.specs.Strength.{motionAt, rowBy}
-use Rattle.row.specs.Runs.{runsIn, RunThere, FirstOf}
-use Rattle.row.proofs.Runs.{run-in, all-there}
+use Rattle.row.specs.Runs.{runsIn, RunThere, rowsPut}
+use Rattle.row.proofs.Runs.{run-in, all-there, rows-long, rows-at}
 use Rattle.rows.specs.Inside.{Lent}
 use Rattle.rows.specs.Rule.{hasSide, edgeRow, ruleByte}
-use Rattle.rows.specs.Runs.{sameFrom, sameFlags, unitsFrom, selfRow, Run, RightBelow, Stored}
+use Rattle.rows.specs.Runs.{sameFrom, sameFlags, unitsFrom, selfRow, Run, RightBelow, FirstOf, Stored}
 use Rattle.rows.proofs.Sides.{past-row, byte-of, edge-few, no-edge}
 
 and-none : (a : Bool) → a ≡ (a && true)
@@ -275,6 +275,10 @@ module _ (words : List ℕ) (motion refs : List ℤ) (c : ℕ) where
   runs-there l rows q p n hq hp h = all-there (length words) (length motion) (length refs) rows q p n h (run-in words motion refs q n (there q hq)) (run-in words motion refs p n (there p hp)) where
     there : (k : ℕ) → k + n ≤ length words → RunThere words motion refs k n
     there k h = record { word = h; mv = omega (arith, l .long-motion); refi = omega (arith, l .long-refs) }
+
+  pub first-rows : (q p n : ℕ) (l₀ l₁ : List ℕ) → true ≡ runsIn (length words) (length motion) (length refs) (length l₀) q p n → l₁ ≡ rowsPut words motion refs q p n l₀ → n ≤ length l₀
+      → FirstOf (λ (j : ℕ). rowBy words motion refs (q + j) (p + j)) n l₀ l₁
+  first-rows q p n l₀ l₁ e f h = record { long = rows-long words motion refs q p n l₀ l₁ e f; at = rows-at words motion refs q p n l₀ l₁ e f h }
 
   pub joined : (k l t : ℕ) → l ≡ edgeRow words motion refs c vertical k → t ≡ edgeRow words motion refs c horizontal k → 4 * t + l ≡ ruleByte words motion refs c k
   joined k l t e f = sym (byte-rows l t k (sym e) (sym f) (omega (arith, e, edge-few words motion refs c vertical k)))

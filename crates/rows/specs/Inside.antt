@@ -1,11 +1,13 @@
 -- What the functions inside ask for, over the types of the code.
 -- Assumes nothing: these are definitions.
-use Prim.Native.Nat.{ℕ, _*_, _≤_, _<_}
+use Prim.Native.Nat.{ℕ, _+_, _*_, _≤_, _<_}
 use mathlib.Core.Path.{_≡_}
 use mathlib.Core.List.{List}
+use lib.Dec.{ltb}
 use lib.IntN.{ℤ}
 use lib.ListN.{length, getD, set}
 use Rattle.laws.specs.Bits.{withField}
+use Rattle.laws.specs.Index.{pick}
 use Rattle.split.specs.Edges.{Pass, vertical, horizontal}
 use Rattle.rows.specs.Rule.{firstBit, edgeRow}
 use Rattle.rows.specs.declared.Side.{Side}
@@ -34,3 +36,9 @@ pub record UnitAt (c h n x y : ℕ) : Type 0 where
 -- a map with the row of unit k's edge on a side set by the rule
 unfoldable pub edgePut : List ℕ → (motion refs : List ℤ) → ℕ → Pass → ℕ → List ℕ → List ℕ
 edgePut words motion refs c d k rows = set rows k (withField (firstBit d) 2 (edgeRow words motion refs c d k) (getD rows k 0))
+
+-- a map with the rows of the right and the lower neighbour's edges towards the unit at column x, row y set by the rule, where c by h units have them
+abbrev pub nextsPut : List ℕ → (motion refs : List ℤ) → (c h x y : ℕ) → List ℕ → List ℕ
+nextsPut words motion refs c h x y rows =
+    let right = pick (ltb (x + 1) c) (edgePut words motion refs c vertical (y * c + x + 1) rows) rows in
+    pick (ltb (y + 1) h) (edgePut words motion refs c horizontal (y * c + x + c) right) right

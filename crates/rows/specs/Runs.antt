@@ -55,6 +55,11 @@ pub record Run (c size x k n : ℕ) : Type 0 where
   pub fits : x + n ≤ c
   pub inside : k + n ≤ size
 
+-- the first n of a list have become those of f, and it is as long as before
+pub record FirstOf (f : ℕ → ℕ) (n : ℕ) (before after : List ℕ) : Type 0 where
+  pub long : length after ≡ length before
+  pub at : (j : ℕ) → j < n → getD after j 0 ≡ f j
+
 -- n bytes have been stored from k on, and those before k are as they were
 pub record Stored (bytes : List ℕ) (k n : ℕ) (before after : List ℕ) : Type 0 where
   pub long : length after ≡ length before

@@ -13,7 +13,7 @@ ghost use Rattle.rows.specs.Checks.{lengthsOk, checkMaps, rightOk, check
 ghost use Rattle.rows.specs.FillCall as FillCall;
 ghost use Rattle.rows.specs.FlagCall as FlagCall;
 ghost use Rattle.rows.specs.FlagCall.{withFlag};
-ghost use Rattle.rows.specs.Inside.{passOf, Lent, UnitAt, edgePut};
+ghost use Rattle.rows.specs.Inside.{passOf, Lent, UnitAt, edgePut, nextsPut};
 ghost use Rattle.rows.specs.MotionCall as MotionCall;
 ghost use Rattle.rows.specs.MotionCall.{withMotion, withRefs};
 ghost use Rattle.rows.specs.Rule.{hasSide, firstBit, edgeRow, ruleByte, ruleMap, editedMap};
@@ -114,7 +114,44 @@ fn put_next(
     put_edge(side, columns, words, motion, refs, true, k, rows)
 }
 
-// Sets the rows of the four edges of the unit at column x, row y of a picture of so many columns and lines of units.
+// Sets the rows of the edges of the right and the lower neighbour towards the unit at column x, row y of a picture of so many columns and lines of units.
+fn put_nexts(
+    columns: usize,
+    lines: usize,
+    words: &[u32],
+    motion: &[i16],
+    refs: &[i8],
+    x: usize,
+    y: usize,
+    rows: &mut [u8],
+)
+    requires { ⌜ Lent columns (now words) (now motion) (now refs) × UnitAt columns lines (length (now words)) x y × (length (now rows) ≡ length (now words)) ⌝ }
+    ensures { λ _. ⌜ now (rows .exit) ≡ nextsPut (now (words .entry)) (now (motion .entry)) (now (refs .entry)) columns lines x y (now (rows .entry)) ⌝ }
+{
+    let k = y * columns + x;
+    put_next(
+        Side::Left,
+        columns,
+        words,
+        motion,
+        refs,
+        x + 1 < columns,
+        k + 1,
+        &mut *rows,
+    );
+    put_next(
+        Side::Top,
+        columns,
+        words,
+        motion,
+        refs,
+        y + 1 < lines,
+        k + columns,
+        rows,
+    );
+}
+
+// Sets the rows of the unit's four edges: its own two, and then those of its neighbours.
 fn put_edges(
     columns: usize,
     lines: usize,
@@ -149,26 +186,7 @@ fn put_edges(
         k,
         &mut *rows,
     );
-    put_next(
-        Side::Left,
-        columns,
-        words,
-        motion,
-        refs,
-        x + 1 < columns,
-        k + 1,
-        &mut *rows,
-    );
-    put_next(
-        Side::Top,
-        columns,
-        words,
-        motion,
-        refs,
-        y + 1 < lines,
-        k + columns,
-        rows,
-    );
+    put_nexts(columns, lines, words, motion, refs, x, y, rows);
 }
 
 // ---- the whole map

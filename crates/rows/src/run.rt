@@ -8,10 +8,9 @@ ghost use lib.Dec.{eqb};
 ghost use lib.ListN.{length, getD, set};
 ghost use Rattle.laws.specs.Index.{pick};
 ghost use Rattle.line.specs.Row.{eqZ};
-ghost use Rattle.row.specs.Runs.{FirstOf};
 ghost use Rattle.rows.specs.Inside.{Lent};
 ghost use Rattle.rows.specs.Rule.{ruleByte, ruleMap, rightBytes};
-ghost use Rattle.rows.specs.Runs.{sameFrom, sameFlags, flagsFrom, unitsFrom, allIntra, bytesFrom, selfRow, rightRun, Run, RightBelow, Stored};
+ghost use Rattle.rows.specs.Runs.{sameFrom, sameFlags, flagsFrom, unitsFrom, allIntra, bytesFrom, selfRow, rightRun, Run, RightBelow, FirstOf, Stored};
 use crate::rule_byte;
 use row::rows_at;
 

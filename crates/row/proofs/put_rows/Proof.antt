@@ -3,7 +3,7 @@ use Prim.Native.Nat.{ℕ, _+_, _-_, _≤_}
 use native.Mathlib.Omega.{arith}
 use Rattle.laws.proofs.Fill.{Upto, upto-none, upto-more}
 use Rattle.df_rules.specs.Strength.{rowBy}
-use Rattle.row.proofs.Runs.{unit-of}
+use Rattle.row.proofs.Runs.{unit-of, first-all}
 use Rattle.row.proofs.put_rows.Statement.{statement}
 use Rattle.row.proofs.put_rows.Tie as tie
 
@@ -42,7 +42,7 @@ loop-again c =
 returns : tie.Need-returns Inv-loop μ-loop
 returns c =
     let l = c .before .loop in
-    record { long = l .inv .0 .long; at = λ i h. l .inv .0 .below i (omega (arith, c .loop-test .left)) }
+    first-all _ (c .before .before .before .before .args .n) (l .j) _ _ (l .inv .0) (omega (arith, l .inv .1, c .loop-test .left))
 
 pub put-rows-spec : {M : Type 1} → statement M
 put-rows-spec =

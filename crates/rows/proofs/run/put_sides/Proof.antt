@@ -1,33 +1,40 @@
 -- `rows::run::put_sides` meets its contract: the rows of the left edges and those of the top edges, joined. Assumes nothing.
 use Prim.Native.Nat.{ℕ, _+_, _-_, _<_}
-use mathlib.Core.Path.{_≡_, sym, _∙_}
-use mathlib.Core.Bool.{true}
+use mathlib.Core.Path.{_≡_, _∙_}
 use native.Mathlib.Omega.{arith}
 use borrow.Author.Needs.{needs}
-use lib.ListN.{getD}
+use lib.ListN.{getD, replicate}
 use Rattle.split.specs.Edges.{vertical, horizontal}
+use Rattle.df_rules.specs.Strength.{rowBy}
 use Rattle.rows.specs.Rule.{edgeRow}
-use Rattle.rows.proofs.Runs.{left-row, top-row, runs-there, long-cleared, joined}
+use Rattle.rows.specs.Runs.{FirstOf}
+use Rattle.rows.proofs.Runs.{left-row, top-row, runs-there, first-rows, long-cleared, joined}
 use Rattle.rows.proofs.Sides.{edge-few}
 use Rattle.rows.proofs.run.put_sides.Statement.{statement}
 use Rattle.rows.proofs.run.put_sides.Tie as tie
 
 -- both calls find their runs in the maps
-lefts-there : (c : tie.After-clear-first) → c .before .before .before .before .before .before .rows-at .result ≡ true
-lefts-there c =
+lefts : (c : tie.After-clear-first) →
+    let a = c .before .before .before .before .before .before .before .before .before .before .args in
+    FirstOf (λ (j : ℕ). rowBy (a .words .now) (a .motion .now) (a .refs .now) (a .k + j) (a .k - 1 + j)) (a .n) (replicate 64 0) (c .before .before .before .before .before .before .rows-at .last .1 .1 .1 .1 .1 .1 .0)
+lefts c =
     let s = c .before .before .before .before .before .before .before .before .before .before in
     let a = s .args in
     let p = s .pre in
-    c .before .before .before .before .before .before .rows-at .ensures .0
-    ∙ sym (runs-there (a .words .now) (a .motion .now) (a .refs .now) (a .columns) (p .0) 64 (a .k) (a .k - 1) (a .n) (p .1 .inside) (omega (arith, p .1 .inside)) (p .3))
+    first-rows (a .words .now) (a .motion .now) (a .refs .now) (a .columns) (a .k) (a .k - 1) (a .n) _ _
+    (runs-there (a .words .now) (a .motion .now) (a .refs .now) (a .columns) (p .0) 64 (a .k) (a .k - 1) (a .n) (p .1 .inside) (omega (arith, p .1 .inside)) (p .3))
+    (c .before .before .before .before .before .before .rows-at .ensures .1) (p .3)
 
-tops-there : (c : tie.After-clear-first) → c .before .before .before .rows-at2 .result ≡ true
-tops-there c =
+tops : (c : tie.After-clear-first) →
+    let a = c .before .before .before .before .before .before .before .before .before .before .args in
+    FirstOf (λ (j : ℕ). rowBy (a .words .now) (a .motion .now) (a .refs .now) (a .k + j) (a .k - a .columns + j)) (a .n) (replicate 64 0) (c .before .before .before .rows-at2 .last .1 .1 .1 .1 .1 .1 .0)
+tops c =
     let s = c .before .before .before .before .before .before .before .before .before .before in
     let a = s .args in
     let p = s .pre in
-    c .before .before .before .rows-at2 .ensures .0
-    ∙ sym (runs-there (a .words .now) (a .motion .now) (a .refs .now) (a .columns) (p .0) 64 (a .k) (a .k - a .columns) (a .n) (p .1 .inside) (omega (arith, p .1 .inside, p .2)) (p .3))
+    first-rows (a .words .now) (a .motion .now) (a .refs .now) (a .columns) (a .k) (a .k - a .columns) (a .n) _ _
+    (runs-there (a .words .now) (a .motion .now) (a .refs .now) (a .columns) (p .0) 64 (a .k) (a .k - a .columns) (a .n) (p .1 .inside) (omega (arith, p .1 .inside, p .2)) (p .3))
+    (c .before .before .before .rows-at2 .ensures .1) (p .3)
 
 left-rows : (c : tie.After-clear-first) →
     let a = c .before .before .before .before .before .before .before .before .before .before .args in
@@ -36,7 +43,7 @@ left-rows c =
     let s = c .before .before .before .before .before .before .before .before .before .before in
     let a = s .args in
     let p = s .pre in
-    let u = c .before .before .before .before .before .before .rows-at .ensures .1 (lefts-there c) in
+    let u = lefts c in
     left-row (a .words .now) (a .motion .now) (a .refs .now) (a .columns) (a .x) (a .k) (a .n) (p .0 .some) (p .1) (p .2) _ _ _ u (omega (arith, u .long)) (c .clear-first .ensures)
 
 top-rows : (c : tie.After-clear-first) →
@@ -46,7 +53,7 @@ top-rows c =
     let s = c .before .before .before .before .before .before .before .before .before .before in
     let a = s .args in
     let p = s .pre in
-    top-row (a .words .now) (a .motion .now) (a .refs .now) (a .columns) (a .x) (a .k) (a .n) (p .0 .some) (p .1) (p .2) _ _ (c .before .before .before .rows-at2 .ensures .1 (tops-there c))
+    top-row (a .words .now) (a .motion .now) (a .refs .now) (a .columns) (a .x) (a .k) (a .n) (p .0 .some) (p .1) (p .2) _ _ (tops c)
 
 put-joined-requires : tie.Need-put-joined-requires
 put-joined-requires c κs =
@@ -55,8 +62,8 @@ put-joined-requires c κs =
     let p = s .pre in
     let k = c .before .before .before .before in
     let few = edge-few (a .words .now) (a .motion .now) (a .refs .now) (a .columns) in (
-      omega (arith, p .3, long-cleared (a .x) (k .before .before .before .before .before .before .rows-at .last .1 .1 .1 .1 .1 .1 .0) (k .clear-first .last .1 .0) (k .clear-first .ensures), k .before .before .before .before .before .before .rows-at .ensures .1 (lefts-there k) .long),
-      omega (arith, p .3, k .before .before .before .rows-at2 .ensures .1 (tops-there k) .long),
+      omega (arith, p .3, long-cleared (a .x) (k .before .before .before .before .before .before .rows-at .last .1 .1 .1 .1 .1 .1 .0) (k .clear-first .last .1 .0) (k .clear-first .ensures), lefts k .long),
+      omega (arith, p .3, tops k .long),
       p .4,
       (λ j h. omega (arith, left-rows k j h, few vertical (a .k + j))),
       (λ j h. omega (arith, top-rows k j h, few horizontal (a .k + j))),
