@@ -204,11 +204,11 @@ fn put_sides(
     n: usize,
     bytes: &mut [u8],
 )
-    requires { ⌜ Lent columns (now words) (now motion) (now refs) × Run columns (length (now words)) x k n × (columns ≤ k) × (n ≤ 64) × (n ≤ length (now bytes)) ⌝ }
+    requires { ⌜ Lent columns (now words) (now motion) (now refs) × Run columns (length (now words)) x k n × (columns ≤ k) × (n ≤ 128) × (n ≤ length (now bytes)) ⌝ }
     ensures { λ _. ⌜ FirstOf (λ (j : ℕ). ruleByte (now (words .entry)) (now (motion .entry)) (now (refs .entry)) columns (k + j)) n (now (bytes .entry)) (now (bytes .exit)) ⌝ }
 {
-    let mut left = [0u8; 64];
-    let mut top = [0u8; 64];
+    let mut left = [0u8; 128];
+    let mut top = [0u8; 128];
     rows_at(words, motion, refs, k, k - 1, n, &mut left);
     rows_at(words, motion, refs, k, k - columns, n, &mut top);
     clear_first(x, &mut left);
@@ -227,7 +227,7 @@ fn put_run(
     n: usize,
     bytes: &mut [u8],
 )
-    requires { ⌜ Lent columns (now words) (now motion) (now refs) × (length (now rows) ≡ length (now words)) × Run columns (length (now words)) x k n × (n ≤ 64) × (n ≤ length (now bytes)) ⌝ }
+    requires { ⌜ Lent columns (now words) (now motion) (now refs) × (length (now rows) ≡ length (now words)) × Run columns (length (now words)) x k n × (n ≤ 128) × (n ≤ length (now bytes)) ⌝ }
     ensures { λ _. ⌜ (RightBelow (now (words .entry)) (now (motion .entry)) (now (refs .entry)) columns (now (rows .entry)) k → FirstOf (λ (j : ℕ). ruleByte (now (words .entry)) (now (motion .entry)) (now (refs .entry)) columns (k + j)) n (now (bytes .entry)) (now (bytes .exit))) × (length (now (bytes .exit)) ≡ length (now (bytes .entry))) ⌝ }
 {
     if all_intra(words, k, n) {
@@ -245,21 +245,21 @@ fn put_run(
     put_sides(columns, words, motion, refs, x, k, n, bytes)
 }
 
-// How long a run from column x is: at most 64, in the row and in the map.
+// How long a run from column x is: at most 128, in the row and in the map.
 fn run_length(columns: usize, x: usize, rest: usize) -> usize
     requires { ⌜ (x < columns) × (0 < rest) ⌝ }
-    ensures { λ r. ⌜ (0 < r) × (x + r ≤ columns) × (r ≤ rest) × (r ≤ 64) ⌝ }
+    ensures { λ r. ⌜ (0 < r) × (x + r ≤ columns) × (r ≤ rest) × (r ≤ 128) ⌝ }
 {
     if rest < columns - x {
-        if rest < 64 {
+        if rest < 128 {
             return rest;
         }
-        return 64;
+        return 128;
     }
-    if columns - x < 64 {
+    if columns - x < 128 {
         return columns - x;
     }
-    64
+    128
 }
 
 // ---- a map filled
@@ -280,7 +280,7 @@ pub(crate) fn fill(columns: usize, words: &[u32], motion: &[i16], refs: &[i8], r
     ensures { λ _. ⌜ now (rows .exit) ≡ ruleMap (now (words .entry)) (now (motion .entry)) (now (refs .entry)) columns (length (now (rows .entry))) ⌝ }
 {
     let size = rows.len();
-    let mut bytes = [0u8; 64];
+    let mut bytes = [0u8; 128];
     let mut k = 0;
     while k < size {
         let x = k % columns;
@@ -316,10 +316,10 @@ fn run_right(
     k: usize,
     n: usize,
 ) -> bool
-    requires { ⌜ Lent columns (now words) (now motion) (now refs) × (length (now rows) ≡ length (now words)) × Run columns (length (now words)) x k n × (n ≤ 64) ⌝ }
+    requires { ⌜ Lent columns (now words) (now motion) (now refs) × (length (now rows) ≡ length (now words)) × Run columns (length (now words)) x k n × (n ≤ 128) ⌝ }
     ensures { λ r. ⌜ (RightBelow (now (words .entry)) (now (motion .entry)) (now (refs .entry)) columns (now (rows .entry)) k → r ≡ rightRun (now (words .entry)) (now (motion .entry)) (now (refs .entry)) columns (now (rows .entry)) k n) ⌝ }
 {
-    let mut bytes = [0u8; 64];
+    let mut bytes = [0u8; 128];
     put_run(columns, words, motion, refs, rows, x, k, n, &mut bytes);
     same_bytes(&bytes, k, n, rows)
 }

@@ -13,7 +13,7 @@ use Rattle.rows.proofs.run.fill.Statement.{statement}
 use Rattle.rows.proofs.run.fill.Tie as tie
 
 abbrev Inv-loop : tie.InvT-loop
-Inv-loop columns words motion refs rows₀ size bytes₀ k₀ rows bytes k = (k ≤ length rows₀) × (length rows ≡ length rows₀) × RightBelow words motion refs columns rows k × (length bytes ≡ 64)
+Inv-loop columns words motion refs rows₀ size bytes₀ k₀ rows bytes k = (k ≤ length rows₀) × (length rows ≡ length rows₀) × RightBelow words motion refs columns rows k × (length bytes ≡ 128)
 
 abbrev μ-loop : tie.MeasureT-loop
 μ-loop columns words motion refs rows₀ size bytes₀ k₀ rows bytes k = length rows₀ - k

@@ -16,24 +16,24 @@ use Rattle.rows.proofs.run.put_sides.Tie as tie
 -- both calls find their runs in the maps
 lefts : (c : tie.After-clear-first) →
     let a = c .before .before .before .before .before .before .before .before .before .before .args in
-    FirstOf (λ (j : ℕ). rowBy (a .words .now) (a .motion .now) (a .refs .now) (a .k + j) (a .k - 1 + j)) (a .n) (replicate 64 0) (c .before .before .before .before .before .before .rows-at .last .1 .1 .1 .1 .1 .1 .0)
+    FirstOf (λ (j : ℕ). rowBy (a .words .now) (a .motion .now) (a .refs .now) (a .k + j) (a .k - 1 + j)) (a .n) (replicate 128 0) (c .before .before .before .before .before .before .rows-at .last .1 .1 .1 .1 .1 .1 .0)
 lefts c =
     let s = c .before .before .before .before .before .before .before .before .before .before in
     let a = s .args in
     let p = s .pre in
     first-rows (a .words .now) (a .motion .now) (a .refs .now) (a .columns) (a .k) (a .k - 1) (a .n) _ _
-    (runs-there (a .words .now) (a .motion .now) (a .refs .now) (a .columns) (p .0) 64 (a .k) (a .k - 1) (a .n) (p .1 .inside) (omega (arith, p .1 .inside)) (p .3))
+    (runs-there (a .words .now) (a .motion .now) (a .refs .now) (a .columns) (p .0) 128 (a .k) (a .k - 1) (a .n) (p .1 .inside) (omega (arith, p .1 .inside)) (p .3))
     (c .before .before .before .before .before .before .rows-at .ensures .1) (p .3)
 
 tops : (c : tie.After-clear-first) →
     let a = c .before .before .before .before .before .before .before .before .before .before .args in
-    FirstOf (λ (j : ℕ). rowBy (a .words .now) (a .motion .now) (a .refs .now) (a .k + j) (a .k - a .columns + j)) (a .n) (replicate 64 0) (c .before .before .before .rows-at2 .last .1 .1 .1 .1 .1 .1 .0)
+    FirstOf (λ (j : ℕ). rowBy (a .words .now) (a .motion .now) (a .refs .now) (a .k + j) (a .k - a .columns + j)) (a .n) (replicate 128 0) (c .before .before .before .rows-at2 .last .1 .1 .1 .1 .1 .1 .0)
 tops c =
     let s = c .before .before .before .before .before .before .before .before .before .before in
     let a = s .args in
     let p = s .pre in
     first-rows (a .words .now) (a .motion .now) (a .refs .now) (a .columns) (a .k) (a .k - a .columns) (a .n) _ _
-    (runs-there (a .words .now) (a .motion .now) (a .refs .now) (a .columns) (p .0) 64 (a .k) (a .k - a .columns) (a .n) (p .1 .inside) (omega (arith, p .1 .inside, p .2)) (p .3))
+    (runs-there (a .words .now) (a .motion .now) (a .refs .now) (a .columns) (p .0) 128 (a .k) (a .k - a .columns) (a .n) (p .1 .inside) (omega (arith, p .1 .inside, p .2)) (p .3))
     (c .before .before .before .rows-at2 .ensures .1) (p .3)
 
 left-rows : (c : tie.After-clear-first) →
