@@ -25,7 +25,7 @@ use Rattle.def.proofs.Ladders.{passes}
 use Rattle.df_check.specs.Checks.{checkOf}
 use Rattle.rows.specs.Checks.{rightOk}
 use Rattle.rows.specs.Rule.{ruleByte}
-use Rattle.rows.proofs.Said.{right-read}
+use Rattle.rows.proofs.RightMap.{right-byte}
 use Rattle.df.specs.ByRows.{Input, rowsLengthOk, rowsOk, check, outcome}
 use Rattle.df.specs.Deblock as deblock
 use Rattle.df.specs.Plan.{RowsLent}
@@ -97,7 +97,7 @@ module _ (i : Input) where
     go : (b : Bool) → eqb (length (i .rows)) 0 ≡ b → (b || rightOk (i .given .w) (i .given .h) (i .given .words) (i .given .motion) (i .given .refs) (i .rows)) ≡ true
         → getD (i .rows) k 0 ≡ ruleByte (i .given .words) (i .given .motion) (i .given .refs) (i .given .w / 4) k
     go true f g = absurd (omega (arith, eqb-true (length (i .rows)) 0 f))
-    go false f g = right-read (i .given .w) (i .given .h) (i .given .words) (i .given .motion) (i .given .refs) (i .rows) g k l
+    go false f g = right-byte (i .given .w) (i .given .h) (i .given .words) (i .given .motion) (i .given .refs) (i .rows) g k l
 
   -- ---- the outcome
 

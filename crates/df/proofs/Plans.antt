@@ -35,7 +35,7 @@ use Rattle.df_rules.proofs.Strengths.{row-few}
 use Rattle.bands_rules.proofs.Lists.{Lies}
 use Rattle.row.specs.Between.{There}
 use Rattle.rows.specs.Rule.{hasSide}
-use Rattle.rows.proofs.Said.{row-said}
+use Rattle.rows.proofs.RightMap.{row-in-byte}
 use Rattle.rows.proofs.Sides.{column-of, row-of}
 use Rattle.df.specs.Plan.{edgeFrom, edgesFrom, placeAt, marksAt, maskBy, Planned, filterIn, Known, RowsLent, Says, PlaneOf, At}
 use Rattle.edges.specs.Put.{Put}
@@ -220,7 +220,7 @@ unit-there u = record { word = u .word; mv = u .mv; refi = u .refi }
 -- a byte of the map says the row of an edge
 pub byte-has-row : (d : Pass) (w : ℕ) (words : List ℕ) (motion refs : List ℤ) (rows : List ℕ) {q p k : ℕ} → RowsLent w words motion refs rows → hasSide d w k ≡ true
     → q ≡ k → p ≡ k - stepAcross d w → Says d words motion refs rows q p
-byte-has-row d w words motion refs rows {q} {p} {k} r s e f = rw (e, f) (λ l. row-said words motion refs w d k _ (r k l) s)
+byte-has-row d w words motion refs rows {q} {p} {k} r s e f = rw (e, f) (λ l. row-in-byte words motion refs w d k _ (r k l) s)
 
 pub known-as : {d : Pass} {w : ℕ} {words : List ℕ} {over : Over} {x y a b : ℕ} → x ≡ a → y ≡ b → Known d w words over a b → Known d w words over x y
 known-as e f k = rw (e, f) k

@@ -1,6 +1,6 @@
 pub mod Calls
 pub mod Edits
 pub mod Held
+pub mod RightMap
 pub mod Runs
-pub mod Said
 pub mod Sides

@@ -1,6 +1,6 @@
--- A right map, read.
---     row-said    a byte has the row of its unit and the unit on a side
---     right-read    what the test of a map tells
+-- What a right map tells.
+--     row-in-byte    at a side's two bits the rule's byte has the row of its unit and the unit on that side
+--     right-byte    a map that passes the test has the rule's byte of every unit
 -- Assumes nothing.
 use Prim.Native.Nat.{ℕ, _-_, _/_, _<_}
 use mathlib.Core.Path.{_≡_, refl, sym, ap, _∙_}
@@ -36,13 +36,13 @@ module _ (words : List ℕ) (motion refs : List ℤ) (c : ℕ) where
   unfolding edgeRow
   side-row d k s = rw s
 
-  pub row-said : (d : Pass) (k byte : ℕ) → byte ≡ ruleByte words motion refs c k → hasSide d c k ≡ true → fieldOf (firstBit d) 2 byte ≡ rowBy words motion refs k (k - stepAcross d c)
-  row-said d k byte e s = ap (fieldOf (firstBit d) 2) e ∙ rule-read d k ∙ side-row d k s
+  pub row-in-byte : (d : Pass) (k byte : ℕ) → byte ≡ ruleByte words motion refs c k → hasSide d c k ≡ true → fieldOf (firstBit d) 2 byte ≡ rowBy words motion refs k (k - stepAcross d c)
+  row-in-byte d k byte e s = ap (fieldOf (firstBit d) 2) e ∙ rule-read d k ∙ side-row d k s
 
-pub right-read : (w h : ℕ) (words : List ℕ) (motion refs : List ℤ) (rows : List ℕ) → rightOk w h words motion refs rows ≡ true
+pub right-byte : (w h : ℕ) (words : List ℕ) (motion refs : List ℤ) (rows : List ℕ) → rightOk w h words motion refs rows ≡ true
     → (k : ℕ) → k < length rows → getD rows k 0 ≡ ruleByte words motion refs (w / 4) k
 unfolding rightOk rightBytes
-right-read w h words motion refs rows e k l = go (checkMaps w h (length words) (length motion) (length refs) (length rows)) e where
+right-byte w h words motion refs rows e k l = go (checkMaps w h (length words) (length motion) (length refs) (length rows)) e where
   go : (a : Answer) → afterChecks (λ r. false) (rightBytes words motion refs (w / 4) rows) a ≡ true → getD rows k 0 ≡ ruleByte words motion refs (w / 4) k
   go Done f = eqb-true _ _ (scan-at _ (length rows) k l f)
   go (Refused r) f = absurd (let z : _≡_ {A = ℕ} 0 1 = cc in omega arith)
