@@ -1,11 +1,12 @@
 -- Laws of a pass's strength entries.
+--     rows-put    a chroma plane's rows, read back
 --     at-luma, at-u, at-v    the entry at a place, by the plane that has it
 --     lumas, whole    the table as it is written: the lent entries, then four rows for each chroma plane, copied from them at the mapped QPs
 --     entries-long, luma-entry, u-entry, v-entry    what callers cite: the table's length, and the entry of each plane in a row at a QP
 -- Assumes nothing.
 use Prim.Native.Nat.{ℕ, _+_, _*_, _/_, _%_, _≤_, _<_}
 use mathlib.Core.Logic.{_⊎_, inl, inr}
-use mathlib.Core.Path.{_≡_, refl, sym, _∙_}
+use mathlib.Core.Path.{_≡_, refl, sym, ap, _∙_}
 use mathlib.Core.List.{List}
 use native.Mathlib.Nat.{zero-add}
 use native.Mathlib.Decide.{decLt}
@@ -16,12 +17,19 @@ use lib.ListN.{length, getD, List·getD-eq-default}
 use Rattle.laws.specs.Plane.{withRow}
 use Rattle.laws.proofs.Fill.{Upto}
 use Rattle.laws.proofs.Parts.{rowed-part}
-use Rattle.laws.proofs.Planes.{Rowed, rowed-all}
+use Rattle.laws.proofs.Planes.{Rowed, rowed-none, rowed-all}
 use Rattle.laws.proofs.Tabulate.{length-tabulate, getD-tabulate}
 use Rattle.laws.proofs.Whole.{whole-row}
 use Rattle.strength.specs.ChromaQp.{mapped, mappedQps}
 use Rattle.strength.specs.Entries.{chromaEntry, entryAt, entriesOf, rowsBy}
 use Rattle.strength.proofs.ChromaQp.{mapped-most}
+
+-- the rows that are copied stand where they were put, and what they were copied from is as it was
+pub rows-put : (l qps : List ℕ) → 416 ≤ length l → ((qp : ℕ) → getD qps qp 0 ≤ 51) →
+    (i : ℕ) → i < 208 → getD (withRow 0 208 208 (rowsBy l qps) l) (208 + i) 0 ≡ rowsBy (withRow 0 208 208 (rowsBy l qps) l) qps i
+rows-put l qps fits most i h =
+    let r = rowed-part 0 208 (rowsBy l qps) l l 0 208 (rowsBy l qps) (omega arith) (λ j p. sym (ap (rowsBy l qps) (zero-add j))) (rowed-none 0 208 (rowsBy l qps) l) in
+    r .done i (omega arith) ∙ sym (r .low (52 * (i / 52) + getD qps (i % 52) 0) (omega (arith, most (i % 52))))
 
 module _ (strengths : List ℕ) (tableU : List ℤ) (uOffset : ℤ) (tableV : List ℤ) (vOffset : ℤ) where
   -- ---- the entry at a place

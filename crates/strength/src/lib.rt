@@ -1,7 +1,8 @@
 // The strength entries of a pass, one table for the three planes, and the QP of a chroma plane, by a lent table.
 // The Rust beside it: df.rs, evc_tbl_df_st and the chroma lookups into it of evc_deblock_cu_hor and evc_deblock_cu_ver.
+ghost use mathlib.Core.Bool.{true};
 ghost use mathlib.Core.Path.{_≡_};
-ghost use Prim.Native.Nat.{ℕ, _+_, _≤_};
+ghost use Prim.Native.Nat.{ℕ, _+_, _≤_, _<_};
 ghost use lib.ListN.{length, getD};
 ghost use Rattle.laws.specs.Plane.{withRow};
 ghost use Rattle.strength.specs.ChromaQp.{indexOf, heldQp, mapped, mappedQps, straightQps};
@@ -118,6 +119,52 @@ fn put_rows(list: &mut [u8], at: usize, qps: &[u8; 52])
     }
 }
 
+// ---- two planes at the same QPs
+
+// 1 where two QPs are the same, and else 0.
+fn same(a: u8, b: u8) -> u8
+    ensures { λ r. ⌜ (r ≤ 1) × (r ≡ 1 → a ≡ b) ⌝ }
+{
+    if a == b { 1 } else { 0 }
+}
+
+// Whether two rows of QPs are the same. No way out at the first that differs: so the loop can be done many QPs at a time.
+fn same_qps(a: &[u8; 52], b: &[u8; 52]) -> bool
+    ensures { λ r. ⌜ (r ≡ true → (qp : ℕ) → qp < 52 → getD (now (a .entry)) qp 0 ≡ getD (now (b .entry)) qp 0) ⌝ }
+{
+    let mut alike: u8 = 0;
+    let mut qp = 0;
+    while qp < 52 {
+        alike += same(a[qp], b[qp]);
+        qp += 1;
+    }
+    alike == 52
+}
+
+// The 208 entries from 208 on, once more from 416 on.
+fn put_again(list: &mut [u8])
+    requires { ⌜ 624 ≤ length (now list) ⌝ }
+    ensures { λ _. ⌜ now (list .exit) ≡ withRow 0 416 208 (λ (i : ℕ). getD (now (list .entry)) (208 + i) 0) (now (list .entry)) ⌝ }
+{
+    let mut i = 0;
+    while i < 208 {
+        list[416 + i] = list[208 + i];
+        i += 1;
+    }
+}
+
+// V's rows, from 416 on: where its QPs are U's, which stand before them, these once more.
+fn put_v_rows(list: &mut [u8], u: &[u8; 52], v: &[u8; 52])
+    requires { ⌜ (624 ≤ length (now list)) × ((qp : ℕ) → getD (now v) qp 0 ≤ 51) × ((i : ℕ) → i < 208 → getD (now list) (208 + i) 0 ≡ rowsBy (now list) (now u) i) ⌝ }
+    ensures { λ _. ⌜ now (list .exit) ≡ withRow 0 416 208 (rowsBy (now (list .entry)) (now (v .entry))) (now (list .entry)) ⌝ }
+{
+    if same_qps(u, v) {
+        put_again(list);
+        return;
+    }
+    put_rows(list, 416, v);
+}
+
 // Luma's entries at 52 * row + QP, then U's and V's.
 pub fn entries(
     strengths: &[u8],
@@ -142,6 +189,6 @@ pub fn entries(
     let u = mapped_qps(table_u, u_offset);
     put_rows(&mut list, 208, &u);
     let v = mapped_qps(table_v, v_offset);
-    put_rows(&mut list, 416, &v);
+    put_v_rows(&mut list, &u, &v);
     list
 }

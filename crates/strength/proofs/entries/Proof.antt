@@ -12,7 +12,7 @@ use Rattle.laws.proofs.Planes.{length-row}
 use Rattle.laws.proofs.Widths.{back}
 use Rattle.strength.specs.ChromaQp.{mappedQps}
 use Rattle.strength.proofs.ChromaQp.{qps-most}
-use Rattle.strength.proofs.Strengths.{lumas, whole}
+use Rattle.strength.proofs.Strengths.{lumas, rows-put, whole}
 use Rattle.strength.proofs.entries.Statement.{statement}
 use Rattle.strength.proofs.entries.Tie as tie
 
@@ -39,28 +39,29 @@ put-rows-requires : tie.Need-put-rows-requires Inv-loop μ-loop
 put-rows-requires c κs =
     (omega arith, omega (arith, c .before .before .before .before .loop .inv .4 .long), rw (c .before .before .mapped-qps .ensures) (qps-most _ _))
 
-put-rows-requires-2 : tie.Need-put-rows-requires-2 Inv-loop μ-loop
-put-rows-requires-2 c κs =
-    let r = c .before .before .before .before in (
-      omega arith,
-      rw (r .put-rows .ensures, length-row) (omega (arith, r .before .before .before .before .before .loop .inv .4 .long)),
-      rw (c .before .before .mapped-qps2 .ensures) (qps-most _ _),
+put-v-rows-requires : tie.Need-put-v-rows-requires Inv-loop μ-loop
+put-v-rows-requires c κs =
+    let e = c .before .before .before .before .before .put-rows .ensures in
+    let l = c .before .before .before .before .before .before .before .before .before .before .loop in
+    let q = c .before .before .before .before .before .before .before .before .mapped-qps in (
+      rw (e, length-row) (omega (arith, l .inv .4 .long)),
+      rw (c .before .before .before .mapped-qps2 .ensures) (qps-most _ _),
+      rw e (rows-put (l .list) (q .result) (omega (arith, l .inv .4 .long)) (rw (q .ensures) (qps-most _ _))),
     )
 
 returns : tie.Need-returns Inv-loop μ-loop
 returns c =
-    let u = c .before .before .before .before .before .before .before .before .before in
-    let l = u .before .before .loop in
-    let s = u .before .before .before .before .before in
+    let l = c .before .before .before .before .before .before .before .before .before .before .before .before .loop in
+    let s = c .before .before .before .before .before .before .before .before .before .before .before .before .before .before .before in
     let all : (208 ≤ l .i) ⊎ (length (now (s .args .strengths)) ≤ l .i) = ⊎-elim (λ p. inl (omega arith)) (λ p. inr (omega arith)) (l .inv .3) in
     whole _ _ _ _ _ _ _ refl (lumas _ _ _ _ _ _ _ (l .i) (λ k p. getD-replicate 624 k 0 0 (omega arith)) (omega arith) all (l .inv .4)) _ _ _ _
-    (u .mapped-qps .ensures ∙ ap (mappedQps (now (s .args .table-u))) (back w8 _ (s .fits .u-offset)))
-    (c .before .before .before .before .mapped-qps2 .ensures ∙ ap (mappedQps (now (s .args .table-v))) (back w8 _ (s .fits .v-offset)))
-    (c .before .before .before .before .before .before .put-rows .ensures)
-    (c .before .put-rows2 .ensures)
+    (c .before .before .before .before .before .before .before .before .before .before .mapped-qps .ensures ∙ ap (mappedQps (now (s .args .table-u))) (back w8 _ (s .fits .u-offset)))
+    (c .before .before .before .before .before .mapped-qps2 .ensures ∙ ap (mappedQps (now (s .args .table-v))) (back w8 _ (s .fits .v-offset)))
+    (c .before .before .before .before .before .before .before .put-rows .ensures)
+    (c .before .put-v-rows .ensures)
 
 pub entries-spec : {M : Type 1} → statement M
 entries-spec =
     tie.close
     (tie.spec Inv-loop μ-loop loop-holds (λ c. search needs) (λ c. search needs) (λ c. search needs) (λ c. search needs) loop-again
-    (λ c κs. search needs) (λ c. search needs) put-rows-requires (λ c κs. search needs) (λ c. search needs) put-rows-requires-2 returns)
+    (λ c κs. search needs) (λ c. search needs) put-rows-requires (λ c κs. search needs) (λ c. search needs) put-v-rows-requires returns)
