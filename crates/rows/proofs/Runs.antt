@@ -212,7 +212,8 @@ module _ (words : List ℕ) (motion refs : List ℤ) (c : ℕ) where
     left-above : (j : ℕ) → j < n → edgeRow words motion refs c vertical (k + j) ≡ edgeRow words motion refs c vertical (k - c + j)
     unfolding edgeRow
     left-above j h = go (hasSide vertical c (k - c + j)) refl where
-      go : (b : Bool) → hasSide vertical c (k - c + j) ≡ b → pick (hasSide vertical c (k + j)) (rowBy words motion refs (k + j) (k + j - 1)) 0 ≡ pick (hasSide vertical c (k - c + j)) (rowBy words motion refs (k - c + j) (k - c + j - 1)) 0
+      go : (b : Bool) → hasSide vertical c (k - c + j) ≡ b
+          → pick (hasSide vertical c (k + j)) (rowBy words motion refs (k + j) (k + j - 1)) 0 ≡ pick (hasSide vertical c (k - c + j)) (rowBy words motion refs (k - c + j) (k - c + j - 1)) 0
       go false q = rw (ap (ltb 0) (column-below j) ∙ q, q)
       go true q =
           let at = column-run c x k j (w .column) (omega (arith, w .fits)) in

@@ -37,7 +37,8 @@ slice-write-rows c = omega (arith, c .before .before .before .before .before .pr
 loop-again : tie.Need-loop-again Inv-loop μ-loop
 loop-again c =
     let l = c .before .before .loop in
-    (upto-more _ _ _ _ (l .j) _ (omega (arith, c .before .before .before .before .before .pre .2, c .before .loop-test .taken)) (c .row-between .ensures .0) (l .inv .0), omega (arith, c .before .loop-test .taken))
+    let h = c .before .loop-test .taken in
+    (upto-more _ _ _ _ (l .j) _ (omega (arith, c .before .before .before .before .before .pre .2, h)) (c .row-between .ensures .0) (l .inv .0), omega (arith, h))
 
 returns : tie.Need-returns Inv-loop μ-loop
 returns c =

@@ -35,11 +35,14 @@ moved c r row =
     (c .before .before .get-cbfl .ensures) (c .before .get-cbfl2 .ensures) (c .if2 .left) row
 
 returns-3 : tie.Need-returns-3
-returns-3 c = (
-  moved (c .before .before .before .before) _
-      (unlike (now (c .before .before .before .before .before .before .before .before .before .before .before .before .before .args .motion)) _ _ _ _ _ (c .before .before .before .same-refs .ensures) (not-true _ (c .before .before .if3 .taken)) (c .before .crossed-refs .ensures) (not-true _ (c .if4 .taken))),
-  omega arith,
-)
+returns-3 c =
+    let branch = c .before .before in
+    let both = branch .before .before in
+    let a = both .before .before .before .before .before .before .before .before .before .args in (
+      moved both _
+          (unlike (now (a .motion)) _ _ _ _ _ (branch .before .same-refs .ensures) (not-true _ (branch .if3 .taken)) (c .before .crossed-refs .ensures) (not-true _ (c .if4 .taken))),
+      omega arith,
+    )
 
 returns-4 : tie.Need-returns-4
 returns-4 c = (moved (c .before .before .before .before .before) _ (c .by-motion .ensures .0), c .by-motion .ensures .1)

@@ -34,7 +34,8 @@ put-run-requires c κs =
     let s = c .before .before .before .before .before .before .before in
     let l = c .before .before .before .before .loop in
     let r = c .before .before .run-length .ensures in
-    (s .pre .0, l .inv .1 ∙ s .pre .1, record { column = refl; fits = r .1; inside = omega (arith, r .2, s .pre .1, c .before .before .before .loop-test .taken) }, r .3, omega (arith, r .3, l .inv .3))
+    let h = c .before .before .before .loop-test .taken in
+    (s .pre .0, l .inv .1 ∙ s .pre .1, record { column = refl; fits = r .1; inside = omega (arith, r .2, s .pre .1, h) }, r .3, omega (arith, r .3, l .inv .3))
 
 slice-aggregate-store : tie.Need-slice-aggregate-store Inv-loop μ-loop
 slice-aggregate-store c = sym (c .before .before .put-run .ensures .1 ∙ c .before .before .before .before .before .before .before .loop .inv .3)
@@ -46,18 +47,24 @@ store-requires c κs =
     (omega (arith, c .before .before .before .put-run .ensures .1, l .inv .3, r .3), omega (arith, l .inv .1, r .2, c .before .before .before .before .before .before .before .loop-test .taken))
 
 add-k : tie.Need-add-k Inv-loop μ-loop
-add-k c = omega (arith, c .before .before .before .before .before .before .before .before .before .run-length .ensures .2, c .before .before .before .before .before .before .before .before .before .before .loop-test .taken)
+add-k c =
+    let run = c .before .before .before .before .before .before .before .before .before in
+    omega (arith, run .run-length .ensures .2, run .before .loop-test .taken)
 
 loop-less : tie.Need-loop-less Inv-loop μ-loop
-loop-less c = omega (arith, c .before .before .before .before .before .before .before .before .before .run-length .ensures .0, c .before .before .before .before .before .before .before .before .before .run-length .ensures .2, c .before .before .before .before .before .before .before .before .before .before .loop-test .taken)
+loop-less c =
+    let run = c .before .before .before .before .before .before .before .before .before in
+    omega (arith, run .run-length .ensures .0, run .run-length .ensures .2, run .before .loop-test .taken)
 
 loop-again : tie.Need-loop-again Inv-loop μ-loop
 loop-again c =
-    let run = c .before .before .before .before .before .before .put-run .ensures in
     let stored = c .before .before .store .ensures in
-    let l = c .before .before .before .before .before .before .before .before .before .before .before .loop in
-    let a = c .before .before .before .before .before .before .before .before .before .before .before .before .before .before .args in (
-      omega (arith, c .before .before .before .before .before .before .before .before .before .run-length .ensures .2, c .before .before .before .before .before .before .before .before .before .before .loop-test .taken),
+    let put = c .before .before .before .before .before .before in
+    let run = put .put-run .ensures in
+    let length = put .before .before .before in
+    let l = length .before .before .loop in
+    let a = length .before .before .before .before .before .args in (
+      omega (arith, length .run-length .ensures .2, length .before .loop-test .taken),
       stored .long ∙ l .inv .1,
       right-more (a .words .now) (a .motion .now) (a .refs .now) (a .columns) _ _ _ _ _ _ (l .inv .2) stored (run .0 (l .inv .2)),
       run .1 ∙ l .inv .3,
@@ -72,5 +79,6 @@ returns c =
 pub fill-spec : {M : Type 1} → statement M
 fill-spec =
     tie.close
-    (tie.spec Inv-loop μ-loop loop-holds rem-x (λ c. omega (arith, c .loop-test .taken)) run-length-requires (λ c. sym (c .before .before .before .before .loop .inv .3)) put-run-requires slice-aggregate-store store-requires
+    (tie.spec Inv-loop μ-loop loop-holds rem-x (λ c. omega (arith, c .loop-test .taken)) run-length-requires
+    (λ c. sym (c .before .before .before .before .loop .inv .3)) put-run-requires slice-aggregate-store store-requires
     add-k loop-less loop-again (λ c. c .before .loop .inv .1) returns)

@@ -38,4 +38,5 @@ returns c = let l = c .before .loop in record { long = l .inv .0 .long; at = λ 
 pub put-joined-spec : {M : Type 1} → statement M
 put-joined-spec =
     tie.close
-    (tie.spec Inv-loop μ-loop loop-holds (λ c. omega arith) mul-bytes (λ c. omega arith) add-bytes slice-write-bytes (λ c. omega arith) (λ c. omega arith) loop-again (λ c. c .before .loop .inv .0 .long) returns)
+    (tie.spec Inv-loop μ-loop loop-holds (λ c. omega arith) mul-bytes (λ c. omega arith) add-bytes slice-write-bytes (λ c. omega arith) (λ c. omega arith) loop-again
+    (λ c. c .before .loop .inv .0 .long) returns)

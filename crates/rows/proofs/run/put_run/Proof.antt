@@ -20,7 +20,9 @@ returns c =
     let a = branch .before .before .before .before .before .args in (
       (λ r. record {
         long = z .long;
-        at = λ j h. z .at j h ∙ sym (intra-byte (a .words .now) (a .motion .now) (a .refs .now) (a .columns) (a .k + j) (scan-at _ (a .n) j h (sym (branch .before .all-intra .ensures) ∙ branch .if1 .taken)));
+        at = λ j h.
+            z .at j h ∙ sym (intra-byte (a .words .now) (a .motion .now) (a .refs .now) (a .columns) (a .k + j)
+            (scan-at _ (a .n) j h (sym (branch .before .all-intra .ensures) ∙ branch .if1 .taken)));
       }),
       z .long,
     )

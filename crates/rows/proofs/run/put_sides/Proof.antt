@@ -16,7 +16,8 @@ use Rattle.rows.proofs.run.put_sides.Tie as tie
 -- both calls find their runs in the maps
 lefts : (c : tie.After-clear-first) →
     let a = c .before .before .before .before .before .before .before .before .before .before .args in
-    FirstOf (λ (j : ℕ). rowBy (a .words .now) (a .motion .now) (a .refs .now) (a .k + j) (a .k - 1 + j)) (a .n) (replicate 128 0) (c .before .before .before .before .before .before .rows-at .last .1 .1 .1 .1 .1 .1 .0)
+    FirstOf (λ (j : ℕ). rowBy (a .words .now) (a .motion .now) (a .refs .now) (a .k + j) (a .k - 1 + j)) (a .n) (replicate 128 0)
+    (c .before .before .before .before .before .before .rows-at .last .1 .1 .1 .1 .1 .1 .0)
 lefts c =
     let s = c .before .before .before .before .before .before .before .before .before .before in
     let a = s .args in
@@ -27,7 +28,8 @@ lefts c =
 
 tops : (c : tie.After-clear-first) →
     let a = c .before .before .before .before .before .before .before .before .before .before .args in
-    FirstOf (λ (j : ℕ). rowBy (a .words .now) (a .motion .now) (a .refs .now) (a .k + j) (a .k - a .columns + j)) (a .n) (replicate 128 0) (c .before .before .before .rows-at2 .last .1 .1 .1 .1 .1 .1 .0)
+    FirstOf (λ (j : ℕ). rowBy (a .words .now) (a .motion .now) (a .refs .now) (a .k + j) (a .k - a .columns + j)) (a .n) (replicate 128 0)
+    (c .before .before .before .rows-at2 .last .1 .1 .1 .1 .1 .1 .0)
 tops c =
     let s = c .before .before .before .before .before .before .before .before .before .before in
     let a = s .args in
@@ -61,8 +63,9 @@ put-joined-requires c κs =
     let a = s .args in
     let p = s .pre in
     let k = c .before .before .before .before in
+    let before-cleared = k .before .before .before .before .before .before in
     let few = edge-few (a .words .now) (a .motion .now) (a .refs .now) (a .columns) in (
-      omega (arith, p .3, long-cleared (a .x) (k .before .before .before .before .before .before .rows-at .last .1 .1 .1 .1 .1 .1 .0) (k .clear-first .last .1 .0) (k .clear-first .ensures), lefts k .long),
+      omega (arith, p .3, long-cleared (a .x) (before-cleared .rows-at .last .1 .1 .1 .1 .1 .1 .0) (k .clear-first .last .1 .0) (k .clear-first .ensures), lefts k .long),
       omega (arith, p .3, tops k .long),
       p .4,
       (λ j h. omega (arith, left-rows k j h, few vertical (a .k + j))),

@@ -27,4 +27,6 @@ returns c =
     record { long = l .inv .0 .long; kept = l .inv .0 .kept; new = λ i h. l .inv .0 .new i (omega (arith, c .loop-test .left)) }
 
 pub store-spec : {M : Type 1} → statement M
-store-spec = tie.close (tie.spec Inv-loop μ-loop loop-holds (λ c. omega arith) (λ c. omega arith) slice-write-rows (λ c. omega arith) (λ c. omega arith) loop-again (λ c. c .before .loop .inv .0 .long) returns)
+store-spec =
+    tie.close
+    (tie.spec Inv-loop μ-loop loop-holds (λ c. omega arith) (λ c. omega arith) slice-write-rows (λ c. omega arith) (λ c. omega arith) loop-again (λ c. c .before .loop .inv .0 .long) returns)
