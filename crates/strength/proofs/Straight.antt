@@ -1,4 +1,4 @@
--- Where the places of QP 0 and QP 51 in a table lie 51 apart, no sum between is clipped: the places follow one another.
+-- Where the places of QP 0 and QP 51 in a table lie 51 apart, those between follow one another.
 -- Assumes nothing.
 use Prim.Native.Nat.{ℕ, suc, _+_, _-_, _≤_, _<_}
 use mathlib.Core.Path.{_≡_, refl, sym, ap, _∙_}

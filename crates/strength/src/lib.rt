@@ -63,7 +63,7 @@ fn straight_qps(table: &[i8], first: usize) -> [u8; 52]
     qps
 }
 
-// The same where some QPs' sums are clipped, or the table does not reach so far.
+// The same for any offset and any table, each QP by itself.
 fn clipped_qps(table: &[i8], offset: i8) -> [u8; 52]
     ensures { λ r. ⌜ r ≡ mappedQps (now (table .entry)) offset ⌝ }
 {
@@ -77,7 +77,7 @@ fn clipped_qps(table: &[i8], offset: i8) -> [u8; 52]
 }
 
 // Those of a whole row. A table is looked up here and nowhere else: once for each QP, and not for each entry. Where the places of QP 0 and QP 51 lie 51
-// apart, no sum between is clipped.
+// apart, those between follow one another.
 fn mapped_qps(table: &[i8], offset: i8) -> [u8; 52]
     ensures { λ r. ⌜ r ≡ mappedQps (now (table .entry)) offset ⌝ }
 {
