@@ -116,7 +116,8 @@ module _ (l : List Edge) (few : length l ≤ 256) {out list : List ℕ} {r : ℕ
 
 -- ---- an edge's units lie in the maps
 
-pub edge-known : (d : Pass) {format : Format} {w h : ℕ} {y u v words : List ℕ} {over : Over} {t : List ℕ} (a b : ℕ) → LentPicture format w h y u v words over t → At d w h a b → Known d w words over a b
+pub edge-known : (d : Pass) {format : Format} {w h : ℕ} {y u v words : List ℕ} {over : Over} {t : List ℕ} (a b : ℕ)
+    → LentPicture format w h y u v words over t → At d w h a b → Known d w words over a b
 edge-known vertical {w} {h} a b f g =
     let k = spot vertical w h a b (f .wide) (f .high) g in
     record {

@@ -3,7 +3,6 @@
 --     none-q, none-p, both-there    the answer, by what the two tests found
 --     row-in    of two units of the maps it is the rule's
 --     alike    the same references and motion, and so row 3 by motion
---     unlike    references that differ both ways, and so row 2
 -- Assumes nothing.
 use Prim.Native.Nat.{ℕ, _+_, _*_, _/_, _<_}
 use mathlib.Core.Path.{_≡_, sym, ap, _∙_}
@@ -18,10 +17,9 @@ use Rattle.laws.specs.Call.{allOf}
 use Rattle.laws.proofs.Bools.{and-false}
 use Rattle.laws.proofs.Calls.{all-at}
 use Rattle.line.specs.Row.{eqZ, motionRow}
-use Rattle.line.specs.Row as line
 use Rattle.line.proofs.Rows.{eqZ-same, motion-self}
 use Rattle.df_rules.specs.Strength.{motionAt, rowBy}
-use Rattle.row.specs.Between.{inMaps, rowIn, sameRefs, crossedRefs, sameMotion, There}
+use Rattle.row.specs.Between.{inMaps, rowIn, sameRefs, sameMotion, There}
 
 module _ (words : List ℕ) (motion refs : List ℤ) where
   pub unit-there : (k : ℕ) → inMaps (length words) (length motion) (length refs) k ≡ true → There words motion refs k
@@ -77,8 +75,3 @@ alike motion refs q p r m er r₁ em m₁ =
     let same : motionAt motion refs q ≡ motionAt motion refs p =
     λ i. record { refi0 = refi₀ i; refi1 = refi₁ i; x0 = x₀ i; y0 = y₀ i; x1 = x₁ i; y1 = y₁ i } in
     sym (motion-self (motionAt motion refs q)) ∙ ap (motionRow (motionAt motion refs q)) same
-
-pub unlike : (motion refs : List ℤ) (q p : ℕ) (r x : Bool) → r ≡ sameRefs refs q p → r ≡ false → x ≡ crossedRefs refs q p → x ≡ false
-    → 2 ≡ motionRow (motionAt motion refs q) (motionAt motion refs p)
-unfolding sameRefs crossedRefs motionRow line.sameRefs
-unlike motion refs q p r x er r₀ ex x₀ = rw (sym er ∙ r₀, sym ex ∙ x₀)

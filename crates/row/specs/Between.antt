@@ -25,11 +25,7 @@ rowIn words motion refs q p =
 unfoldable pub sameRefs : (refs : List ℤ) → (q p : ℕ) → Bool
 sameRefs refs q p = allOf (eqZ (getD refs (2 * q) (pos 0)) (getD refs (2 * p) (pos 0)) ∷ eqZ (getD refs (2 * q + 1) (pos 0)) (getD refs (2 * p + 1) (pos 0)) ∷ [])
 
--- the same crosswise
-unfoldable pub crossedRefs : (refs : List ℤ) → (q p : ℕ) → Bool
-crossedRefs refs q p = allOf (eqZ (getD refs (2 * q) (pos 0)) (getD refs (2 * p + 1) (pos 0)) ∷ eqZ (getD refs (2 * q + 1) (pos 0)) (getD refs (2 * p) (pos 0)) ∷ [])
-
--- the units q and p have the same motion
+-- and the same motion
 unfoldable pub sameMotion : (motion : List ℤ) → (q p : ℕ) → Bool
 sameMotion motion q p =
     allOf

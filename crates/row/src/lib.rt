@@ -6,7 +6,7 @@ ghost use lib.Dec.{leb};
 ghost use lib.ListN.{length};
 ghost use Rattle.line.specs.Row.{eqZ, motionRow};
 ghost use Rattle.df_rules.specs.Strength.{motionAt, rowBy};
-ghost use Rattle.row.specs.Between.{inMaps, rowIn, sameRefs, crossedRefs, sameMotion, There};
+ghost use Rattle.row.specs.Between.{inMaps, rowIn, sameRefs, sameMotion, There};
 ghost use Rattle.row.specs.Runs.{runInMaps, runsIn, RunThere, withFirst, rowsPut};
 use def::get_cbfl;
 use def::get_if;
@@ -66,17 +66,7 @@ fn same_refs(refs: &[i8], q: usize, p: usize) -> bool
     same_ref(refs[a], refs[b]) & same_ref(refs[a + 1], refs[b + 1])
 }
 
-// Whether they are the same crosswise.
-fn crossed_refs(refs: &[i8], q: usize, p: usize) -> bool
-    requires { ⌜ (2 * q + 2 ≤ length (now refs)) × (2 * p + 2 ≤ length (now refs)) ⌝ }
-    ensures { λ r. ⌜ r ≡ crossedRefs (now (refs .entry)) q p ⌝ }
-{
-    let a = 2 * q;
-    let b = 2 * p;
-    same_ref(refs[a], refs[b + 1]) & same_ref(refs[a + 1], refs[b])
-}
-
-// Whether they have the same motion.
+// And the same motion.
 fn same_motion(motion: &[i16], q: usize, p: usize) -> bool
     requires { ⌜ (4 * q + 4 ≤ length (now motion)) × (4 * p + 4 ≤ length (now motion)) ⌝ }
     ensures { λ r. ⌜ r ≡ sameMotion (now (motion .entry)) q p ⌝ }
@@ -90,7 +80,7 @@ fn same_motion(motion: &[i16], q: usize, p: usize) -> bool
 }
 
 // The row of the edge between the units q and p of the maps. Most units of a station's pictures move as their neighbours do: their row is 3 by two comparisons.
-// And where the references differ both ways it is 2, whatever the motion.
+// The references are compared first, so that the compiler makes each of the two calls below it for references that are known to be equal in place, or not to be.
 fn row_between(words: &[u32], motion: &[i16], refs: &[i8], q: usize, p: usize) -> usize
     requires { ⌜ There (now words) (now motion) (now refs) q × There (now words) (now motion) (now refs) p ⌝ }
     ensures { λ r. ⌜ (r ≡ rowBy (now (words .entry)) (now (motion .entry)) (now (refs .entry)) q p) × (r ≤ 3) ⌝ }
@@ -104,9 +94,6 @@ fn row_between(words: &[u32], motion: &[i16], refs: &[i8], q: usize, p: usize) -
         return 1;
     }
     if !same_refs(refs, q, p) {
-        if !crossed_refs(refs, q, p) {
-            return 2;
-        }
         return by_motion(motion, refs, q, p);
     }
     if same_motion(motion, q, p) {

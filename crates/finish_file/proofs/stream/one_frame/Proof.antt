@@ -6,7 +6,9 @@ use Rattle.finish_file.proofs.stream.one_frame.Tie as tie
 
 -- as many bytes after both calls
 same-length-5 : tie.Need-same-length-5
-same-length-5 c = c .before .before .before .before .before .before .before .before .before .before .put-finished .kept .1 .1 .0 ∙ c .before .before .before .before .before .before .before .before .before .before .before .before .before .before .before .before .before .before .before .before .before .before .before .before .before .before .before .next-frame .kept .1 .1 .1 .0
+same-length-5 c =
+    let f = c .before .before .before .before .before .before .before .before .before .before in
+    f .put-finished .kept .1 .1 .0 ∙ f .before .before .before .before .before .before .before .before .before .before .before .before .before .before .before .before .before .next-frame .kept .1 .1 .1 .0
 
 pub one-frame-spec : {M : Type 1} → statement M
 one-frame-spec =

@@ -94,7 +94,8 @@ band-passes-requires c κs =
 add-after : tie.Need-add-after
 unfolding inputOf
 add-after c =
-    let s = c .before .before .before .before .before .before .before .before .before .before .before .before .before .before .before .before .before .before .before .before .before .before .before .before .before .before in
+    let t = c .before .before .before .before .before .before .before .before .before .before .before .before .before in
+    let s = t .before .before .before .before .before .before .before .before .before .before .before .before .before in
     next-fits (next-few (band-passed (inputOf s) (fine s)))
 
 returns : tie.Need-returns
