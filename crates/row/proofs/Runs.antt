@@ -13,17 +13,18 @@ use mathlib.Core.Bool.{Bool, true, false}
 use mathlib.Core.List.{List, [], _∷_}
 use native.Mathlib.Decide.{decLt}
 use native.Mathlib.Omega.{arith}
-use borrow.Author.Tests.{leb-true, le-leb, lt-leb, lt-ltb, le-ltb}
-use lib.Dec.{leb, ltb}
+use borrow.Author.Tests.{leb-true, le-leb, lt-leb}
+use lib.Dec.{leb}
 use lib.IntN.{ℤ}
 use lib.ListN.{length, getD}
 use Rattle.laws.specs.Index.{pick}
 use Rattle.laws.proofs.Calls.{all-at, all-fails}
 use Rattle.laws.proofs.Fill.{Upto}
-use Rattle.laws.proofs.Tabulate.{length-tabulate, getD-tabulate, is-tabulate}
+use Rattle.laws.specs.Plane.{withRow}
+use Rattle.laws.proofs.Planes.{rowed-all, length-row, getD-row, within-yes}
 use Rattle.df_rules.specs.Strength.{rowBy}
 use Rattle.row.specs.Between.{There}
-use Rattle.row.specs.Runs.{runInMaps, runsIn, RunThere, withFirst, rowsPut}
+use Rattle.row.specs.Runs.{runInMaps, runsIn, RunThere, rowsPut}
 
 pub fits-test : (u k n : ℕ) → n ≤ u → leb k (u - n) ≡ leb (k + n) u
 fits-test u k n h = go (decLt u (k + n)) where
@@ -69,12 +70,15 @@ module _ (words motion refs rows q p n : ℕ) where
   all-there h e f = rw (le-leb n rows h, e, f)
 
 -- a loop that has stored its first n
-pub first-all : (f : ℕ → ℕ) (n j : ℕ) (l₀ l : List ℕ) → Upto 0 f l₀ l j → n ≡ j → l ≡ withFirst f n l₀
-unfolding withFirst
-first-all f n j l₀ l u e = is-tabulate (λ (i : ℕ). pick (ltb i n) (f i) (getD l₀ i 0)) (length l₀) l 0 (u .long) (λ i h. go i (decLt i n)) where
-  go : (i : ℕ) → Dec (i < n) → getD l i 0 ≡ pick (ltb i n) (f i) (getD l₀ i 0)
-  go i (yes p) = rw (lt-ltb i n p) (u .below i (omega arith))
-  go i (no p) = rw (le-ltb i n (omega arith)) (u .above i (omega arith))
+pub first-all : (f : ℕ → ℕ) (n j : ℕ) (l₀ l : List ℕ) → Upto 0 f l₀ l j → n ≡ j → l ≡ withRow 0 0 n f l₀
+first-all f n j l₀ l u e =
+    rowed-all 0 0 n f l₀ l j (sym e)
+    (record { long = u .long; done = λ i h. ap (λ (k : ℕ). getD l k 0) (front i) ∙ u .below i h; low = λ k h. absurd (none k h); high = λ k h. u .above k (omega arith) }) where
+      none : (k : ℕ) → k < 0 → ⊥
+      none k h = omega arith
+
+      front : (i : ℕ) → 0 + i ≡ i
+      front i = omega arith
 
 module _ (words : List ℕ) (motion refs : List ℤ) (q p n : ℕ) (rows : List ℕ) where
   abbrev Tests : Bool
@@ -82,19 +86,18 @@ module _ (words : List ℕ) (motion refs : List ℤ) (q p n : ℕ) (rows : List 
 
   pub put-none : false ≡ Tests → rows ≡ rowsPut words motion refs q p n rows
   unfolding rowsPut
-  put-none e = λ i. pick (e i) (withFirst (λ (j : ℕ). rowBy words motion refs (q + j) (p + j)) n rows) rows
+  put-none e = λ i. pick (e i) (withRow 0 0 n (λ (j : ℕ). rowBy words motion refs (q + j) (p + j)) rows) rows
 
-  pub put-all : true ≡ Tests → withFirst (λ (j : ℕ). rowBy words motion refs (q + j) (p + j)) n rows ≡ rowsPut words motion refs q p n rows
+  pub put-all : true ≡ Tests → withRow 0 0 n (λ (j : ℕ). rowBy words motion refs (q + j) (p + j)) rows ≡ rowsPut words motion refs q p n rows
   unfolding rowsPut
-  put-all e = λ i. pick (e i) (withFirst (λ (j : ℕ). rowBy words motion refs (q + j) (p + j)) n rows) rows
+  put-all e = λ i. pick (e i) (withRow 0 0 n (λ (j : ℕ). rowBy words motion refs (q + j) (p + j)) rows) rows
 
   -- where all are there the first n are the rows
   pub rows-long : (l : List ℕ) → true ≡ Tests → l ≡ rowsPut words motion refs q p n rows → length l ≡ length rows
-  unfolding withFirst
-  rows-long l e f = ap length (f ∙ sym (put-all e)) ∙ length-tabulate _ (length rows)
+  rows-long l e f = ap length (f ∙ sym (put-all e)) ∙ length-row 0 0 n (λ (j : ℕ). rowBy words motion refs (q + j) (p + j)) rows
 
   pub rows-at : (l : List ℕ) → true ≡ Tests → l ≡ rowsPut words motion refs q p n rows → n ≤ length rows → (j : ℕ) → j < n → getD l j 0 ≡ rowBy words motion refs (q + j) (p + j)
-  unfolding withFirst
   rows-at l e f r j h =
+      let d : j - 0 ≡ j = omega arith in
       ap (λ (m : List ℕ). getD m j 0) (f ∙ sym (put-all e))
-      ∙ getD-tabulate (λ (i : ℕ). pick (ltb i n) (rowBy words motion refs (q + i) (p + i)) (getD rows i 0)) (length rows) j 0 (omega arith) ∙ rw (lt-ltb j n h)
+      ∙ getD-row 0 0 n (λ (i : ℕ). rowBy words motion refs (q + i) (p + i)) rows j (omega arith) ∙ rw (within-yes 0 n j (omega arith) (omega arith), d)

@@ -3,11 +3,12 @@
 use Prim.Native.Nat.{ℕ, _+_, _*_, _/_, _≤_}
 use mathlib.Core.Bool.{Bool}
 use mathlib.Core.List.{List, [], _∷_}
-use lib.Dec.{leb, ltb}
+use lib.Dec.{leb}
 use lib.IntN.{ℤ}
-use lib.ListN.{length, getD}
+use lib.ListN.{length}
 use Rattle.laws.specs.Call.{allOf}
-use Rattle.laws.specs.Index.{pick, tabulate}
+use Rattle.laws.specs.Index.{pick}
+use Rattle.laws.specs.Plane.{withRow}
 use Rattle.df_rules.specs.Strength.{rowBy}
 
 -- n from k on are units of maps of these lengths
@@ -24,11 +25,7 @@ pub record RunThere (words : List ℕ) (motion refs : List ℤ) (k n : ℕ) : Ty
   pub mv : 4 * (k + n) ≤ length motion
   pub refi : 2 * (k + n) ≤ length refs
 
--- a list with its first n those of f
-unfoldable pub withFirst : (ℕ → ℕ) → ℕ → List ℕ → List ℕ
-withFirst f n l = tabulate (length l) (λ (j : ℕ). pick (ltb j n) (f j) (getD l j 0))
-
 -- n rows, of n units from q on and those from p on, put into a list; it stays as it is where they are not all there
 unfoldable pub rowsPut : List ℕ → (motion refs : List ℤ) → (q p n : ℕ) → List ℕ → List ℕ
 rowsPut words motion refs q p n rows =
-    pick (runsIn (length words) (length motion) (length refs) (length rows) q p n) (withFirst (λ (j : ℕ). rowBy words motion refs (q + j) (p + j)) n rows) rows
+    pick (runsIn (length words) (length motion) (length refs) (length rows) q p n) (withRow 0 0 n (λ (j : ℕ). rowBy words motion refs (q + j) (p + j)) rows) rows

@@ -4,10 +4,11 @@ ghost use mathlib.Core.Path.{_≡_};
 ghost use Prim.Native.Nat.{ℕ, _+_, _*_, _≤_};
 ghost use lib.Dec.{leb};
 ghost use lib.ListN.{length};
+ghost use Rattle.laws.specs.Plane.{withRow};
 ghost use Rattle.line.specs.Row.{eqZ, motionRow};
 ghost use Rattle.df_rules.specs.Strength.{motionAt, rowBy};
 ghost use Rattle.row.specs.Between.{inMaps, rowIn, sameRefs, sameMotion, There};
-ghost use Rattle.row.specs.Runs.{runInMaps, runsIn, RunThere, withFirst, rowsPut};
+ghost use Rattle.row.specs.Runs.{runInMaps, runsIn, RunThere, rowsPut};
 use def::get_cbfl;
 use def::get_if;
 use line::Motion;
@@ -145,7 +146,7 @@ fn put_rows(
     rows: &mut [u8],
 )
     requires { ⌜ RunThere (now words) (now motion) (now refs) q n × RunThere (now words) (now motion) (now refs) p n × (n ≤ length (now rows)) ⌝ }
-    ensures { λ _. ⌜ now (rows .exit) ≡ withFirst (λ (j : ℕ). rowBy (now (words .entry)) (now (motion .entry)) (now (refs .entry)) (q + j) (p + j)) n (now (rows .entry)) ⌝ }
+    ensures { λ _. ⌜ now (rows .exit) ≡ withRow 0 0 n (λ (j : ℕ). rowBy (now (words .entry)) (now (motion .entry)) (now (refs .entry)) (q + j) (p + j)) (now (rows .entry)) ⌝ }
 {
     for j in 0..n {
         rows[j] = row_between(words, motion, refs, q + j, p + j) as u8;
