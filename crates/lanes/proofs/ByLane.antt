@@ -87,7 +87,8 @@ module _ (l : Layout) (s : Spread l) where
   pub lane-of : (t st : List ℕ) (k : ℕ) → k < 8 → laneOf l (lanesOf l t st) k ≡ became l t st k
   unfolding nth
   lane-of t st k h =
-      let at : (n i : ℕ) → i < 32 → l .lane i ≡ k → l .sample i ≡ n → getD (lanesOf l t st) i 0 ≡ nth n (became l t st k) = λ n i g e f. in-place l t st i g ∙ (λ j. nth (f j) (became l t st (e j))) in
+      let at : (n i : ℕ) → i < 32 → l .lane i ≡ k → l .sample i ≡ n → getD (lanesOf l t st) i 0 ≡ nth n (became l t st k) =
+      λ n i g e f. in-place l t st i g ∙ (λ j. nth (f j) (became l t st (e j))) in
       let g = s .inside k h in
       let e = s .of-lane k h in
       let f = s .of-sample k h in

@@ -8,7 +8,8 @@ use Rattle.finish_file.proofs.stream.one_frame.Tie as tie
 same-length-5 : tie.Need-same-length-5
 same-length-5 c =
     let f = c .before .before .before .before .before .before .before .before .before .before in
-    f .put-finished .kept .1 .1 .0 ∙ f .before .before .before .before .before .before .before .before .before .before .before .before .before .before .before .before .before .next-frame .kept .1 .1 .1 .0
+    let r = f .before .before .before .before .before .before .before .before .before .before .before .before .before .before .before .before .before in
+    f .put-finished .kept .1 .1 .0 ∙ r .next-frame .kept .1 .1 .1 .0
 
 pub one-frame-spec : {M : Type 1} → statement M
 one-frame-spec =
