@@ -90,6 +90,10 @@ use Rattle.decoder.proofs.lanes_by_halves.Kinds as lanes-by-halves-kind
 use Rattle.decoder.proofs.lanes_by_halves.Reads as lanes-by-halves-reads
 use Rattle.decoder.proofs.motion_row.Kinds as motion-row-kinds
 use Rattle.decoder.proofs.motion_row.Reads as motion-row-reads
+use Rattle.decoder.proofs.place_at.Kinds as place-at-kinds
+use Rattle.decoder.proofs.place_at.Reads as place-at-reads
+use Rattle.decoder.proofs.marks_at.Kinds as marks-at-kinds
+use Rattle.decoder.proofs.marks_at.Reads as marks-at-reads
 use Rattle.decoder.proofs.row_at.Kinds as row-at-kinds
 use Rattle.decoder.proofs.row_at.Reads as row-at-reads
 use Rattle.decoder.proofs.rows_at.Kinds as rows-at-kinds
@@ -204,6 +208,12 @@ entries-once κs a r r′ x x′ p q = p ∙ sym q
 
 pub motion-row-once : Sole 0 motion-row-kinds.ps motion-row-kinds.r motion-row-reads.Post (λ κs r x. r)
 motion-row-once κs a r r′ x x′ p q = p .0 ∙ sym (q .0)
+
+pub place-at-once : Sole 4 place-at-kinds.ps place-at-kinds.r place-at-reads.Post (λ κs r x. r)
+place-at-once κs a r r′ x x′ p q = p ∙ sym q
+
+pub marks-at-once : Sole 1 marks-at-kinds.ps marks-at-kinds.r marks-at-reads.Post (λ κs r x. r)
+marks-at-once κs a r r′ x x′ p q = p ∙ sym q
 
 pub row-at-once : Sole 3 row-at-kinds.ps row-at-kinds.r row-at-reads.Post (λ κs r x. r)
 row-at-once κs a r r′ x x′ p q = p .0 ∙ sym (q .0)

@@ -10,7 +10,7 @@
 //     7 driver          reconstruct; checked_leaves, coded_y, coded_u, coded_v, mode_of, word_of
 //     8 walk            leaves, check, visiting_rank, list_edges; root_leaves, root_list, list_marks, take_marks, mark_place, mark_byte, root_count
 //       deblocking      deblock; Bands::first, deblock_band; checked, checked_band, band_rows, rows_above, entries, mask_of, line, lanes,
-//                       lanes_by_halves, motion_row
+//                       lanes_by_halves, motion_row, place_at, marks_at
 //       edge rows       fill_rows, set_motion, set_flag, deblock_by_rows; row_at, rows_at, rows_right
 //     the sheet         read, listing
 //     the compact map   put_map, get_map; take_map; write_to, write_map, read_from, read_map; get_bit, put_bit
@@ -18,7 +18,7 @@
 //     streams           read_header, write_header, read_frame, write_frame, import_frame
 // Inside are those that a caller needs none of. They are public because another crate calls them, and total like the rest: checked_points, start_qp, delta_in,
 // delta_out, checked_leaves, coded_y, coded_u, coded_v, mode_of, word_of, roots_along, root_leaves, root_list, list_marks, take_marks, mark_place, mark_byte, root_count, checked,
-// checked_band, entries, mask_of, line, lanes, lanes_by_halves, motion_row, rows_at, read.
+// checked_band, entries, mask_of, line, lanes, lanes_by_halves, motion_row, place_at, marks_at, rows_at, read.
 pub use avail::Avail;
 pub use avail::Neighbours;
 pub use avail::get_avail_inter;
@@ -71,6 +71,8 @@ pub use driver_check::coded_v;
 pub use driver_check::coded_y;
 pub use driver_check::mode_of;
 pub use driver_check::word_of;
+pub use edge_place::marks_at;
+pub use edge_place::place_at;
 pub use edges::list_edges;
 pub use edges::root_list;
 pub use ipred::ipred_b;

@@ -38,7 +38,7 @@ use Rattle.df_check.specs.Rows.{rowsAbove}
 use Rattle.bands_rules.proofs.Lists.{Lies, list-in}
 use Rattle.bands_rules.proofs.Parts.{Keeps, finished-part, list-down}
 use Rattle.df.specs.Band as band
-use Rattle.df.specs.Plan.{entriesIn}
+use Rattle.strength.specs.Entries.{entriesIn}
 use Rattle.df.proofs.Entries.{by-format}
 use Rattle.df.proofs.Lengths.{stepOf, places-step}
 use Rattle.df.proofs.BandPassed.{BandPassed, band-passed, outcome-done}

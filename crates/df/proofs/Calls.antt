@@ -18,7 +18,7 @@ use Rattle.df_rules.specs.Filter.{Planes}
 use Rattle.df_rules.specs.Lent.{LentPicture, BothPasses}
 use Rattle.split.specs.Accepted.{Accepted}
 use Rattle.df.specs.Deblock.{Input, Reading, readingOf, checked, check, passEdges, mapsOf, outcome}
-use Rattle.df.specs.Plan.{entriesIn}
+use Rattle.strength.specs.Entries.{entriesIn}
 use Rattle.df.specs.declared.Deblocked.the-variants.{Done, Refused}
 use Rattle.df.proofs.Entries.{by-format}
 

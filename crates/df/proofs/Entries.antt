@@ -1,82 +1,32 @@
 -- The strength entries of a picture, by its format: filtering by them is filtering by the lent strengths.
---     luma-long, luma-alone    luma's entries alone: they are 624, and at every place the lent strengths, where these are 208
---     lumas    and as they are written, into zeros
 --     entries-long    the entries of a format are 624
 --     by-format    both passes by the entries are both passes by the strengths, each plane at what its QPs are mapped to
 -- Assumes nothing.
-use Prim.Native.Nat.{ℕ, _*_, _≤_, _<_}
-use mathlib.Core.Logic.{_⊎_, inl, inr}
+use Prim.Native.Nat.{ℕ, _*_, _≤_}
 use mathlib.Core.Path.{_≡_, sym, ap, _∙_}
-use mathlib.Core.List.{List, [], List·Memᴰ}
-use native.Mathlib.Decide.{decLt}
-use native.Mathlib.Omega.{arith}
-use borrow.Author.Tests.{lt-ltb, le-ltb}
+use mathlib.Core.List.{List, List·Memᴰ}
 use lib.IntN.{ℤ}
-use lib.ListN.{length, getD, List·getD-eq-default}
-use Rattle.laws.proofs.Fill.{Upto}
-use Rattle.laws.proofs.Tabulate.{length-tabulate, getD-tabulate, is-tabulate}
+use lib.ListN.{length}
 use Rattle.def.specs.Formats.{inFormat}
 use Rattle.def.specs.declared.Component.the-variants.{Luma, Chroma}
 use Rattle.def.specs.declared.Format.{Format}
 use Rattle.def.specs.declared.Format.the-variants.{Grey, Colour}
 use Rattle.split.specs.Edges.{Pass, vertical, horizontal, Edge}
 use Rattle.strength.specs.ChromaQp.{mapped}
-use Rattle.strength.specs.Entries.{entriesOf}
+use Rattle.strength.specs.Entries.{lumaEntries, entriesOf, entriesIn}
 use Rattle.strength.proofs.Strengths as strengths
 use Rattle.df_rules.specs.Filter.{Planes, inY, inU, inV, filterAll, finished}
 use Rattle.df_rules.specs.Places.{unitQ, unitP}
 use Rattle.df_rules.specs.Strength.{Maps, rowAt, qpAt, strengthOf, strength}
 use Rattle.df_rules.proofs.Planes.{planes-finished, no-samples, finished-none}
 use Rattle.df_rules.proofs.Strengths.{row-few}
-use Rattle.df.specs.Plan.{lumaAt, lumaEntries, entriesIn}
-
--- ---- luma's entries alone
-
-module _ (strengths : List ℕ) where
-  low-at : (i : ℕ) → i < 208 → lumaAt strengths i ≡ getD strengths i 0
-  unfolding lumaAt
-  low-at i h = rw (lt-ltb i 208 h)
-
-  high-at : (i : ℕ) → 208 ≤ i → lumaAt strengths i ≡ 0
-  unfolding lumaAt
-  high-at i h = rw (le-ltb i 208 h)
-
-  luma-long : length (lumaEntries strengths) ≡ 624
-  unfolding lumaEntries
-  luma-long = length-tabulate (lumaAt strengths) 624
-
-  luma-at : (i : ℕ) → i < 624 → getD (lumaEntries strengths) i 0 ≡ lumaAt strengths i
-  unfolding lumaEntries
-  luma-at i h = getD-tabulate (lumaAt strengths) 624 i 0 h
-
-  -- at every place, also where there is none
-  luma-alone : length strengths ≡ 208 → (i : ℕ) → getD (lumaEntries strengths) i 0 ≡ getD strengths i 0
-  luma-alone long i = at (decLt i 208) (decLt i 624) where
-    at : Dec (i < 208) → Dec (i < 624) → getD (lumaEntries strengths) i 0 ≡ getD strengths i 0
-    at (yes p) q = luma-at i (omega arith) ∙ low-at i p
-    at (no p) (yes q) = luma-at i q ∙ high-at i (omega arith) ∙ sym (List·getD-eq-default strengths 0 (omega arith))
-    at (no p) (no q) = List·getD-eq-default (lumaEntries strengths) 0 (omega (arith, luma-long)) ∙ sym (List·getD-eq-default strengths 0 (omega arith))
-
-  -- i of the lent entries are written into zeros, all or 208
-  pub lumas : (l₀ l : List ℕ) (i : ℕ) → length l₀ ≡ 624 → ((k : ℕ) → k < 624 → getD l₀ k 0 ≡ 0) → i ≤ 208 → (208 ≤ i) ⊎ (length strengths ≤ i) →
-      Upto 0 (λ (k : ℕ). getD strengths k 0) l₀ l i → l ≡ lumaEntries strengths
-  unfolding lumaEntries
-  lumas l₀ l i long zeros few all u = is-tabulate (lumaAt strengths) 624 l 0 (u .long ∙ long) (λ k h. at k h (decLt k i) (decLt k 208)) where
-    rest : (k : ℕ) → k < 208 → i ≤ k → (208 ≤ i) ⊎ (length strengths ≤ i) → 0 ≡ getD strengths k 0
-    rest k p q (inl e) = absurd (omega arith)
-    rest k p q (inr e) = sym (List·getD-eq-default strengths 0 (omega arith))
-
-    at : (k : ℕ) → k < 624 → Dec (k < i) → Dec (k < 208) → getD l k 0 ≡ lumaAt strengths k
-    at k h (yes p) q = u .below k p ∙ sym (low-at k (omega arith))
-    at k h (no p) (yes q) = u .above k (omega arith) ∙ zeros k h ∙ rest k q (omega arith) all ∙ sym (low-at k q)
-    at k h (no p) (no q) = u .above k (omega arith) ∙ zeros k h ∙ sym (high-at k (omega arith))
 
 -- ---- the entries of a format
 
 module _ (lent : List ℕ) (tableU : List ℤ) (uOffset : ℤ) (tableV : List ℤ) (vOffset : ℤ) where
   pub entries-long : (f : Format) → length (entriesIn f lent tableU uOffset tableV vOffset) ≡ 624
   unfolding entriesIn
-  entries-long Grey = luma-long lent
+  entries-long Grey = strengths.luma-long lent
   entries-long Colour = strengths.entries-long lent tableU uOffset tableV vOffset
 
   module _ (m : Maps) (w : ℕ) (lists : Pass → List Edge) where
@@ -126,7 +76,7 @@ module _ (lent : List ℕ) (tableU : List ℤ) (uOffset : ℤ) (tableV : List �
 
     alone : length lent ≡ 208 → (at : ℕ → ℕ) (d : Pass) (e : Edge) → List·Memᴰ e (lists d) → strength m (lumaEntries lent) at d w e ≡ strength m lent at d w e
     unfolding strengthOf
-    alone long at d e i = ap (λ (k : ℕ). 4 * k) (luma-alone lent long _)
+    alone long at d e i = ap (λ (k : ℕ). 4 * k) (strengths.luma-alone lent long _)
 
     none : (a b : ℕ → ℕ) (xs : List ℕ) → length xs ≡ 0 → colours a xs ≡ colours b xs
     none a b xs e =

@@ -35,6 +35,8 @@ use Rattle.df_rules.proofs.Strengths.{row-few}
 use Rattle.bands_rules.proofs.Lists.{Lies}
 use Rattle.row.specs.Between.{There}
 use Rattle.rows.specs.Rule.{hasSide}
+use Rattle.edge_place.specs.Places.{placeIn, marksIn}
+use Rattle.edge_place.proofs.Units.{place-in, marks-in}
 use Rattle.rows.proofs.RightMap.{row-in-byte}
 use Rattle.rows.proofs.Sides.{column-of, row-of}
 use Rattle.df.specs.Plan.{edgeFrom, edgesFrom, placeAt, marksAt, maskBy, Planned, filterIn, Known, RowsLent, Says, PlaneOf, At}
@@ -222,6 +224,18 @@ unit-there u = record { word = u .word; mv = u .mv; refi = u .refi }
 pub byte-has-row : (d : Pass) (w : ℕ) (words : List ℕ) (motion refs : List ℤ) (rows : List ℕ) {q p k : ℕ} → RowsLent w words motion refs rows → hasSide d w k ≡ true
     → q ≡ k → p ≡ k - stepAcross d w → Says d words motion refs rows q p
 byte-has-row d w words motion refs rows {q} {p} {k} r s e f = rw (e, f) (λ l. row-in-byte words motion refs w d k _ (r k l) s)
+
+-- ---- what is answered for the units of an edge
+
+module _ (d : Pass) (w : ℕ) {words : List ℕ} {over : Over} (rows : List ℕ) (right : RowsLent w words (over .motion) (over .refs) rows)
+    {x y : ℕ} (k : Known d w words over x y) {q p : ℕ} (eq : q ≡ unitQ w (edge (x / 4) (y / 4))) (ep : p ≡ unitP d w (edge (x / 4) (y / 4))) where
+  pub place-known : placeIn d words (over .motion) (over .refs) rows q p ≡ placeAt (record { words = words; over = over }) d w (edge (x / 4) (y / 4))
+  place-known =
+      rw (eq, ep) (place-in d words (over .motion) (over .refs) rows _ _ (unit-there (k .q)) (unit-there (k .p))
+      (byte-has-row d w words (over .motion) (over .refs) rows right (k .side) refl refl) (k .q .qp))
+
+  pub marks-known : marksIn (over .keep) q p ≡ marksAt (record { words = words; over = over }) d w (edge (x / 4) (y / 4))
+  marks-known = rw (eq, ep) (marks-in (over .keep) _ _ (k .q-mark .few) (k .p-mark .few))
 
 pub known-as : {d : Pass} {w : ℕ} {words : List ℕ} {over : Over} {x y a b : ℕ} → x ≡ a → y ≡ b → Known d w words over a b → Known d w words over x y
 known-as e f k = rw (e, f) k

@@ -24,7 +24,6 @@ use Rattle.df_rules.specs.Lent.{Unit, Marked, AtUnit}
 use Rattle.df_rules.specs.Places.{stepAcross, unitQ, unitP}
 use Rattle.df_rules.specs.Strength.{Over, Maps, rowBy}
 use Rattle.df_rules.specs.Window.{Samples}
-use Rattle.strength.specs.Entries.{entriesOf}
 use Rattle.rows.specs.Rule.{hasSide, firstBit, ruleByte}
 use Rattle.split.specs.RootCall.{leafDown}
 
@@ -45,18 +44,6 @@ placeBy words motion refs q p = 52 * rowBy words motion refs q p + qpOf (getD wo
 
 abbrev pub placeAt : Maps → Pass → (w : ℕ) → Edge → ℕ
 placeAt m d w e = placeBy (m .words) (m .over .motion) (m .over .refs) (unitQ w e) (unitP d w e)
-
--- luma's entries alone: 0 at the places of the chroma planes
-unfoldable pub lumaAt : (strengths : List ℕ) → ℕ → ℕ
-lumaAt strengths i = pick (ltb i 208) (getD strengths i 0) 0
-
-unfoldable pub lumaEntries : (strengths : List ℕ) → List ℕ
-lumaEntries strengths = tabulate 624 (lumaAt strengths)
-
--- the entries of a picture: those of the three planes in colour, and luma's alone in grey
-unfoldable pub entriesIn : Format → (strengths : List ℕ) → (tableU : List ℤ) → (uOffset : ℤ) → (tableV : List ℤ) → (vOffset : ℤ) → List ℕ
-entriesIn Grey strengths tableU uOffset tableV vOffset = lumaEntries strengths
-entriesIn Colour strengths tableU uOffset tableV vOffset = entriesOf strengths tableU uOffset tableV vOffset
 
 -- ---- its keep marks, as one number: P's, and twice Q's
 

@@ -10,7 +10,8 @@ ghost use Rattle.df_rules.specs.Lent.{LentPicture};
 ghost use Rattle.split.specs.Accepted.{Accepted};
 ghost use Rattle.df_rules.specs.Visit.{allDone};
 ghost use Rattle.df.specs.Deblock as Deblock;
-ghost use Rattle.df.specs.Plan.{RowsLent, lumaEntries, entriesIn};
+ghost use Rattle.strength.specs.Entries.{entriesIn};
+ghost use Rattle.df.specs.Plan.{RowsLent};
 use crate::pass::deblock_pass;
 use crate::place::Pass;
 use def::Format;
@@ -37,33 +38,12 @@ pub enum Deblocked {
     Refused(Refusal),
 }
 
-// Luma's entries alone, at 52 * row + QP; 0 at the places of the chroma planes.
-fn luma_entries(strengths: &[u8]) -> [u8; 624]
-    ensures { λ r. ⌜ r ≡ lumaEntries (now (strengths .entry)) ⌝ }
-{
-    let mut list = [0u8; 624];
-    let n = if strengths.len() < 208 {
-        strengths.len()
-    } else {
-        208
-    };
-    let mut i = 0;
-    while i < n {
-        list[i] = strengths[i];
-        i += 1;
-    }
-    list
-}
-
-// The strength entries of both passes, at the settings' offsets. In a grey picture no chroma entry is read.
+// The strength entries of both passes, by the settings' format and offsets.
 pub(crate) fn entries_by(s: Settings, strengths: &[u8], table0: &[i8], table1: &[i8]) -> [u8; 624]
     ensures { λ r. ⌜ r ≡ entriesIn (s .format) (now (strengths .entry)) (now (table0 .entry)) (s .«u_offset») (now (table1 .entry)) (s .«v_offset») ⌝ }
 {
     let format = s.format;
-    match format {
-        Format::Grey => luma_entries(strengths),
-        Format::Colour => entries(strengths, table0, s.u_offset, table1, s.v_offset),
-    }
+    entries(format, strengths, table0, s.u_offset, table1, s.v_offset)
 }
 
 // Sets done in every unit.

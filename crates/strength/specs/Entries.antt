@@ -1,5 +1,5 @@
 -- The strength entries of a pass, one table for the three planes: the lent ones for luma, 52 a row in four rows, and as many for U and for V, each at the mapped QP.
--- A place that the lent entries do not have reads as 0.
+-- A grey picture has luma's alone. A place that the lent entries do not have reads as 0.
 -- Assumes nothing: these are definitions.
 use Prim.Native.Nat.{ℕ, _+_, _*_, _/_, _%_}
 use mathlib.Core.List.{List}
@@ -7,6 +7,8 @@ use lib.Dec.{ltb}
 use lib.IntN.{ℤ}
 use lib.ListN.{getD}
 use Rattle.laws.specs.Index.{pick, tabulate}
+use Rattle.def.specs.declared.Format.{Format}
+use Rattle.def.specs.declared.Format.the-variants.{Grey, Colour}
 use Rattle.strength.specs.ChromaQp.{mapped}
 
 -- a chroma plane's, in a row at a QP
@@ -26,3 +28,15 @@ entryAt strengths tableU uOffset tableV vOffset i =
 
 unfoldable pub entriesOf : (strengths : List ℕ) → (tableU : List ℤ) → (uOffset : ℤ) → (tableV : List ℤ) → (vOffset : ℤ) → List ℕ
 entriesOf strengths tableU uOffset tableV vOffset = tabulate 624 (entryAt strengths tableU uOffset tableV vOffset)
+
+-- luma's entries alone: 0 at the places of the chroma planes
+unfoldable pub lumaAt : (strengths : List ℕ) → ℕ → ℕ
+lumaAt strengths i = pick (ltb i 208) (getD strengths i 0) 0
+
+unfoldable pub lumaEntries : (strengths : List ℕ) → List ℕ
+lumaEntries strengths = tabulate 624 (lumaAt strengths)
+
+-- the entries of a picture: those of the three planes in colour, and luma's alone in grey
+unfoldable pub entriesIn : Format → (strengths : List ℕ) → (tableU : List ℤ) → (uOffset : ℤ) → (tableV : List ℤ) → (vOffset : ℤ) → List ℕ
+entriesIn Grey strengths tableU uOffset tableV vOffset = lumaEntries strengths
+entriesIn Colour strengths tableU uOffset tableV vOffset = entriesOf strengths tableU uOffset tableV vOffset

@@ -6,7 +6,8 @@ ghost use Prim.Native.Nat.{ℕ, _+_, _≤_, _<_};
 ghost use lib.ListN.{length, getD};
 ghost use Rattle.laws.specs.Plane.{withRow};
 ghost use Rattle.strength.specs.ChromaQp.{indexOf, heldQp, mapped, mappedQps, straightQps};
-ghost use Rattle.strength.specs.Entries.{rowsBy, entriesOf};
+ghost use Rattle.strength.specs.Entries.{rowsBy, entriesOf, lumaEntries, entriesIn};
+use def::Format;
 
 // ---- a chroma QP
 
@@ -165,15 +166,11 @@ fn put_v_rows(list: &mut [u8], u: &[u8; 52], v: &[u8; 52])
     put_rows(list, 416, v);
 }
 
-// Luma's entries at 52 * row + QP, then U's and V's.
-pub fn entries(
-    strengths: &[u8],
-    table_u: &[i8],
-    u_offset: i8,
-    table_v: &[i8],
-    v_offset: i8,
-) -> [u8; 624]
-    ensures { λ r. ⌜ r ≡ entriesOf (now (strengths .entry)) (now («table_u» .entry)) «u_offset» (now («table_v» .entry)) «v_offset» ⌝ }
+// ---- the table
+
+// Luma's entries alone, at 52 * row + QP; 0 at the places of the chroma planes.
+fn luma_entries(strengths: &[u8]) -> [u8; 624]
+    ensures { λ r. ⌜ r ≡ lumaEntries (now (strengths .entry)) ⌝ }
 {
     let mut list = [0u8; 624];
     let n = if strengths.len() < 208 {
@@ -186,9 +183,40 @@ pub fn entries(
         list[i] = strengths[i];
         i += 1;
     }
+    list
+}
+
+// Luma's entries, then U's and V's.
+fn colour_entries(
+    strengths: &[u8],
+    table_u: &[i8],
+    u_offset: i8,
+    table_v: &[i8],
+    v_offset: i8,
+) -> [u8; 624]
+    ensures { λ r. ⌜ r ≡ entriesOf (now (strengths .entry)) (now («table_u» .entry)) «u_offset» (now («table_v» .entry)) «v_offset» ⌝ }
+{
+    let mut list = luma_entries(strengths);
     let u = mapped_qps(table_u, u_offset);
     put_rows(&mut list, 208, &u);
     let v = mapped_qps(table_v, v_offset);
     put_v_rows(&mut list, &u, &v);
     list
+}
+
+// The entries of a picture, by its format: in grey no chroma entry is read, and none is made.
+pub fn entries(
+    format: Format,
+    strengths: &[u8],
+    table_u: &[i8],
+    u_offset: i8,
+    table_v: &[i8],
+    v_offset: i8,
+) -> [u8; 624]
+    ensures { λ r. ⌜ r ≡ entriesIn format (now (strengths .entry)) (now («table_u» .entry)) «u_offset» (now («table_v» .entry)) «v_offset» ⌝ }
+{
+    match format {
+        Format::Grey => luma_entries(strengths),
+        Format::Colour => colour_entries(strengths, table_u, u_offset, table_v, v_offset),
+    }
 }

@@ -1,4 +1,4 @@
--- `df::luma_entries` meets its contract: after i turns i of the lent entries are written into zeros. Assumes nothing.
+-- `strength::luma_entries` meets its contract: after i turns i of the lent entries are written into zeros. Assumes nothing.
 use Prim.Native.Nat.{ℕ, _-_, _≤_}
 use mathlib.Core.Logic.{_⊎_, inl, inr, ⊎-elim}
 use mathlib.Core.Path.{refl}
@@ -7,9 +7,9 @@ use borrow.Author.Needs.{needs}
 use denote.Ref.{now}
 use lib.ListN.{length, getD, getD-replicate}
 use Rattle.laws.proofs.Fill.{Upto, upto-none, upto-more}
-use Rattle.df.proofs.Entries.{lumas}
-use Rattle.df.proofs.luma_entries.Statement.{statement}
-use Rattle.df.proofs.luma_entries.Tie as tie
+use Rattle.strength.proofs.Strengths.{lumas}
+use Rattle.strength.proofs.luma_entries.Statement.{statement}
+use Rattle.strength.proofs.luma_entries.Tie as tie
 
 abbrev Inv-loop : tie.InvT-loop
 Inv-loop strengths list₀ n i₀ list i =
