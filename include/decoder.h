@@ -77,7 +77,7 @@ enum {
     LOMSAKEUN_DONE = 0,
     LOMSAKEUN_SIZE = 1,     /* w or h is not a multiple of 4 from 4 to 4096 */
     LOMSAKEUN_LENGTH = 2,   /* a lent slice has the wrong length */
-    LOMSAKEUN_SETTING = 3,  /* the transform limit is not 5 or 6, an offset lies outside -12..12, or is not 0 in a grey picture, a stream's number outside 1..65535, or a grey picture */
+    LOMSAKEUN_SETTING = 3,  /* a transform limit other than 5 or 6; an offset outside -12..12, or not 0 in a grey picture; of a stream, a number outside 1..65535 or a grey picture */
     LOMSAKEUN_SPLIT = 4,    /* a split byte reached by the walk is not 0 or 1 */
     LOMSAKEUN_LEAF = 5,     /* a leaf reaches past the picture */
     LOMSAKEUN_QP = 6,       /* a luma QP above 51 */

@@ -24,7 +24,7 @@
 //! assert_eq!(ipred_b(0, 4, &run, &mut block), Err(Refusal::Sample));
 //! assert_eq!(block, [101; 16]);
 //!
-//! // The edges of a picture of 16 by 8: its 64 block, the two 32 and 16 blocks in it and the left 8 block are cut.
+//! // The edges of a picture of 16 by 8: its blocks of 64, 32 and 16 at the corner are cut, and so is the left block of 8.
 //! let mut splits = [0u8; 1024];
 //! splits[136] = 1;
 //! splits[256 + 68] = 1;

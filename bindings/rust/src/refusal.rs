@@ -9,7 +9,7 @@ pub enum Refusal {
     Size = 1,
     /// A lent slice has the wrong length.
     Length = 2,
-    /// The transform limit is not 5 or 6, an offset lies outside -12..=12, a stream's number lies outside 1..=65535, or a picture is grey.
+    /// A transform limit other than 5 or 6; an offset outside -12..=12, or not 0 in a grey picture; of a stream, a number outside 1..=65535 or a grey picture.
     Setting = 3,
     /// A split byte reached by the walk is not 0 or 1.
     Split = 4,
