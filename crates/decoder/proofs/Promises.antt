@@ -14,7 +14,7 @@ use mathlib.Core.List.{List, [], _∷_, _++_, map}
 use denote.Ref.{RefT, now, ptr}
 use lib.Dec.{ltb, leb, eqb}
 use lib.IntN.{ℤ, pos, negsuc}
-use lib.ListN.{length, set, replicate, take}
+use lib.ListN.{length, set, replicate, take, drop}
 use Rattle.laws.proofs.Calls.{one-outcome}
 use Rattle.laws.specs.Bits.{fieldOf, withField}
 use Rattle.laws.specs.Call.{unless, allOf}
@@ -893,12 +893,14 @@ unfolding by-rows.outcome by-rows.check by-rows.rowsLengthOk by-rows.rowsOk righ
 deblock-by-rows-refusals =
     record {
       only = λ i. by-checks (λ o. o .reading .number) (deblock.refused (i .given)) (deblock.done (i .given)) with-rows (by-rows.check i) (λ r. refl) refl (by-rows-stop i);
-      shown = map (lending (1 ∷ [])) (filterings ++ (filtering 4 (root 1) 5 0 0 0 ∷ []));
+      shown = map (lending (1 ∷ 1 ∷ [])) (take 2 filterings) ++ map (lending (1 ∷ [])) (drop 2 filterings ++ (filtering 4 (root 1) 5 0 0 0 ∷ []));
       given = refl;
     }
 
--- a length that is neither is 2; no map and a right one are accepted
-pub deblock-by-rows-numbers : map (λ (rows : List ℕ). by-rows.outcome (lending rows (filtering 4 (root 1) 5 0 0 0)) .reading .number) ((0 ∷ 0 ∷ []) ∷ [] ∷ (0 ∷ []) ∷ []) ≡ 2 ∷ 0 ∷ 0 ∷ []
+-- a length that is neither is 2, also where all that comes after the lengths is bad; no map and a right one are accepted
+pub deblock-by-rows-numbers : map (λ (i : by-rows.Input). by-rows.outcome i .reading .number)
+    (lending (1 ∷ 1 ∷ []) (filtering 4 (root 2) 7 2 3407872 1024) ∷ map (λ (rows : List ℕ). lending rows (filtering 4 (root 1) 5 0 0 0)) ((0 ∷ 0 ∷ []) ∷ [] ∷ (0 ∷ []) ∷ []))
+    ≡ 2 ∷ 2 ∷ 0 ∷ 0 ∷ []
 unfolding by-rows.outcome by-rows.check by-rows.rowsLengthOk by-rows.rowsOk rightOk checkMaps lengthsOk rightBytes ruleByte edgeRow withField checks.checkOf
     checks.fromLengths checks.lengthsOk checks.settingsOk checks.offsetOk checks.keepOk checks.qpsOk checks.planesOk list.limitOk sizeOk walk
     byByte inTurn onward leafWalk samplesOk allBelow fieldOf
@@ -1057,7 +1059,7 @@ sheet-refusals =
           ∷ sheet-of (52 ∷ []) (55 ∷ []) sourceEdge []
           ∷ sheet-of (52 ∷ []) (54 ∷ []) sourceEdge []
           ∷ sheet-of (52 ∷ []) (54 ∷ []) ownEdge []
-          ∷ sheet-of (52 ∷ []) (54 ∷ []) ownEdge (48 ∷ [])
+          ∷ sheet-of (52 ∷ []) (54 ∷ []) ownEdge (48 ∷ 48 ∷ [])
           ∷ sheet-of (52 ∷ []) (54 ∷ []) ownEdge (49 ∷ 49 ∷ 49 ∷ 49 ∷ 48 ∷ [])
           ∷ [];
       given = refl;

@@ -20,11 +20,11 @@ use def::Component;
 use def::Format;
 use def::Pel;
 use def::pel2scu;
-use driver_check::coded_u;
-use driver_check::coded_v;
-use driver_check::coded_y;
-use driver_check::mode_of;
-use driver_check::word_of;
+use leaf_record::coded_u;
+use leaf_record::coded_v;
+use leaf_record::coded_y;
+use leaf_record::mode_of;
+use leaf_record::word_of;
 use split::Walked;
 
 // A root's place, in luma samples.

@@ -23,8 +23,8 @@ use Rattle.def.specs.declared.Answer.{Answer}
 use Rattle.def.specs.declared.Answer.the-variants.{Done, Refused}
 use Rattle.def.proofs.Answers.{number-some}
 use Rattle.def.proofs.Ladders.{passes}
-use Rattle.nbr.specs.Gather.{Around, Input, Outcome, runLength, runOf, lengthsOk, samplesOk, checkOf, check, refused, done, outcome}
-use Rattle.nbr.specs.Checks.{formOf, samplesCheck, gathered}
+use Rattle.nbr.specs.Gather.{Around, Input, Outcome, runLength, runOf, lengthsOk, samplesOk, samplesCheck, checkOf, check, refused, done, outcome}
+use Rattle.nbr.specs.Checks.{formOf, gathered}
 use Rattle.nbr.specs.Arms.{BlockOf, Lent}
 use Rattle.nbr.proofs.Runs.{lent-of, run-long, run-samples}
 

@@ -96,14 +96,20 @@ lengthTests c w h plane words = eqb plane (planeLength c w h) ∷ eqb words (uni
 unfoldable pub lengthsOk : Component → (w h plane words : ℕ) → Bool
 lengthsOk c w h plane words = allOf (lengthTests c w h plane words)
 
+-- the size, the block, and the lengths of the plane, the words and the run; then what is given
+abbrev pub formThen : Component → (w h x y side plane words run : ℕ) → Answer → Answer
+formThen c w h x y side plane words run last =
+    unless (sizeOk w h) (Refused Size)
+    (unless (lengthsOk c w h plane words) (Refused Length)
+    (unless (blockOk w h x y side) (Refused Block)
+    (unless (eqb run (runLength c side)) (Refused Length)
+    last)))
+
+abbrev pub samplesCheck : Around → Answer
+samplesCheck i = unless (samplesOk i) (Refused Sample) Done
+
 unfoldable pub checkOf : Around → ℕ → Answer
-checkOf i run =
-    unless (sizeOk (i .w) (i .h)) (Refused Size)
-    (unless (lengthsOk (i .component) (i .w) (i .h) (length (i .plane)) (length (i .words))) (Refused Length)
-    (unless (blockOk (i .w) (i .h) (i .x) (i .y) (i .side)) (Refused Block)
-    (unless (eqb run (runLength (i .component) (i .side))) (Refused Length)
-    (unless (samplesOk i) (Refused Sample)
-    Done))))
+checkOf i run = formThen (i .component) (i .w) (i .h) (i .x) (i .y) (i .side) (length (i .plane)) (length (i .words)) run (samplesCheck i)
 
 abbrev pub check : Input → Answer
 check i = checkOf (i .around) (length (i .run))

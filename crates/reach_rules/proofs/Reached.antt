@@ -16,7 +16,8 @@ use Rattle.def.specs.declared.Answer.{Answer}
 use Rattle.def.specs.declared.Answer.the-variants.{Done, Refused}
 use Rattle.def.specs.declared.Refusal.the-variants.{Split}
 use Rattle.laws.specs.Index.{pick}
-use Rattle.split.specs.Picture.{roots, rootBytes, rootX, rootY, rootWalk, rootLeaves, leavesOf, pictureWalk}
+use Rattle.split.specs.Edges.{edgesOf}
+use Rattle.split.specs.Picture.{roots, rootBytes, rootX, rootY, rootWalk, rootLeaves, leavesOf, pictureWalk, allLeaves}
 use Rattle.split.specs.Walk.{Leaf, Walk, met, nothing, onward, inTurn, leafWalk, byByte, place, part, walk}
 use Rattle.split.proofs.Walks.{not-done, both}
 use Rattle.reach_rules.specs.Reached.{nextReached, inTurnReached, reached, rootReached, pictureReached, AgreeAt, SameTree}
@@ -117,9 +118,13 @@ module _ (s t : List ℕ) (w h : ℕ) (o : AgreeAt (pictureReached s w h) s t) w
   leaves-upto zero e = refl
   leaves-upto (suc n) e = ap₂ _++_ (leaves-upto n (λ i l. e i (omega arith))) (ap (λ (v : Walk). v .list) (e n (omega arith)))
 
+  same-leaves : pictureWalk s w h .answer ≡ Done → allLeaves t w h ≡ allLeaves s w h
+  same-leaves e = leaves-upto (roots w h) (same-each agree (rootWalk s w h) (rootWalk t w h) (rootReached s w h) (same-root s t w h) (roots w h) o e)
+
   pub same-tree : SameTree s t w h
   same-tree =
       record {
         walk = same-in-turn agree (rootWalk s w h) (rootWalk t w h) (rootReached s w h) (same-root s t w h) (roots w h) o;
-        leaves = λ e. leaves-upto (roots w h) (same-each agree (rootWalk s w h) (rootWalk t w h) (rootReached s w h) (same-root s t w h) (roots w h) o e);
+        leaves = same-leaves;
+        edges = λ e d halved. ap (edgesOf d halved) (same-leaves e);
       }

@@ -1,6 +1,7 @@
 -- Which split bytes a walk reaches, by their places, in the order of the walk. A walk that is refused reaches none after that; other bytes are never read.
 -- Assumes nothing: these are definitions.
 use Prim.Native.Nat.{ℕ, zero, suc, _+_, _*_, _/_, _%_, _^_}
+use mathlib.Core.Bool.{Bool}
 use mathlib.Core.List.{List, [], _∷_, _++_, List·Memᴰ, map}
 use mathlib.Core.Path.{_≡_}
 use lib.Dec.{ltb}
@@ -51,3 +52,4 @@ AgreeAt l s t = (p : ℕ) → List·Memᴰ p l → getD t p 0 ≡ getD s p 0
 pub record SameTree (s t : List ℕ) (w h : ℕ) : Type 0 where
   pub walk : pictureWalk t w h ≡ pictureWalk s w h
   pub leaves : pictureWalk s w h .answer ≡ Done → allLeaves t w h ≡ allLeaves s w h
+  pub edges : pictureWalk s w h .answer ≡ Done → (d : Pass) (halved : Bool) → edgeList d halved t w h ≡ edgeList d halved s w h

@@ -13,17 +13,18 @@ use Rattle.bits.specs.Bits.{bitsFrom, withBits}
 use Rattle.bits.proofs.Laws.{bits-back}
 use Rattle.laws.specs.Index.{tabulate}
 use Rattle.laws.proofs.Tabulate.{is-tabulate}
+use Rattle.def.specs.Picture.{rootsAlong, rootCount}
 use Rattle.sheet_lines.specs.Lines.{binary}
 use Rattle.sheet_lines.proofs.Reading.{byte-at}
 use Rattle.split.specs.Picture.{across, roots}
 use Rattle.sheet.specs.Descent.{valuesOf}
 use Rattle.sheet.specs.Taken.{Sides}
 
-pub count-roots : (w h : ℕ) → Sides w h → ((w + 63) / 64 * ((h + 63) / 64) ≡ roots (w / 4) (h / 4)) × ((w + 63) / 64 * ((h + 63) / 64) ≤ 16)
+pub count-roots : (w h : ℕ) → Sides w h → (rootCount w h ≡ roots (w / 4) (h / 4)) × (rootCount w h ≤ 16)
 count-roots w h s =
-    let a : (w + 63) / 64 ≡ across (w / 4) = omega arith in
-    let b : (h + 63) / 64 ≡ across (h / 4) = omega arith in
-    let m : (w + 63) / 64 * ((h + 63) / 64) ≤ 4 * ((h + 63) / 64) = mul-le-mul-right _ (omega arith) in
+    let a : rootsAlong w ≡ across (w / 4) = omega arith in
+    let b : rootsAlong h ≡ across (h / 4) = omega arith in
+    let m : rootCount w h ≤ 4 * rootsAlong h = mul-le-mul-right _ (omega arith) in
     (ap₂ _*_ a b, omega arith)
 
 -- ---- the digits as bits

@@ -1,8 +1,8 @@
--- `driver_check::records::word_of` meets its contract: the flags are the record's. Assumes nothing.
+-- `leaf_record::word_of` meets its contract: the flags are the record's. Assumes nothing.
 use mathlib.Core.Path.{_∙_}
 use borrow.Author.Needs.{needs}
-use Rattle.driver_check.proofs.records.word_of.Statement.{statement}
-use Rattle.driver_check.proofs.records.word_of.Tie as tie
+use Rattle.leaf_record.proofs.word_of.Statement.{statement}
+use Rattle.leaf_record.proofs.word_of.Tie as tie
 
 returns : tie.Need-returns
 returns c = c .leaf-word .ensures ∙ rw (c .before .coded-y .ensures)

@@ -1,8 +1,8 @@
--- `driver_check::records::mode_of` meets its contract: a mode's own number, and else 255. Assumes nothing.
+-- `leaf_record::mode_of` meets its contract: a mode's own number, and else 255. Assumes nothing.
 use native.Mathlib.Omega.{arith}
 use borrow.Author.Tests.{le-leb, lt-leb}
-use Rattle.driver_check.proofs.records.mode_of.Statement.{statement}
-use Rattle.driver_check.proofs.records.mode_of.Tie as tie
+use Rattle.leaf_record.proofs.mode_of.Statement.{statement}
+use Rattle.leaf_record.proofs.mode_of.Tie as tie
 
 returns : tie.Need-returns
 returns c = rw (le-leb (c .before .args .kind) 4 (omega (arith, c .if1 .taken)))

@@ -1,12 +1,12 @@
--- `driver_check::records::coded_y` meets its contract: the flag at its place. Assumes nothing.
+-- `leaf_record::coded_y` meets its contract: the flag at its place. Assumes nothing.
 use Prim.Native.Nat.{ℕ, _%_}
 use mathlib.Core.Path.{sym, ap}
 use native.Mathlib.Nat.{div-one}
 use lib.Dec.{eqb}
 use Rattle.laws.specs.Bits.{fieldOf}
 use Rattle.def.specs.Word.{flagAt}
-use Rattle.driver_check.proofs.records.coded_y.Statement.{statement}
-use Rattle.driver_check.proofs.records.coded_y.Tie as tie
+use Rattle.leaf_record.proofs.coded_y.Statement.{statement}
+use Rattle.leaf_record.proofs.coded_y.Tie as tie
 
 returns : tie.Need-returns
 unfolding flagAt fieldOf

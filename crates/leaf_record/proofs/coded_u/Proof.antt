@@ -1,9 +1,9 @@
--- `driver_check::records::coded_u` meets its contract: the flag at its place. Assumes nothing.
+-- `leaf_record::coded_u` meets its contract: the flag at its place. Assumes nothing.
 use mathlib.Core.Path.{refl}
 use Rattle.laws.specs.Bits.{fieldOf}
 use Rattle.def.specs.Word.{flagAt}
-use Rattle.driver_check.proofs.records.coded_u.Statement.{statement}
-use Rattle.driver_check.proofs.records.coded_u.Tie as tie
+use Rattle.leaf_record.proofs.coded_u.Statement.{statement}
+use Rattle.leaf_record.proofs.coded_u.Tie as tie
 
 returns : tie.Need-returns
 unfolding flagAt fieldOf
