@@ -220,20 +220,18 @@ fn opened(asked: Asked, file: i32) -> u8 {
 
 // ---- the call
 
-fn help() {
-    say::line(
-        b"usage: finish (--sheet FILE | --digits FILE | --map FILE) --qp N [OPTION..] [STREAM]",
-    );
-    say::line(
-        b"Deblocks every frame of a YUV4MPEG2 stream of 10 bits (C420p10) and writes it as a stream to standard output.",
-    );
-    say::line(b"Every unit counts as intra, and chroma has luma's QP.");
+// Which options name the split tree and the QP.
+fn help_needed() {
     say::line(
         b"--sheet FILE      the split tree as a sheet, of a picture up to 256 by 256; the transform limit is the sheet's",
     );
     say::line(b"--digits FILE     the split tree by its digits, as bin/splitpack writes it");
     say::line(b"--map FILE        the split tree by its map, 1,024 bytes a root");
     say::line(b"--qp N            0 to 51");
+}
+
+// Which may be left out.
+fn help_more() {
     say::line(b"--limit N         the transform limit, 5 or 6; 6 where it is not given");
     say::line(b"--strengths FILE  208 strength entries, instead of the baseline's");
     say::line(
@@ -246,6 +244,18 @@ fn help() {
     say::line(
         b"--moved           tells how many samples moved, by how much at most, and how far any can",
     );
+}
+
+fn help() {
+    say::line(
+        b"usage: finish (--sheet FILE | --digits FILE | --map FILE) --qp N [OPTION..] [STREAM]",
+    );
+    say::line(
+        b"Deblocks every frame of a YUV4MPEG2 stream of 10 bits (C420p10) and writes it as a stream to standard output.",
+    );
+    say::line(b"Every unit counts as intra, and chroma has luma's QP.");
+    help_needed();
+    help_more();
     say::line(b"STREAM            the stream, instead of standard input");
     say::line(b"status: 0 done, 1 refused, 2 bad usage or a failure of input or output");
 }
