@@ -9,7 +9,7 @@ ghost use Rattle.df_rules.specs.Lent.{Unit, Marked};
 ghost use Rattle.df_rules.specs.Places.{stepAcross, unitQ, unitP};
 ghost use Rattle.df.specs.Edges.{passOf};
 ghost use Rattle.df_rules.specs.Strength.{rowBy};
-ghost use Rattle.rows.specs.Rule.{firstBit};
+ghost use Rattle.rows_rules.specs.Rule.{firstBit};
 ghost use Rattle.df.specs.Plan.{placeBy, marksBy, Says, Knowns, Planned};
 use crate::place::Pass;
 use crate::place::step_across;
