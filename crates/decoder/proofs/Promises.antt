@@ -88,8 +88,8 @@ use Rattle.df_check.specs.Rows.{bandRows}
 use Rattle.df.specs.Band as band
 use Rattle.df.specs.ByRows as by-rows
 use Rattle.df.specs.Deblock as deblock
-use Rattle.rows.specs.Checks.{lengthsOk, checkMaps, rightOk}
-use Rattle.rows.specs.Rule.{edgeRow, ruleByte, rightBytes}
+use Rattle.rows_rules.specs.Checks.{lengthsOk, checkMaps, rightOk}
+use Rattle.rows_rules.specs.Rule.{edgeRow, ruleByte, rightBytes}
 use Rattle.df_laws.proofs.Apart.{reading-apart as deblocked-apart, banded-apart}
 use Rattle.sheet_lines.specs.Lines.{startOf, lineOf, startsWith, isNumber, numberLine, edgeLine, oldEdge, sameLine, splitsLine, numberAfter, valueFrom, lineOk, firstBad}
 use Rattle.sheet_lines.specs.Lines.{widthOf, heightOf, limitOf, oldOf, digitsOf}

@@ -1,33 +1,66 @@
 -- The calls of the map of edge rows: of each NAME-once and NAME-refusals, as in `Promises`; an input that each accepts; and what is proved of every such map.
 -- Assumes nothing.
 use Prim.Native.Nat.{ℕ}
-use mathlib.Core.Path.{_≡_, refl}
+use mathlib.Core.Path.{_≡_, refl, sym, _∙_}
 use mathlib.Core.Bool.{true}
 use mathlib.Core.List.{List, [], _∷_}
 use denote.Ref.{now}
 use lib.IntN.{pos, negsuc}
 use lib.ListN.{length, replicate}
+use Rattle.def.specs.Answers.{answerNumber}
 use Rattle.def.specs.Blocks.{unitOk}
 use Rattle.def.specs.Picture.{sizeOk}
+use Rattle.def.specs.declared.Answer.{Answer}
 use Rattle.def.specs.declared.Refusal.the-variants.{Size, Length, Block}
 use Rattle.def.proofs.Answers.{answer-apart}
 use Rattle.line.specs.declared.Motion.{Motion}
-use Rattle.rows.specs.Checks.{lengthsOk, checkMaps, checkUnit}
-use Rattle.rows.specs.FillCall as fill
-use Rattle.rows.specs.FlagCall as flag
-use Rattle.rows.specs.Held.{Kept}
-use Rattle.rows.specs.MotionCall as move
-use Rattle.rows.specs.declared.Flag.the-variants.{Coded}
-use Rattle.rows.proofs.Held.{kept}
+use Rattle.rows_rules.specs.Checks.{lengthsOk, checkMaps, checkUnit}
+use Rattle.rows_rules.specs.FillCall as fill
+use Rattle.rows_rules.specs.MotionCall as move
+use Rattle.unit_edits.specs.FlagCall as flag
+use Rattle.unit_edits.specs.declared.Flag.the-variants.{Coded}
+use Rattle.rows_laws.specs.Held.{Kept}
+use Rattle.rows_laws.proofs.Held.{kept}
 use Rattle.decoder.specs.Promise.{ended, Sole, Refuses}
 use Rattle.decoder.proofs.Settled.{settled}
 use Rattle.decoder.proofs.Refusing.{Stops, last, rung, by-checks}
+use Rattle.decoder.proofs.checked_maps.Kinds as checked-maps-kinds
+use Rattle.decoder.proofs.checked_maps.Reads as checked-maps-reads
 use Rattle.decoder.proofs.fill_rows.Kinds as fill-rows-kinds
 use Rattle.decoder.proofs.fill_rows.Reads as fill-rows-reads
 use Rattle.decoder.proofs.set_motion.Kinds as set-motion-kinds
 use Rattle.decoder.proofs.set_motion.Reads as set-motion-reads
 use Rattle.decoder.proofs.set_flag.Kinds as set-flag-kinds
 use Rattle.decoder.proofs.set_flag.Reads as set-flag-reads
+
+-- ---- the maps checked
+
+pub checked-maps-once : Sole 0 checked-maps-kinds.ps checked-maps-kinds.r checked-maps-reads.Post (λ κs r x. r)
+checked-maps-once κs a r r′ x x′ p q = p ∙ sym q
+
+maps-stop : (w h words motion refs rows : ℕ) → Stops (Size ∷ Length ∷ []) (checkMaps w h words motion refs rows)
+unfolding checkMaps
+maps-stop w h words motion refs rows = rung (sizeOk w h) Size _ (rung (lengthsOk w h words motion refs rows) Length _ last)
+
+-- a picture's size, and the lengths of its maps
+record Maps : Type 0 where
+  w : ℕ
+  h : ℕ
+  words : ℕ
+  motion : ℕ
+  refs : ℕ
+  rows : ℕ
+
+abbrev checking : Maps → Answer
+checking m = checkMaps (m .w) (m .h) (m .words) (m .motion) (m .refs) (m .rows)
+
+abbrev one-unit : ℕ → ℕ → Maps
+one-unit side rows = record { w = side; h = side; words = 1; motion = 4; refs = 2; rows = rows }
+
+pub checked-maps-refusals : Refuses checking answerNumber (Size ∷ Length ∷ [])
+unfolding checkMaps lengthsOk sizeOk
+checked-maps-refusals =
+    record { only = λ m. maps-stop (m .w) (m .h) (m .words) (m .motion) (m .refs) (m .rows) .by; shown = one-unit 0 0 ∷ one-unit 4 0 ∷ []; given = refl }
 
 -- ---- the map filled
 
@@ -44,8 +77,7 @@ fill-rows-refusals =
     record {
       only = λ i.
           by-checks (λ o. o .number) (fill.refused i) (fill.done i) (Size ∷ Length ∷ []) (fill.check i) (λ r. refl) refl
-          (rung (sizeOk (i .w) (i .h)) Size _
-          (rung (lengthsOk (i .w) (i .h) (length (i .words)) (length (i .motion)) (length (i .refs)) (length (i .rows))) Length _ last));
+          (maps-stop (i .w) (i .h) (length (i .words)) (length (i .motion)) (length (i .refs)) (length (i .rows)));
       shown = filling 0 [] ∷ filling 4 [] ∷ [];
       given = refl;
     }

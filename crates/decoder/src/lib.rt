@@ -11,14 +11,14 @@
 //     8 walk            leaves, check, visiting_rank, list_edges; root_leaves, root_list, list_marks, take_marks, mark_place, mark_byte, root_count
 //       deblocking      deblock; Bands::first, deblock_band; checked, checked_band, band_rows, rows_above, entries, mask_of, line, lanes,
 //                       lanes_by_halves, motion_row, place_at, marks_at
-//       edge rows       fill_rows, set_motion, set_flag, deblock_by_rows; row_at, rows_at, rows_right
+//       edge rows       fill_rows, set_motion, set_flag, deblock_by_rows; row_at, rows_at, rows_right, checked_maps
 //     the sheet         read, listing
 //     the compact map   put_map, get_map; take_map; write_to, write_map, read_from, read_map; get_bit, put_bit
 //     a torn map        mend
 //     streams           read_header, write_header, read_frame, write_frame, import_frame
 // Inside are those that a caller needs none of. They are public because another crate calls them, and total like the rest: checked_points, start_qp, delta_in,
 // delta_out, checked_leaves, coded_y, coded_u, coded_v, mode_of, word_of, roots_along, root_leaves, root_list, list_marks, take_marks, mark_place, mark_byte, root_count, checked,
-// checked_band, entries, mask_of, line, lanes, lanes_by_halves, motion_row, place_at, marks_at, rows_at, read.
+// checked_band, entries, mask_of, line, lanes, lanes_by_halves, motion_row, place_at, marks_at, rows_at, checked_maps, read.
 pub use avail::Avail;
 pub use avail::Neighbours;
 pub use avail::get_avail_inter;
@@ -111,11 +111,9 @@ pub use recon::recon;
 pub use recon::recon_plane;
 pub use row::row_at;
 pub use row::rows_at;
-pub use rows::Flag;
+pub use rows::checked_maps;
 pub use rows::fill_rows;
 pub use rows::rows_right;
-pub use rows::set_flag;
-pub use rows::set_motion;
 pub use samples::samples_ok;
 pub use sheet::Printed;
 pub use sheet::listing;
@@ -127,6 +125,9 @@ pub use split::check;
 pub use split::leaves;
 pub use split::root_leaves;
 pub use strength::entries;
+pub use unit_edits::Flag;
+pub use unit_edits::set_flag;
+pub use unit_edits::set_motion;
 pub use y4m::import_frame;
 pub use y4m_frame::FrameRead;
 pub use y4m_frame::read_frame;

@@ -5,7 +5,7 @@ use mathlib.Core.Path.{_≡_, ap, _∙_}
 use mathlib.Core.List.{List}
 use lib.IntN.{ℤ}
 use Rattle.line.specs.declared.Motion.{Motion}
-use Rattle.rows.specs.MotionCall.{Input, Outcome, outcome}
+use Rattle.rows_rules.specs.MotionCall.{Input, Outcome, outcome}
 
 -- the input with another motion
 abbrev with : Input → Motion → Input

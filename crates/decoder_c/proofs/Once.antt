@@ -15,9 +15,9 @@ use Rattle.pack_rules.specs.GetCall as getting
 use Rattle.pack_rules.specs.PutCall as putting
 use Rattle.rank.specs.RankCall as ranking
 use Rattle.recon.specs.Recon as recon
-use Rattle.rows.specs.FillCall as filling
-use Rattle.rows.specs.FlagCall as flagging
-use Rattle.rows.specs.MotionCall as moving
+use Rattle.rows_rules.specs.FillCall as filling
+use Rattle.rows_rules.specs.MotionCall as moving
+use Rattle.unit_edits.specs.FlagCall as flagging
 use Rattle.sheet.specs.Listing as printing
 use Rattle.split.specs.CheckCall as checking
 use Rattle.split.specs.LeavesCall as meeting

@@ -9,8 +9,8 @@ use Rattle.def.specs.declared.Format.{Format}
 use Rattle.def.specs.declared.Format.the-variants.{Grey, Colour}
 use Rattle.df_check.specs.declared.Settings.{Settings}
 use Rattle.line.specs.declared.Motion.{Motion}
-use Rattle.rows.specs.declared.Flag.{Flag}
-use Rattle.rows.specs.declared.Flag.the-variants.{Intra, Coded}
+use Rattle.unit_edits.specs.declared.Flag.{Flag}
+use Rattle.unit_edits.specs.declared.Flag.the-variants.{Intra, Coded}
 
 abbrev pub componentOf : Bool → Component
 componentOf true = Chroma

@@ -1,13 +1,13 @@
 // A map of edge rows, filled, and kept right by edits of single units.
 ghost use mathlib.Core.Path.{_≡_};
 ghost use Rattle.laws.specs.Call.{Gives};
-ghost use Rattle.rows.specs.FillCall as FillCall;
-ghost use Rattle.rows.specs.FlagCall as FlagCall;
-ghost use Rattle.rows.specs.MotionCall as MotionCall;
+ghost use Rattle.rows_rules.specs.FillCall as FillCall;
+ghost use Rattle.rows_rules.specs.MotionCall as MotionCall;
+ghost use Rattle.unit_edits.specs.FlagCall as FlagCall;
 ghost use Rattle.decoder_c.specs.Flags.{flagOf, motionOf};
 use def::Scu;
 use line::Motion;
-use rows::Flag;
+use unit_edits::Flag;
 
 // A bit of the unit word by its flag.
 fn flag_of(coded: bool) -> Flag
@@ -77,7 +77,7 @@ pub extern "C" fn lomsakeun_set_motion(
         })
         (record { number = n; motion = now (motion .exit); refs = now (refs .exit); rows = now (rows .exit) }) ⌝ }
 {
-    def::answer_number(rows::set_motion(
+    def::answer_number(unit_edits::set_motion(
         w,
         h,
         Scu(x),
@@ -107,7 +107,7 @@ pub extern "C" fn lomsakeun_set_flag(
         (record { w = w; h = h; x = x; y = y; flag = flagOf coded; on = on; words = now (words .entry); motion = now (motion .entry); refs = now (refs .entry); rows = now (rows .entry) })
         (record { number = n; words = now (words .exit); rows = now (rows .exit) }) ⌝ }
 {
-    def::answer_number(rows::set_flag(
+    def::answer_number(unit_edits::set_flag(
         w,
         h,
         Scu(x),

@@ -23,9 +23,9 @@ use Rattle.def.specs.declared.Refusal.the-variants.{Size, Length, Rows}
 use Rattle.def.proofs.Answers.{on-refusal, on-done}
 use Rattle.def.proofs.Ladders.{passes}
 use Rattle.df_check.specs.Checks.{checkOf}
-use Rattle.rows.specs.Checks.{rightOk}
-use Rattle.rows.specs.Rule.{ruleByte}
-use Rattle.rows.proofs.RightMap.{right-byte}
+use Rattle.rows_rules.specs.Checks.{rightOk}
+use Rattle.rows_rules.specs.Rule.{ruleByte}
+use Rattle.rows_rules.proofs.RightMap.{right-byte}
 use Rattle.df.specs.ByRows.{Input, rowsLengthOk, rowsOk, check, outcome}
 use Rattle.df.specs.Deblock as deblock
 use Rattle.df.specs.Plan.{RowsLent}

@@ -34,11 +34,11 @@ use Rattle.df_rules.proofs.Planes.{window-long, window-small, no-samples}
 use Rattle.df_rules.proofs.Strengths.{row-few}
 use Rattle.bands_rules.proofs.Lists.{Lies}
 use Rattle.row.specs.Between.{There}
-use Rattle.rows.specs.Rule.{hasSide}
+use Rattle.rows_rules.specs.Rule.{hasSide}
 use Rattle.edge_place.specs.Places.{placeIn, marksIn}
 use Rattle.edge_place.proofs.Units.{place-in, marks-in}
-use Rattle.rows.proofs.RightMap.{row-in-byte}
-use Rattle.rows.proofs.Sides.{column-of, row-of}
+use Rattle.rows_rules.proofs.RightMap.{row-in-byte}
+use Rattle.rows_rules.proofs.Sides.{column-of, row-of}
 use Rattle.df.specs.Plan.{edgeFrom, edgesFrom, placeAt, marksAt, maskBy, Planned, filterIn, Known, RowsLent, Says, PlaneOf, At}
 use Rattle.edges.specs.Put.{Put}
 

@@ -12,7 +12,7 @@ use Rattle.def.specs.Picture.{sizeOk, unitCount}
 use Rattle.def.specs.declared.Answer.{Answer}
 use Rattle.def.specs.declared.Answer.the-variants.{Done, Refused}
 use Rattle.def.specs.declared.Refusal.the-variants.{Size, Length, Rows}
-use Rattle.rows.specs.Checks.{rightOk}
+use Rattle.rows_rules.specs.Checks.{rightOk}
 use Rattle.df.specs.Deblock as deblock
 
 -- what `deblock` takes, and the map

@@ -24,7 +24,7 @@ use Rattle.df_rules.specs.Lent.{Unit, Marked, AtUnit}
 use Rattle.df_rules.specs.Places.{stepAcross, unitQ, unitP}
 use Rattle.df_rules.specs.Strength.{Over, Maps, rowBy}
 use Rattle.df_rules.specs.Window.{Samples}
-use Rattle.rows.specs.Rule.{hasSide, firstBit, ruleByte}
+use Rattle.rows_rules.specs.Rule.{hasSide, firstBit, ruleByte}
 use Rattle.split.specs.RootCall.{leafDown}
 
 -- edge k of a list: its two numbers are Q's first luma sample

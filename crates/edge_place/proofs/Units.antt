@@ -17,7 +17,7 @@ use Rattle.df_rules.specs.Strength.{rowBy}
 use Rattle.df_rules.proofs.Strengths.{row-few}
 use Rattle.row.specs.Between.{There}
 use Rattle.row.proofs.Units.{row-in}
-use Rattle.rows.specs.Rule.{firstBit}
+use Rattle.rows_rules.specs.Rule.{firstBit}
 use Rattle.edge_place.specs.Places.{lentRow, placeIn, marksIn}
 
 module _ (d : Pass) (words : List ℕ) (motion refs : List ℤ) (rows : List ℕ) (q p : ℕ) (a : There words motion refs q) (b : There words motion refs p)

@@ -10,7 +10,7 @@ use Rattle.laws.specs.Index.{pick}
 use Rattle.def.specs.Word.{qpOf}
 use Rattle.split.specs.Edges.{Pass}
 use Rattle.row.specs.Between.{rowIn}
-use Rattle.rows.specs.Rule.{firstBit}
+use Rattle.rows_rules.specs.Rule.{firstBit}
 
 -- the row of the edge between q and p: as the map of edge rows has it, where that has q's byte, and else as the other maps have it
 unfoldable pub lentRow : Pass → (words : List ℕ) (motion refs : List ℤ) (rows : List ℕ) → (q p : ℕ) → ℕ

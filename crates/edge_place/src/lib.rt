@@ -6,7 +6,7 @@ ghost use Prim.Native.Nat.{_≤_};
 ghost use lib.ListN.{getD};
 ghost use Rattle.laws.specs.Bits.{fieldOf};
 ghost use Rattle.split.specs.Edges.{passOf};
-ghost use Rattle.rows.specs.Rule.{firstBit};
+ghost use Rattle.rows_rules.specs.Rule.{firstBit};
 ghost use Rattle.edge_place.specs.Places.{lentRow, placeIn, marksIn};
 use def::get_qp;
 use row::row_at;

@@ -2,7 +2,7 @@
 // word. The line printed for it is the number that it answers, and every slice that it may write, as it leaves it.
 use def::Scu;
 use line::Motion;
-use rows::Flag;
+use unit_edits::Flag;
 
 // ---- the calls
 
@@ -24,7 +24,7 @@ fn moved(
     refs: &mut [i8],
     rows: &mut [u8],
 ) {
-    let answer = rows::set_motion(
+    let answer = unit_edits::set_motion(
         w,
         h,
         Scu(x),
@@ -58,7 +58,7 @@ fn flagged(
     refs: &[i8],
     rows: &mut [u8],
 ) {
-    let answer = rows::set_flag(
+    let answer = unit_edits::set_flag(
         w,
         h,
         Scu(x),

@@ -8,10 +8,10 @@ ghost use lib.Dec.{eqb};
 ghost use lib.ListN.{length, getD, set};
 ghost use Rattle.laws.specs.Index.{pick};
 ghost use Rattle.line.specs.Row.{eqZ};
-ghost use Rattle.rows.specs.Inside.{Lent};
-ghost use Rattle.rows.specs.Rule.{ruleByte, ruleMap, rightBytes};
-ghost use Rattle.rows.specs.Runs.{sameFrom, sameFlags, flagsFrom, unitsFrom, allIntra, bytesFrom, selfRow, rightRun, Run, RightBelow, FirstOf, Stored};
-use crate::rule_byte;
+ghost use Rattle.rows_rules.specs.Inside.{Lent};
+ghost use Rattle.rows_rules.specs.Rule.{ruleByte, ruleMap, rightBytes};
+ghost use Rattle.rows_rules.specs.Runs.{sameFrom, sameFlags, flagsFrom, unitsFrom, allIntra, bytesFrom, selfRow, firstByte, rightRun, Run, RightBelow, FirstOf, Stored};
+use row::row_at;
 use row::rows_at;
 
 fn same_number(a: i16, b: i16) -> bool
@@ -153,22 +153,23 @@ fn put_as_above(words: &[u32], rows: &[u8], top: usize, k: usize, n: usize, byte
     }
 }
 
-// The bytes of n units from k on, one after the other.
-fn put_each(
-    columns: usize,
-    words: &[u32],
-    motion: &[i16],
-    refs: &[i8],
-    x: usize,
-    k: usize,
-    n: usize,
-    bytes: &mut [u8],
-)
-    requires { ⌜ Lent columns (now words) (now motion) (now refs) × Run columns (length (now words)) x k n × (n ≤ length (now bytes)) ⌝ }
-    ensures { λ _. ⌜ FirstOf (λ (j : ℕ). ruleByte (now (words .entry)) (now (motion .entry)) (now (refs .entry)) columns (k + j)) n (now (bytes .entry)) (now (bytes .exit)) ⌝ }
+// The row of unit k's left edge, where k stands in the first row of units: only the first of them has none left of it. No unit lies above them, so it is their byte.
+fn first_byte(words: &[u32], motion: &[i16], refs: &[i8], k: usize) -> u8
+    ensures { λ r. ⌜ r ≡ firstByte (now (words .entry)) (now (motion .entry)) (now (refs .entry)) k ⌝ }
+{
+    if k == 0 {
+        return 0;
+    }
+    row_at(words, motion, refs, k, k - 1) as u8
+}
+
+// The bytes of n units from k on, all in the first row, one after the other.
+fn put_first(words: &[u32], motion: &[i16], refs: &[i8], k: usize, n: usize, bytes: &mut [u8])
+    requires { ⌜ (k + n ≤ length (now words)) × (n ≤ length (now bytes)) ⌝ }
+    ensures { λ _. ⌜ FirstOf (λ (j : ℕ). firstByte (now (words .entry)) (now (motion .entry)) (now (refs .entry)) (k + j)) n (now (bytes .entry)) (now (bytes .exit)) ⌝ }
 {
     for j in 0..n {
-        bytes[j] = rule_byte(columns, words, motion, refs, x + j, k + j);
+        bytes[j] = first_byte(words, motion, refs, k + j);
     }
 }
 
@@ -235,7 +236,7 @@ fn put_run(
         return;
     }
     if k < columns {
-        put_each(columns, words, motion, refs, x, k, n, bytes);
+        put_first(words, motion, refs, k, n, bytes);
         return;
     }
     if as_above(columns, words, motion, refs, x, k, n) {

@@ -4,7 +4,7 @@ use borrow.Author.Needs.{needs}
 use borrow.Author.Tests.{not-false}
 use Rattle.laws.proofs.Calls.{stops, goes-on}
 use Rattle.def.proofs.Sizes.{sized}
-use Rattle.rows.specs.Checks.{checkMaps}
+use Rattle.rows_rules.specs.Checks.{checkMaps}
 use Rattle.rows.proofs.checked_maps.Statement.{statement}
 use Rattle.rows.proofs.checked_maps.Tie as tie
 

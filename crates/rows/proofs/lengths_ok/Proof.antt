@@ -2,7 +2,7 @@
 use mathlib.Core.Path.{refl}
 use native.Mathlib.Omega.{arith}
 use Rattle.def.proofs.Units.{few-units}
-use Rattle.rows.specs.Checks.{lengthsOk}
+use Rattle.rows_rules.specs.Checks.{lengthsOk}
 use Rattle.rows.proofs.lengths_ok.Statement.{statement}
 use Rattle.rows.proofs.lengths_ok.Tie as tie
 

@@ -2,7 +2,7 @@
 use mathlib.Core.Path.{sym, _∙_}
 use borrow.Author.Needs.{needs}
 use denote.Ref.{now}
-use Rattle.rows.proofs.Calls.{maps-accepted, right-refused, right-done}
+use Rattle.rows_rules.proofs.Calls.{maps-accepted, right-refused, right-done}
 use Rattle.rows.proofs.rows_right.Statement.{statement}
 use Rattle.rows.proofs.rows_right.Tie as tie
 

@@ -5,7 +5,7 @@ use native.Mathlib.Omega.{arith}
 use borrow.Author.Needs.{needs}
 use Rattle.laws.proofs.Scans.{scan-none}
 use Rattle.laws.proofs.ScanAll.{scan-step}
-use Rattle.rows.specs.Runs.{allIntra}
+use Rattle.rows_rules.specs.Runs.{allIntra}
 use Rattle.rows.proofs.run.all_intra.Statement.{statement}
 use Rattle.rows.proofs.run.all_intra.Tie as tie
 

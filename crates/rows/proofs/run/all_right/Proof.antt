@@ -9,8 +9,8 @@ use lib.Dec.{eqb}
 use lib.ListN.{length, getD}
 use Rattle.laws.specs.Scan.{allBelow}
 use Rattle.laws.proofs.Scans.{scan-none}
-use Rattle.rows.specs.Rule.{ruleByte, rightBytes}
-use Rattle.rows.proofs.Runs.{joins-if}
+use Rattle.rows_rules.specs.Rule.{ruleByte, rightBytes}
+use Rattle.rows_rules.proofs.Runs.{joins-if}
 use Rattle.rows.proofs.run.all_right.Statement.{statement}
 use Rattle.rows.proofs.run.all_right.Tie as tie
 

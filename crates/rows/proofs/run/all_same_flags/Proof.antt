@@ -5,7 +5,7 @@ use native.Mathlib.Omega.{arith}
 use borrow.Author.Needs.{needs}
 use Rattle.laws.proofs.Scans.{scan-none}
 use Rattle.laws.proofs.ScanAll.{scan-step}
-use Rattle.rows.specs.Runs.{flagsFrom}
+use Rattle.rows_rules.specs.Runs.{flagsFrom}
 use Rattle.rows.proofs.run.all_same_flags.Statement.{statement}
 use Rattle.rows.proofs.run.all_same_flags.Tie as tie
 

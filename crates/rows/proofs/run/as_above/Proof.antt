@@ -2,7 +2,7 @@
 use Prim.Native.Nat.{_-_}
 use native.Mathlib.Omega.{arith}
 use borrow.Author.Needs.{needs}
-use Rattle.rows.proofs.Runs.{above-column, above-byte}
+use Rattle.rows_rules.proofs.Runs.{above-column, above-byte}
 use Rattle.rows.proofs.run.as_above.Statement.{statement}
 use Rattle.rows.proofs.run.as_above.Tie as tie
 

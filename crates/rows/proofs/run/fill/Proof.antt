@@ -6,9 +6,9 @@ use native.Mathlib.Omega.{arith}
 use borrow.Author.Needs.{needs}
 use lib.ListN.{length}
 use Rattle.laws.proofs.Tabulate.{is-tabulate}
-use Rattle.rows.specs.Rule.{ruleByte}
-use Rattle.rows.specs.Runs.{RightBelow}
-use Rattle.rows.proofs.Runs.{right-more}
+use Rattle.rows_rules.specs.Rule.{ruleByte}
+use Rattle.rows_rules.specs.Runs.{RightBelow}
+use Rattle.rows_rules.proofs.Runs.{right-more}
 use Rattle.rows.proofs.run.fill.Statement.{statement}
 use Rattle.rows.proofs.run.fill.Tie as tie
 

@@ -5,7 +5,7 @@ use native.Mathlib.Omega.{arith}
 use borrow.Author.Needs.{needs}
 use lib.ListN.{getD}
 use Rattle.laws.proofs.Fill.{Upto, upto-none, upto-more}
-use Rattle.rows.specs.Runs.{selfRow}
+use Rattle.rows_rules.specs.Runs.{selfRow}
 use Rattle.rows.proofs.run.put_as_above.Statement.{statement}
 use Rattle.rows.proofs.run.put_as_above.Tie as tie
 

@@ -1,12 +1,13 @@
 -- `rows::run::put_run` meets its contract: a run that is all intra, one of the first row, one that is what lies above it, or any other. Assumes nothing.
 use Prim.Native.Nat.{ℕ, _+_, _-_, _*_, _%_}
 use mathlib.Core.Path.{_≡_, sym, ap, _∙_}
+use native.Mathlib.Nat.{mod-eq-of-lt}
 use native.Mathlib.Omega.{arith}
 use borrow.Author.Needs.{needs}
 use lib.ListN.{getD}
 use Rattle.laws.proofs.Scans.{scan-at}
-use Rattle.rows.specs.Runs.{selfRow}
-use Rattle.rows.proofs.Runs.{intra-byte}
+use Rattle.rows_rules.specs.Runs.{selfRow}
+use Rattle.rows_rules.proofs.Runs.{intra-byte, first-byte}
 use Rattle.rows.proofs.run.put_run.Statement.{statement}
 use Rattle.rows.proofs.run.put_run.Tie as tie
 
@@ -27,11 +28,24 @@ returns c =
       z .long,
     )
 
-put-each-requires : tie.Need-put-each-requires
-put-each-requires c κs = let p = c .before .before .before .before .before .before .before .pre in (p .0, p .2, p .4)
+put-first-requires : tie.Need-put-first-requires
+put-first-requires c κs = let p = c .before .before .before .before .before .before .before .pre in (p .2 .inside, p .4)
 
 returns-2 : tie.Need-returns-2
-returns-2 c = let z = c .before .before .put-each .ensures in ((λ r. z), z .long)
+returns-2 c =
+    let z = c .before .before .put-first .ensures in
+    let branch = c .before .before .before .before in
+    let s = branch .before .before .before .before .before .before in
+    let a = s .args in
+    let w = s .pre .2 in
+    let column : a .k % a .columns ≡ a .k = mod-eq-of-lt (branch .if2 .taken) in (
+      (λ r. record {
+        long = z .long;
+        at = λ j h.
+            first-byte (a .words .now) (a .motion .now) (a .refs .now) (a .columns) (s .pre .0) (a .k + j) _ (omega (arith, column, w .column, w .fits)) (omega (arith, w .inside)) (z .at j h);
+      }),
+      z .long,
+    )
 
 as-above-requires : tie.Need-as-above-requires
 as-above-requires c κs = let p = c .before .before .before .before .before .before .pre in (p .0, p .2, omega (arith, c .if2 .left))
@@ -70,5 +84,5 @@ returns-4 c = let z = c .before .before .put-sides .ensures in ((λ r. z), z .lo
 pub put-run-spec : {M : Type 1} → statement M
 put-run-spec =
     tie.close
-    (tie.spec (λ c κs. c .before .before .before .pre .2 .inside) put-zeros-requires (λ c. search needs) returns put-each-requires (λ c. search needs) returns-2 as-above-requires
+    (tie.spec (λ c κs. c .before .before .before .pre .2 .inside) put-zeros-requires (λ c. search needs) returns put-first-requires (λ c. search needs) returns-2 as-above-requires
     put-as-above-requires (λ c. search needs) returns-3 put-sides-requires (λ c. search needs) returns-4)

@@ -6,10 +6,10 @@ use borrow.Author.Needs.{needs}
 use lib.ListN.{getD, replicate}
 use Rattle.split.specs.Edges.{vertical, horizontal}
 use Rattle.df_rules.specs.Strength.{rowBy}
-use Rattle.rows.specs.Rule.{edgeRow}
-use Rattle.rows.specs.Runs.{FirstOf}
-use Rattle.rows.proofs.Runs.{left-row, top-row, runs-there, first-rows, long-cleared, joined}
-use Rattle.rows.proofs.Sides.{edge-few}
+use Rattle.rows_rules.specs.Rule.{edgeRow}
+use Rattle.rows_rules.specs.Runs.{FirstOf}
+use Rattle.rows_rules.proofs.Runs.{left-row, top-row, runs-there, first-rows, long-cleared, joined}
+use Rattle.rows_rules.proofs.Sides.{edge-few}
 use Rattle.rows.proofs.run.put_sides.Statement.{statement}
 use Rattle.rows.proofs.run.put_sides.Tie as tie
 

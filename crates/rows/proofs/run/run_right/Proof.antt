@@ -4,7 +4,7 @@ use mathlib.Core.Path.{ap, _∙_}
 use borrow.Author.Needs.{needs}
 use lib.Dec.{eqb}
 use lib.ListN.{getD}
-use Rattle.rows.proofs.Runs.{scan-same}
+use Rattle.rows_rules.proofs.Runs.{scan-same}
 use Rattle.rows.proofs.run.run_right.Statement.{statement}
 use Rattle.rows.proofs.run.run_right.Tie as tie
 

@@ -4,7 +4,7 @@ use mathlib.Core.Path.{_≡_, sym, _∙_}
 use native.Mathlib.Omega.{arith}
 use Rattle.laws.proofs.Scans.{scan-none}
 use Rattle.laws.proofs.ScanAll.{scan-step}
-use Rattle.rows.specs.Runs.{bytesFrom}
+use Rattle.rows_rules.specs.Runs.{bytesFrom}
 use Rattle.rows.proofs.run.same_bytes.Statement.{statement}
 use Rattle.rows.proofs.run.same_bytes.Tie as tie
 

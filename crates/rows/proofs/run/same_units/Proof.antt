@@ -4,7 +4,7 @@ use native.Mathlib.Omega.{arith}
 use Prim.Native.Nat.{ℕ}
 use borrow.Author.Needs.{needs}
 use borrow.Author.Tests.{not-false}
-use Rattle.rows.specs.Runs.{unitsFrom}
+use Rattle.rows_rules.specs.Runs.{unitsFrom}
 use Rattle.rows.proofs.run.same_units.Statement.{statement}
 use Rattle.rows.proofs.run.same_units.Tie as tie
 

@@ -2,7 +2,7 @@
 use mathlib.Core.Path.{_≡_, sym, _∙_}
 use native.Mathlib.Omega.{arith}
 use borrow.Author.Needs.{needs}
-use Rattle.rows.specs.Runs.{selfRow}
+use Rattle.rows_rules.specs.Runs.{selfRow}
 use Rattle.rows.proofs.run.self_row.Statement.{statement}
 use Rattle.rows.proofs.run.self_row.Tie as tie
 

@@ -1,8 +1,8 @@
 -- `rows::run::store` meets its contract: a loop that stores from k on. Assumes nothing.
 use Prim.Native.Nat.{ℕ, _+_, _-_, _≤_}
 use native.Mathlib.Omega.{arith}
-use Rattle.rows.specs.Runs.{Stored}
-use Rattle.rows.proofs.Runs.{stored-none, stored-more}
+use Rattle.rows_rules.specs.Runs.{Stored}
+use Rattle.rows_rules.proofs.Runs.{stored-none, stored-more}
 use Rattle.rows.proofs.run.store.Statement.{statement}
 use Rattle.rows.proofs.run.store.Tie as tie
 

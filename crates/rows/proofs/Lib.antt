@@ -1,6 +1,0 @@
-pub mod Calls
-pub mod Edits
-pub mod Held
-pub mod RightMap
-pub mod Runs
-pub mod Sides

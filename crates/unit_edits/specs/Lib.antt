@@ -1,0 +1,2 @@
+pub mod FlagCall
+pub mod Sides
