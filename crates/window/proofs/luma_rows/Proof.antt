@@ -31,14 +31,17 @@ same-length c = c .before .before .copy-rows2 .kept .0
 
 returns : tie.Need-returns
 returns c =
-    let a = c .before .before .before .before .before .before .before .before .before .before .before .before .before .before .args in
-    let b = rows-at (a .p) 4 (length (a .y .now)) (lit≤ tt) (c .before .before .before .before .before .before .before .before .before .before .before .before .before .before .pre) in
-    let f = c .before .before .before .before .before .before .before .before .before .before .before .before .wide in
-    let g = c .before .before .before .before .before .before .before .before .before .before .before .wide2 in
+    let w = c .before .before .before .before .before .before .before .before .before .before .before in
+    let s = w .before .before .before in
+    let a = s .args in
+    let b = rows-at (a .p) 4 (length (a .y .now)) (lit≤ tt) (s .pre) in
+    let f = w .before .wide in
+    let g = w .wide2 in
     let m = c .before .before .before .before .before .before .before .before .before .before .mask-of .ensures in
     let r = c .before .before .before .before .before .lanes in
+    let t = c .before .before .before .before .before .before .before .copy-rows .ensures in
     plane-done rows rows-spread _ _ (a .p) (g .result) 1 (f .result) m (g .ensures .0) (sym (b .beside)) (f .ensures .0) (λ k. a .st) 0 4 (a .y .now) _ _
-    (lumaSts (a .st) 0) (r .result) (lit≤ tt) (gathered _ (g .result) (f .result) (a .y .now) _ _ 0 4 m (lit≤ tt) refl (c .before .before .before .before .before .before .before .copy-rows .ensures) .lines)
+    (lumaSts (a .st) 0) (r .result) (lit≤ tt) (gathered _ (g .result) (f .result) (a .y .now) _ _ 0 4 m (lit≤ tt) refl t .lines)
     (luma-each (a .st)) (r .ensures) (c .before .before .copy-rows2 .ensures)
 
 pub luma-rows-spec : {M : Type 1} → statement M

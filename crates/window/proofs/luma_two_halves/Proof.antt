@@ -25,13 +25,17 @@ same-length c = c .before .before .scatter .kept .0
 
 returns : tie.Need-returns
 returns c =
-    let a = c .before .before .before .before .before .before .before .before .before .before .before .before .args in
-    let b = halves-at (a .p) 8 (length (a .y .now)) (c .before .before .before .before .before .before .before .before .before .before .before .before .pre) in
-    let f = c .before .before .before .before .before .before .before .before .before .before .wide in
-    let g = c .before .before .before .before .before .before .before .before .before .wide2 in
+    let w = c .before .before .before .before .before .before .before .before .before in
+    let s = w .before .before .before in
+    let a = s .args in
+    let b = halves-at (a .p) 8 (length (a .y .now)) (s .pre) in
+    let f = w .before .wide in
+    let g = w .wide2 in
     let r = c .before .before .before .before .before .lanes-by-halves in
-    plane-done halves halves-spread _ _ (a .p) 1 (g .result) (f .result) (c .before .before .before .before .before .before .before .before .mask-of .ensures) (sym (b .below)) (g .ensures .0) (f .ensures .0) (twice 4 (a .s0) (a .s1)) 0 8 (a .y .now) _ _
-    (lumaSts (a .s0) (a .s1)) (r .result) (lit≤ tt) (c .before .before .before .before .before .before .gather .ensures .lines) (luma-two (a .s0) (a .s1)) (r .ensures) (c .before .before .scatter .ensures)
+    let m = c .before .before .before .before .before .before .before .before .mask-of .ensures in
+    plane-done halves halves-spread _ _ (a .p) 1 (g .result) (f .result) m (sym (b .below)) (g .ensures .0) (f .ensures .0)
+    (twice 4 (a .s0) (a .s1)) 0 8 (a .y .now) _ _ (lumaSts (a .s0) (a .s1)) (r .result) (lit≤ tt)
+    (c .before .before .before .before .before .before .gather .ensures .lines) (luma-two (a .s0) (a .s1)) (r .ensures) (c .before .before .scatter .ensures)
 
 pub luma-two-halves-spec : {M : Type 1} → statement M
 luma-two-halves-spec =

@@ -33,22 +33,27 @@ same-length c = c .before .before .scatter .kept .0
 
 returns : tie.Need-returns
 returns c =
-    let a = c .before .before .before .before .before .before .before .before .before .before .before .before .before .before .before .args in
-    let n = c .before .before .before .before .before .before .before .before .before .before .before .before .before .lines-in in
+    let w = c .before .before .before .before .before .before .before .before in
+    let a = w .before .before .before .before .before .before .before .args in
+    let n = w .before .before .before .before .before .lines-in in
+    let l = w .before .before .before .before .last in
     let few = n .ensures .2 in
-    let f = c .before .before .before .before .before .before .before .before .before .before .wide in
-    let g = c .before .before .before .before .before .before .before .before .before .wide2 in
-    let h = c .before .before .before .before .before .before .before .before .wide3 in
+    let f = w .before .before .wide in
+    let g = w .before .wide2 in
+    let h = w .wide3 in
     let r = c .before .before .before .before .before .lanes-by-halves in
-    kept-in (a .p) (n .result) _ (c .before .before .before .before .before .before .before .before .before .before .before .before .last .result) (length (a .s .now)) (n .ensures .0) (c .before .before .before .before .before .before .before .before .before .before .before .before .last .ensures) (a .mask) (λ k. a .st) (a .s .now) _ (c .before .before .before .before .before .before .before .before .before .before .before .if1 .taken)
-    (plane-done halves halves-spread _ _ (a .p) (g .result) (h .result) (f .result) refl (g .ensures .0) (h .ensures .0) (f .ensures .0) (λ k. a .st) 0 (n .result) (a .s .now) _ _
-    (lumaSts (a .st) 0) (r .result) (omega arith) (c .before .before .before .before .before .before .gather .ensures .lines) (λ k i. luma-each (a .st) k (omega arith)) (r .ensures) (c .before .before .scatter .ensures))
+    kept-in (a .p) (n .result) _ (l .result) (length (a .s .now)) (n .ensures .0) (l .ensures) (a .mask) (λ k. a .st) (a .s .now) _ (w .before .before .before .if1 .taken)
+    (plane-done halves halves-spread _ _ (a .p) (g .result) (h .result) (f .result) refl (g .ensures .0) (h .ensures .0) (f .ensures .0)
+    (λ k. a .st) 0 (n .result) (a .s .now) _ _ (lumaSts (a .st) 0) (r .result) (omega arith)
+    (c .before .before .before .before .before .before .gather .ensures .lines) (λ k i. luma-each (a .st) k (omega arith))
+    (r .ensures) (c .before .before .scatter .ensures))
 
 returns-2 : tie.Need-returns-2
 returns-2 c =
     let a = c .before .before .before .before .args in
     let n = c .before .before .lines-in in
-    kept-out (a .p) (n .result) _ (c .before .last .result) (length (a .s .now)) (n .ensures .0) (c .before .last .ensures) (a .mask) (λ k. a .st) (a .s .now) (c .if1 .left)
+    let l = c .before .last in
+    kept-out (a .p) (n .result) _ (l .result) (length (a .s .now)) (n .ensures .0) (l .ensures) (a .mask) (λ k. a .st) (a .s .now) (c .if1 .left)
 
 pub window-kept-spec : {M : Type 1} → statement M
 window-kept-spec =
