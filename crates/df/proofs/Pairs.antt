@@ -1,78 +1,23 @@
--- Two units' edges that follow each other along a line, and turns over a plan.
---     lies-two, beside-two    where their lines lie
---     edges-by    their windows, one right after the other, are the edges' windows
+-- Turns over a plan: an edge, or two that follow each other along a line.
 --     turn-edge, turn-pair, turn-quiet    a turn of one edge, of two, and of edges without a strength
 --     follows-at    where the second of two lies
 -- Assumes nothing.
-use Prim.Native.Nat.{ℕ, _+_, _-_, _*_, _/_, _≤_, _<_}
+use Prim.Native.Nat.{ℕ, _+_, _*_, _/_, _≤_, _<_}
 use mathlib.Core.Bool.{false}
 use mathlib.Core.Path.{_≡_, refl, sym, ap, _∙_, subst}
 use mathlib.Core.List.{List}
 use native.Mathlib.Decide.{decLt}
-use native.Mathlib.Nat.{add-mul, mul-add, mul-one, mul-le-mul-left}
 use native.Mathlib.Omega.{arith}
-use lib.ListN.{length, getD}
+use lib.ListN.{getD}
 use Rattle.def.specs.declared.Component.{Component}
-use Rattle.line.specs.declared.Mask.{Mask}
 use Rattle.line.specs.Line.{maskOf}
 use Rattle.split.specs.Edges.{Pass, edge, edgeAt}
 use Rattle.split.specs.Rows.{crossOf, alongOf}
 use Rattle.df_rules.specs.Filter.{window}
-use Rattle.df_rules.specs.Lanes.{Apart}
-use Rattle.df_rules.specs.Lent.{unitsAcross, unitsAlong, AtUnit}
-use Rattle.df_rules.specs.Places.{unitSide, stepAcross, stepAlong, lineStart}
-use Rattle.df_rules.specs.Window.{windowAt, windowsAt, Samples}
-use Rattle.df_rules.proofs.Edges.{inside}
-use Rattle.df_rules.proofs.Lanes.{apart-lines}
+use Rattle.df_rules.specs.Lent.{AtUnit}
 use Rattle.df_rules.proofs.Windows.{untouched}
-use Rattle.df.specs.declared.window.Place.{Place}
-use Rattle.df.specs.Edges.{placeOf, Inside, Beside, Lying}
 use Rattle.df.specs.Plan.{edgeFrom, maskBy, filterIn, At, Follows, Turned}
-use Rattle.df.proofs.Edges.{edge-by}
 use Rattle.df.proofs.Plans.{plan-more, at-cross}
-use Rattle.df.proofs.Rows.{beside-at}
-
--- ---- where their lines lie: m samples a unit's side, the first edge at unit x across and z along
-
--- m lines further on
-further : (m : ℕ) (d : Pass) (wide c z : ℕ) → lineStart d wide c (m * z) + m * stepAlong d wide ≡ lineStart d wide c (m * (z + 1))
-further m d wide c z =
-    let s = stepAlong d wide in
-    let e : m * (z + 1) ≡ m * z + m = mul-add m z 1 ∙ ap (λ (n : ℕ). m * z + n) (mul-one m) in
-    let f : m * (z + 1) * s ≡ m * z * s + m * s = ap (λ (n : ℕ). n * s) e ∙ add-mul (m * z) m s in
-    omega arith
-
-module _ (m w h : ℕ) (two : 2 ≤ m) (d : Pass) (x z : ℕ) (p : Place) (e : p ≡ placeOf d (m * w) (m * x) (m * z))
-    (inner : 1 ≤ x) (across : x < unitsAcross d w h) (along : z + 1 < unitsAlong d w h) where
-  room : m + m ≤ m * unitsAlong d w h
-  room = let u : m * 2 ≤ m * unitsAlong d w h = mul-le-mul-left {m = 2} {n = unitsAlong d w h} m (omega arith) in omega arith
-
-  pub lies-two : (xs : List ℕ) → length xs ≡ m * h * (m * w) → Samples xs → Lying p (m + m) xs
-  lies-two xs long all =
-      let s = stepAlong d (m * w) in
-      let g = further m d (m * w) (m * x) z in
-      let i = inside m w h two d x (z + 1) inner across along in
-      let j : m + m - 1 ≡ m + (m - 1) = omega arith in
-      let k : (m + m - 1) * s ≡ m * s + (m - 1) * s = ap (λ (n : ℕ). n * s) j ∙ add-mul m (m - 1) s in
-      let in-plane : Inside p (m + m - 1) xs = subst (λ (q : Place). Inside q (m + m - 1) xs) (sym e) (omega arith) in
-      let none : Apart (p .step) (p .next) (m + m) = subst (λ (q : Place). Apart (q .step) (q .next) (m + m)) (sym e) (apart-lines m (m + m) w h two d x inner across room) in
-      record { inside = in-plane; apart = none; all = all }
-
-  pub beside-two : (m * w ≡ 1 → ⊥) → p .next ≡ 1 → Beside p (m + m)
-  beside-two odd n = beside-at d m w h (m + m) x z p odd room e n
-
--- ---- their windows
-
-pub edges-by : (k : Component) (d : Pass) (w c a s₀ s₁ : ℕ) (m : Mask) (p : Place) (xs xs₁ : List ℕ) → p ≡ placeOf d (unitSide k * w) (unitSide k * c) (unitSide k * a)
-    → xs₁ ≡ windowsAt m s₀ s₁ (p .step) (p .next) (p .at) (unitSide k) xs → xs₁ ≡ window m d k w s₁ (edgeAt d c (a + 1)) (window m d k w s₀ (edgeAt d c a) xs)
-edges-by k d w c a s₀ s₁ m p xs xs₁ e g =
-    let n = unitSide k in
-    let ys = windowAt m s₀ (p .step) (p .next) (p .at) n xs in
-    let q : Place = record { at = p .at + n * p .next; step = p .step; next = p .next } in
-    let f : q ≡ placeOf d (n * w) (n * c) (n * (a + 1)) = (λ i. record { at = e i .at + n * e i .next; step = e i .step; next = e i .next })
-    ∙ (λ i. record { at = further n d (n * w) (n * c) a i; step = stepAcross d (n * w); next = stepAlong d (n * w) }) in
-    edge-by k d w c (a + 1) s₁ s₁ m m q ys xs₁ f refl refl g
-    ∙ ap (window m d k w s₁ (edgeAt d c (a + 1))) (edge-by k d w c a s₀ s₀ m m p xs ys e refl refl refl)
 
 -- ---- turns
 

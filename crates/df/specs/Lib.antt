@@ -3,4 +3,3 @@ pub mod ByRows
 pub mod Deblock
 pub mod Edges
 pub mod Plan
-pub mod Rows

@@ -17,14 +17,14 @@ use crate::place::along_of;
 use crate::place::cross_of;
 use crate::place::place;
 use crate::plan::number_at;
-use crate::window::chroma;
-use crate::window::chroma_two;
-use crate::window::kept_lines;
-use crate::window::luma;
-use crate::window::luma_two;
 use def::Component;
 use def::Format;
 use line::Mask;
+use window::window_chroma;
+use window::window_chroma_two;
+use window::window_kept;
+use window::window_luma;
+use window::window_luma_two;
 
 fn strength_at(entries: &[u8], i: usize) -> u16
     requires { ⌜ i < length (now entries) ⌝ }
@@ -47,7 +47,7 @@ pub(crate) struct Size {
 }
 
 // One unit's edge in luma, by the place of its strength and its marks: cross and along are where Q's first luma sample lies across the edge and along it. Strength 0
-// leaves a window untouched. In the horizontal pass the lines lie side by side.
+// leaves a window untouched.
 fn edge_luma(
     pass: Pass,
     size: Size,
@@ -67,10 +67,11 @@ fn edge_luma(
     }
     let p = place(pass, 4 * size.columns, cross, along);
     if marks == 0 {
-        luma(p.next == 1, y, p, st);
+        window_luma(y, p, st);
         return;
     }
-    kept_lines(y, mask_by(Component::Luma, marks), 4, p, st);
+    let mask = mask_by(Component::Luma, marks);
+    window_kept(y, Component::Luma, mask, p, st);
 }
 
 // And in both chroma planes: a plane has 208 entries; luma's come first, then U's and V's. Filtering samples at 0 leaves them as they were, too.
@@ -96,12 +97,12 @@ fn edge_chroma(
     }
     let p = place(pass, 2 * size.columns, cross / 2, along / 2);
     if marks == 0 {
-        chroma(p.next == 1, u, v, p, su, sv);
+        window_chroma(u, v, p, su, sv);
         return;
     }
     let inner = mask_by(Component::Chroma, marks);
-    kept_lines(u, inner, 2, p, su);
-    kept_lines(v, inner, 2, p, sv);
+    window_kept(u, Component::Chroma, inner, p, su);
+    window_kept(v, Component::Chroma, inner, p, sv);
 }
 
 // ---- two edges at once
@@ -113,7 +114,7 @@ fn pair_luma(pass: Pass, size: Size, y: &mut [u16], s0: u16, s1: u16, cross: usi
         (window (maskOf Luma false false) (passOf pass) Luma (size .columns) s0 (edgeAt (passOf pass) (cross / 4) (along / 4)) (now (y .entry))) ⌝ }
 {
     let p = place(pass, 4 * size.columns, cross, along);
-    luma_two(p.next == 1, y, p, s0, s1);
+    window_luma_two(y, p, s0, s1);
 }
 
 // And in both chroma planes.
@@ -136,7 +137,7 @@ fn pair_chroma(
         (window (maskOf Chroma false false) (passOf pass) Chroma (size .columns) v0 (edgeAt (passOf pass) (cross / 4) (along / 4)) (now (v .entry)))) ⌝ }
 {
     let p = place(pass, 2 * size.columns, cross / 2, along / 2);
-    chroma_two(p.next == 1, u, v, p, u0, u1, v0, v1);
+    window_chroma_two(u, v, p, u0, u1, v0, v1);
 }
 
 // ---- a turn: one edge of a plan, or two

@@ -1,4 +1,4 @@
-// Deblocking: which edges are filtered, in which order, and with which strength. How lines are filtered is the matter of `line` and `lanes`.
+// Deblocking: which edges are filtered, in which order, and with which strength. How lines are filtered is the matter of `line`, `lanes` and `window`.
 // The Rust beside it: df.rs.
 ghost use mathlib.Core.Path.{_≡_};
 ghost use Prim.Native.Nat.{_+_, _/_};
@@ -20,7 +20,6 @@ use def::set_cod;
 use df_check::Settings;
 use strength::entries;
 
-mod window; // window.rt: a unit's edge in all three planes, by eight lanes
 mod place; // place.rt: the passes, and where an edge's lines lie
 mod plan; // plan.rt: the place of each edge's strength; no plane
 mod filter; // filter.rt: the edges of a list, filtered; no map

@@ -6,7 +6,7 @@ ghost use Rattle.split.specs.Edges as edges;
 ghost use Rattle.split.specs.Rows.{crossOf, alongOf};
 ghost use Rattle.df_rules.specs.Places.{stepAcross, stepAlong};
 ghost use Rattle.df.specs.Edges.{passOf, placeOf};
-use crate::window::Place;
+use window::Place;
 
 // The vertical pass filters the edges between columns, the horizontal those between rows.
 pub(crate) enum Pass {
@@ -70,9 +70,10 @@ pub(crate) fn place(pass: Pass, wide: usize, across: usize, along: usize) -> Pla
 {
     let step = step_across(pass, wide);
     let next = step_along(pass, wide);
+    let at = along * next + (across - 2) * step;
     Place {
-        at: along * next + (across - 2) * step,
-        step,
-        next,
+        at: at as u32,
+        step: step as u32,
+        next: next as u32,
     }
 }

@@ -1,7 +1,7 @@
 -- Lines read at once and then written.
 --     at-once       of lines that share no place, filtered so or one after the other
 --     line-put      a line written sample by sample
---     put-more      a loop that writes lines
+--     put-more      a loop that writes lines; put-same    by lines that are the same
 --     window-put    on samples that is their window, at strength 0 too
 --     windows-put    and so it is with two windows, one right after the other
 --     apart-lines    the lines of units' edges that follow each other share no place; apart-pass    those of one do not
@@ -145,7 +145,7 @@ unfolding putLines
 put-more m q step next at k r xs ys zs e f g = rw (add-one k) (g ∙ (λ i. putLine m step (at + k * next) (e i) (f i)))
 
 -- by lines that are the same
-put-same : (m : Mask) (q r : ℕ → Quad) (step next at n : ℕ) (xs : List ℕ) → ((k : ℕ) → k < n → q k ≡ r k)
+pub put-same : (m : Mask) (q r : ℕ → Quad) (step next at n : ℕ) (xs : List ℕ) → ((k : ℕ) → k < n → q k ≡ r k)
     → putLines m q step next at n xs ≡ putLines m r step next at n xs
 unfolding putLines
 put-same m q r step next at zero xs h = refl

@@ -1,15 +1,14 @@
 -- `df::filter::pair_chroma` meets its contract: at the place of the first edge, whose lines the second's follow. Assumes nothing.
-use Prim.Native.Nat.{_+_, _*_, _/_, _<_}
+use Prim.Native.Nat.{_*_, _/_, _<_, min}
 use mathlib.Core.Path.{_≡_, _∙_}
 use native.Mathlib.Omega.{arith}
 use borrow.Author.Needs.{needs}
-use borrow.Author.Tests.{eqb-true}
+use lib.ListN.{length}
 use Rattle.def.specs.declared.Component.the-variants.{Chroma}
-use Rattle.df_rules.specs.Lent.{unitsAlong}
 use Rattle.df_rules.proofs.Edges.{Spot, spot}
+use Rattle.window.specs.Window.{lastOf}
 use Rattle.df.specs.Edges.{passOf, placeOf}
-use Rattle.df.proofs.Pairs.{lies-two, beside-two, edges-by}
-use Rattle.df.proofs.Rows.{below-at}
+use Rattle.df.proofs.Edges.{Lie, lie, edges-by}
 use Rattle.df.proofs.filter.pair_chroma.Statement.{statement}
 use Rattle.df.proofs.filter.pair_chroma.Tie as tie
 
@@ -17,15 +16,12 @@ use Rattle.df.proofs.filter.pair_chroma.Tie as tie
 at-spot : (s : tie.Start) → Spot (passOf (s .args .pass)) (s .args .size .columns) (s .args .size .rows) (s .args .cross) (s .args .along)
 at-spot s = spot _ _ _ _ _ (s .pre .0 .wide) (s .pre .0 .high) (s .pre .2)
 
--- and there is a unit further along
-more : (s : tie.Start) → s .args .along / 4 + 1 < unitsAlong (passOf (s .args .pass)) (s .args .size .columns) (s .args .size .rows)
-more s = let i = s .pre .3 .along in omega arith
-
 place-requires : tie.Need-place-requires
 place-requires c κs =
-    let k = at-spot (c .before .before .before) in
-    let w = c .before .before .before .pre .0 .wide in
-    let i = c .before .before .before .pre .2 .inner in
+    let s = c .before .before .before in
+    let k = at-spot s in
+    let w = s .pre .0 .wide in
+    let i = s .pre .2 .inner in
     (omega arith, omega arith, omega arith, omega arith)
 
 -- the windows' place, by the unit
@@ -36,29 +32,33 @@ is-place c =
     let k = at-spot s in
     c .place .ensures ∙ (λ i. placeOf (passOf (s .args .pass)) (2 * s .args .size .columns) (k .chroma-x i) (k .chroma-z i))
 
-chroma-two-requires : tie.Need-chroma-two-requires
-chroma-two-requires c κs =
-    let s = c .before .before .before .before .before .before .before in
+-- where the lines of both lie: there is a unit further along
+lies : (c : tie.After-place) → let a = c .before .before .before .before .args in Lie (c .place .result) 4 (2 * a .size .rows * (2 * a .size .columns))
+lies c =
+    let s = c .before .before .before .before in
     let a = s .args in
     let k = at-spot s in
-    let e = is-place (c .before .before .before) in
-    let d = passOf (a .pass) in
-    let w = a .size .columns in
-    let h = a .size .rows in
-    let x = a .cross / 4 in
-    let z = a .along / 4 in (
-      λ t. beside-two 2 w h (omega arith) d x z _ e (k .inner) (k .across) (more s) (λ (o : 2 * w ≡ 1). omega arith) (eqb-true _ _ t),
-      below-at d _ _ _ _ e,
-      lies-two 2 w h (omega arith) d x z _ e (k .inner) (k .across) (more s) (a .u .now) (s .pre .0 .long) (s .pre .0 .all),
-      lies-two 2 w h (omega arith) d x z _ e (k .inner) (k .across) (more s) (a .v .now) (s .pre .1 .long) (s .pre .1 .all),
-    )
+    let z = s .pre .3 .along in
+    lie 2 1 (a .size .columns) (a .size .rows) (omega arith) (passOf (a .pass)) (a .cross / 4) (a .along / 4) (c .place .result) (is-place c) (k .inner) (k .across) (omega arith)
+
+in-u : (c : tie.After-place) → lastOf (c .place .result) 4 < length (c .before .before .before .before .args .u .now)
+in-u c = let s = c .before .before .before .before in rw (s .pre .0 .long) (lies c .within)
+
+in-v : (c : tie.After-place) → lastOf (c .place .result) 4 < length (c .before .before .before .before .args .v .now)
+in-v c = let s = c .before .before .before .before in rw (s .pre .1 .long) (lies c .within)
 
 returns : tie.Need-returns
 returns c =
-    let a = c .before .before .before .before .before .before .before .before .before .before .before .before .args in
-    let e = is-place (c .before .before .before .before .before .before .before .before) in
-    let r = c .before .before .before .before .chroma-two .ensures in
-    (edges-by Chroma (passOf (a .pass)) _ _ _ _ _ _ _ _ _ e (r .0), edges-by Chroma (passOf (a .pass)) _ _ _ _ _ _ _ _ _ e (r .1))
+    let f = c .before .before .before .before .before .before .before in
+    let s = f .before .before .before .before in
+    let a = s .args in
+    let i = in-u f in
+    let j = in-v f in
+    let so = lies f .so (min (length (a .u .now)) (length (a .v .now))) (omega arith) in
+    let r = c .before .before .before .before .window-chroma-two .ensures in (
+      edges-by Chroma (passOf (a .pass)) _ _ _ _ (is-place f) _ so (a .u .now) _ (s .pre .0 .all) _ _ _ (lies f .apart) (r .0),
+      edges-by Chroma (passOf (a .pass)) _ _ _ _ (is-place f) _ so (a .v .now) _ (s .pre .1 .all) _ _ _ (lies f .apart) (r .1),
+    )
 
 pub pair-chroma-spec : {M : Type 1} → statement M
-pair-chroma-spec = tie.close (tie.spec (λ c. search needs) place-requires chroma-two-requires (λ c. search needs) (λ c. search needs) returns)
+pair-chroma-spec = tie.close (tie.spec (λ c. search needs) place-requires (λ c κs. tt) (λ c. search needs) (λ c. search needs) returns)

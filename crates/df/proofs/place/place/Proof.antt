@@ -2,7 +2,7 @@
 use Prim.Native.Nat.{ℕ, _+_, _-_, _*_, _≤_}
 use native.Mathlib.Nat.{mul-le-mul}
 use native.Mathlib.Omega.{arith}
-use mir.Syntax.{w64}
+use mir.Syntax.{w32, w64}
 use mir.Val.{Fits}
 use borrow.Author.Needs.{needs}
 use Rattle.df.proofs.place.place.Statement.{statement}
@@ -16,6 +16,9 @@ fits l = omega arith
 
 sum-fits : {m n : ℕ} → m ≤ 16781312 → n ≤ 16781312 → Fits w64 (m + n)
 sum-fits k l = omega arith
+
+low-fits : {m n : ℕ} → m ≤ 16781312 → n ≤ 16781312 → Fits w32 (m + n)
+low-fits k l = omega arith
 
 two-less : {n : ℕ} → n ≤ 4096 → n - 2 ≤ 4096
 two-less l = omega arith
@@ -43,4 +46,7 @@ place-spec =
     (λ c. search needs)
     (λ c. fits (across-small c))
     (λ c. sum-fits (along-small c) (across-small c))
+    (λ c. low-fits (along-small c) (across-small c))
+    (λ c. search needs)
+    (λ c. search needs)
     returns)

@@ -1,0 +1,4 @@
+pub mod Lanes
+pub mod Places
+pub mod Rows
+pub mod Windows

@@ -1,0 +1,38 @@
+-- `window::window_luma` meets its contract: by rows, by halves, or not at all. Assumes nothing.
+use mathlib.Core.Path.{sym, _∙_}
+use borrow.Author.Needs.{needs}
+use Rattle.window.proofs.Places.{by-rows, by-halves, by-neither}
+use Rattle.window.proofs.window_luma.Statement.{statement}
+use Rattle.window.proofs.window_luma.Tie as tie
+
+rows-requires : tie.Need-luma-rows-requires
+rows-requires c κs = sym (c .before .before .by-rows .ensures) ∙ c .before .if1 .taken
+
+returns : tie.Need-returns
+returns c =
+    let a = c .before .before .before .before .before .before .before .args in
+    let e = c .before .before .before .before .before .by-rows .ensures in
+    by-rows (a .p) 4 _ _ e _ (λ k. a .st) (a .y .now) _ (c .before .before .before .before .if1 .taken) (c .before .before .luma-rows .ensures)
+
+halves-requires : tie.Need-luma-halves-requires
+halves-requires c κs = sym (c .before .before .by-halves .ensures) ∙ c .before .if2 .taken
+
+returns-2 : tie.Need-returns-2
+returns-2 c =
+    let a = c .before .before .before .before .before .before .before .before .before .args in
+    let e = c .before .before .before .before .before .before .before .by-rows .ensures in
+    let f = c .before .before .before .before .before .by-halves .ensures in
+    by-halves (a .p) 4 _ _ e _ (λ k. a .st) (a .y .now) _ f _ (c .before .before .before .before .if2 .taken) (c .before .before .luma-halves .ensures)
+
+returns-3 : tie.Need-returns-3
+returns-3 c =
+    let a = c .before .before .before .before .before .args in
+    let e = c .before .before .before .by-rows .ensures in
+    let f = c .before .by-halves .ensures in
+    by-neither (a .p) 4 _ _ e _ (λ k. a .st) (a .y .now) _ f (c .before .before .if1 .left) (c .if2 .left)
+
+pub window-luma-spec : {M : Type 1} → statement M
+window-luma-spec =
+    tie.close
+    (tie.spec (λ c κs. search needs) rows-requires (λ c. c .before .before .luma-rows .kept .0) returns (λ c κs. search needs)
+    halves-requires (λ c. c .before .before .luma-halves .kept .0) returns-2 returns-3)
