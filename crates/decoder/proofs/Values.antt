@@ -88,6 +88,16 @@ use Rattle.decoder.proofs.lanes.Kinds as lanes-kinds
 use Rattle.decoder.proofs.lanes.Reads as lanes-reads
 use Rattle.decoder.proofs.lanes_by_halves.Kinds as lanes-by-halves-kinds
 use Rattle.decoder.proofs.lanes_by_halves.Reads as lanes-by-halves-reads
+use Rattle.decoder.proofs.window_luma.Kinds as window-luma-kinds
+use Rattle.decoder.proofs.window_luma.Reads as window-luma-reads
+use Rattle.decoder.proofs.window_luma_two.Kinds as window-luma-two-kinds
+use Rattle.decoder.proofs.window_luma_two.Reads as window-luma-two-reads
+use Rattle.decoder.proofs.window_kept.Kinds as window-kept-kinds
+use Rattle.decoder.proofs.window_kept.Reads as window-kept-reads
+use Rattle.decoder.proofs.window_chroma.Kinds as window-chroma-kinds
+use Rattle.decoder.proofs.window_chroma.Reads as window-chroma-reads
+use Rattle.decoder.proofs.window_chroma_two.Kinds as window-chroma-two-kinds
+use Rattle.decoder.proofs.window_chroma_two.Reads as window-chroma-two-reads
 use Rattle.decoder.proofs.motion_row.Kinds as motion-row-kinds
 use Rattle.decoder.proofs.motion_row.Reads as motion-row-reads
 use Rattle.decoder.proofs.place_at.Kinds as place-at-kinds
@@ -202,6 +212,22 @@ lanes-once κs a r r′ x x′ p q = p ∙ sym q
 
 pub lanes-by-halves-once : Sole 0 lanes-by-halves-kinds.ps lanes-by-halves-kinds.r lanes-by-halves-reads.Post (λ κs r x. r)
 lanes-by-halves-once κs a r r′ x x′ p q = p ∙ sym q
+
+-- the lines of an edge: they answer nothing, and the planes are determined
+pub window-luma-once : Sole 1 window-luma-kinds.ps window-luma-kinds.r window-luma-reads.Post (λ κs r x. now (x .0))
+window-luma-once κs a r r′ x x′ p q = p ∙ sym q
+
+pub window-luma-two-once : Sole 1 window-luma-two-kinds.ps window-luma-two-kinds.r window-luma-two-reads.Post (λ κs r x. now (x .0))
+window-luma-two-once κs a r r′ x x′ p q = p ∙ sym q
+
+pub window-kept-once : Sole 1 window-kept-kinds.ps window-kept-kinds.r window-kept-reads.Post (λ κs r x. now (x .0))
+window-kept-once κs a r r′ x x′ p q = p ∙ sym q
+
+pub window-chroma-once : Sole 2 window-chroma-kinds.ps window-chroma-kinds.r window-chroma-reads.Post (λ κs r x. now (x .0) ∷ now (x .1 .0) ∷ [])
+window-chroma-once κs a r r′ x x′ p q = λ i. (p .0 ∙ sym (q .0)) i ∷ (p .1 ∙ sym (q .1)) i ∷ []
+
+pub window-chroma-two-once : Sole 2 window-chroma-two-kinds.ps window-chroma-two-kinds.r window-chroma-two-reads.Post (λ κs r x. now (x .0) ∷ now (x .1 .0) ∷ [])
+window-chroma-two-once κs a r r′ x x′ p q = λ i. (p .0 ∙ sym (q .0)) i ∷ (p .1 ∙ sym (q .1)) i ∷ []
 
 pub entries-once : Sole 3 entries-kinds.ps entries-kinds.r entries-reads.Post (λ κs r x. r)
 entries-once κs a r r′ x x′ p q = p ∙ sym q

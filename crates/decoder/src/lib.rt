@@ -10,7 +10,7 @@
 //     7 driver          reconstruct; checked_leaves, coded_y, coded_u, coded_v, mode_of, word_of
 //     8 walk            leaves, check, visiting_rank, list_edges; root_leaves, root_list, list_marks, take_marks, mark_place, mark_byte, root_count
 //       deblocking      deblock; Bands::first, deblock_band; checked, checked_band, band_rows, rows_above, entries, mask_of, line, lanes,
-//                       lanes_by_halves, motion_row, place_at, marks_at
+//                       lanes_by_halves, window_luma, window_luma_two, window_kept, window_chroma, window_chroma_two, motion_row, place_at, marks_at
 //       edge rows       fill_rows, set_motion, set_flag, deblock_by_rows; row_at, rows_at, rows_right, checked_maps
 //     the sheet         read, listing
 //     the compact map   put_map, get_map; take_map; write_to, write_map, read_from, read_map; get_bit, put_bit
@@ -18,7 +18,8 @@
 //     streams           read_header, write_header, read_frame, write_frame, import_frame
 // Inside are those that a caller needs none of. They are public because another crate calls them, and total like the rest: checked_points, start_qp, delta_in,
 // delta_out, checked_leaves, coded_y, coded_u, coded_v, mode_of, word_of, roots_along, root_leaves, root_list, list_marks, take_marks, mark_place, mark_byte, root_count, checked,
-// checked_band, entries, mask_of, line, lanes, lanes_by_halves, motion_row, place_at, marks_at, rows_at, checked_maps, read.
+// checked_band, entries, mask_of, line, lanes, lanes_by_halves, window_luma, window_luma_two, window_kept, window_chroma, window_chroma_two, motion_row,
+// place_at, marks_at, rows_at, checked_maps, read.
 pub use avail::Avail;
 pub use avail::Neighbours;
 pub use avail::get_avail_inter;
@@ -128,6 +129,12 @@ pub use strength::entries;
 pub use unit_edits::Flag;
 pub use unit_edits::set_flag;
 pub use unit_edits::set_motion;
+pub use window::Place;
+pub use window::window_chroma;
+pub use window::window_chroma_two;
+pub use window::window_kept;
+pub use window::window_luma;
+pub use window::window_luma_two;
 pub use y4m::import_frame;
 pub use y4m_frame::FrameRead;
 pub use y4m_frame::read_frame;
