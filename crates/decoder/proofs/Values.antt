@@ -1,4 +1,4 @@
--- The public calls that answer a value and refuse nothing: what is shared, the numbers of chroma points, what a leaf record says, the line filter and its rows.
+-- The public calls that answer a value and refuse nothing: what is shared, the numbers of chroma points, what a leaf record says, the maps of the units, the line filter and its rows.
 --     NAME-once    over the contract as the checker reads it from the source: the arguments determine the answer
 -- Assumes nothing.
 use Prim.Native.Nat.{ℕ}
@@ -7,6 +7,7 @@ use mathlib.Core.List.{[], _∷_}
 use denote.Ref.{now}
 use lib.IntN.{natAbs}
 use Rattle.chroma_qp_check.proofs.Offsets.{qp-apart}
+use Rattle.unit_maps.specs.Maps.{mapsOf}
 use Rattle.decoder.specs.Promise.{ended, Sole}
 use Rattle.decoder.proofs.pel2scu.Kinds as pel2scu-kinds
 use Rattle.decoder.proofs.pel2scu.Reads as pel2scu-reads
@@ -68,6 +69,10 @@ use Rattle.decoder.proofs.mode_of.Kinds as mode-of-kinds
 use Rattle.decoder.proofs.mode_of.Reads as mode-of-reads
 use Rattle.decoder.proofs.word_of.Kinds as word-of-kinds
 use Rattle.decoder.proofs.word_of.Reads as word-of-reads
+use Rattle.decoder.proofs.clear_words.Kinds as clear-words-kinds
+use Rattle.decoder.proofs.clear_words.Reads as clear-words-reads
+use Rattle.decoder.proofs.tell_units.Kinds as tell-units-kinds
+use Rattle.decoder.proofs.tell_units.Reads as tell-units-reads
 use Rattle.df.proofs.band.Bands.first.Kinds as first-kinds
 use Rattle.df.proofs.band.Bands.first.Reads as first-reads
 use Rattle.decoder.proofs.band_rows.Kinds as band-rows-kinds
@@ -185,6 +190,13 @@ mode-of-once κs a r r′ x x′ p q = p ∙ sym q
 
 pub word-of-once : Sole 0 word-of-kinds.ps word-of-kinds.r word-of-reads.Post (λ κs r x. r)
 word-of-once κs a r r′ x x′ p q = p ∙ sym q
+
+-- the two that follow answer nothing, and the maps are determined
+pub clear-words-once : Sole 1 clear-words-kinds.ps clear-words-kinds.r clear-words-reads.Post (λ κs r x. now (x .0))
+clear-words-once κs a r r′ x x′ p q = p ∙ sym q
+
+pub tell-units-once : Sole 3 tell-units-kinds.ps tell-units-kinds.r tell-units-reads.Post (λ κs r x. mapsOf (now (x .0)) (now (x .1 .0)) (now (x .1 .1 .0)))
+tell-units-once κs a r r′ x x′ p q = p ∙ sym q
 
 pub first-once : Sole 0 first-kinds.ps first-kinds.r first-reads.Post (λ κs r x. r)
 first-once κs a r r′ x x′ p q = λ i. record { next = (p ∙ sym q) i }

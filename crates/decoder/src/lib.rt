@@ -7,7 +7,7 @@
 //     4 gathering       get_nbr
 //     5 five modes      ipred_b
 //     6 residual        recon, recon_plane
-//     7 driver          reconstruct; checked_leaves, coded_y, coded_u, coded_v, mode_of, word_of
+//     7 driver          reconstruct; checked_leaves, coded_y, coded_u, coded_v, mode_of, word_of, clear_words, tell_units
 //     8 walk            leaves, check, visiting_rank, list_edges; root_leaves, root_list, list_marks, take_marks, mark_place, mark_byte, root_count
 //       deblocking      deblock; Bands::first, deblock_band; checked, checked_band, band_rows, rows_above, entries, mask_of, line, lanes,
 //                       lanes_by_halves, window_luma, window_luma_two, window_kept, window_chroma, window_chroma_two, motion_row, place_at, marks_at
@@ -17,8 +17,8 @@
 //     a torn map        mend
 //     streams           read_header, write_header, read_frame, write_frame, import_frame
 // Inside are those that a caller needs none of. They are public because another crate calls them, and total like the rest: checked_points, start_qp, delta_in,
-// delta_out, checked_leaves, coded_y, coded_u, coded_v, mode_of, word_of, roots_along, root_leaves, root_list, list_marks, take_marks, mark_place, mark_byte, root_count, checked,
-// checked_band, entries, mask_of, line, lanes, lanes_by_halves, window_luma, window_luma_two, window_kept, window_chroma, window_chroma_two, motion_row,
+// delta_out, checked_leaves, coded_y, coded_u, coded_v, mode_of, word_of, clear_words, tell_units, roots_along, root_leaves, root_list, list_marks, take_marks,
+// mark_place, mark_byte, root_count, checked, checked_band, entries, mask_of, line, lanes, lanes_by_halves, window_luma, window_luma_two, window_kept, window_chroma, window_chroma_two, motion_row,
 // place_at, marks_at, rows_at, checked_maps, read.
 pub use avail::Avail;
 pub use avail::Neighbours;
@@ -129,6 +129,8 @@ pub use strength::entries;
 pub use unit_edits::Flag;
 pub use unit_edits::set_flag;
 pub use unit_edits::set_motion;
+pub use unit_maps::clear_words;
+pub use unit_maps::tell_units;
 pub use window::Place;
 pub use window::window_chroma;
 pub use window::window_chroma_two;

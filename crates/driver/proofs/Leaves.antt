@@ -1,5 +1,6 @@
 -- A leaf, from what its functions leave.
 --     planes-asked, colour-asked, told    what its components and its units ask
+--     told-leaf    its units, told
 --     colour-drawn, colour-none, planes-drawn    its components, and a grey picture's U and V
 --     leaves-start, leaves-next, leaves-asked    the first leaves of a list
 --     kept    the lengths of what is written
@@ -29,7 +30,9 @@ use Rattle.driver_rules.specs.Records.{kindAt, recordQp, maskAt, keepAt, isMode
 use Rattle.driver_rules.specs.Steps.{Given, State, stepAt, steps}
 use Rattle.driver_rules.proofs.States.{plane-none, mask-of-y, asked-y, asked-u, asked-v}
 use Rattle.driver_rules.proofs.Walked.{one-leaf, leaves-none, leaves-more, stepped-place}
-use Rattle.driver.specs.Lends.{givenOf, stateOf, leafIn, toldTo, ColourDrawn, Drawn, ColourAsked, PlanesAsked, Told, Ended}
+use Rattle.unit_maps.specs.Maps.{Maps, mapsOf, Inside, toldMaps}
+use Rattle.unit_maps.proofs.Inside.{told-all}
+use Rattle.driver.specs.Lends.{givenOf, stateOf, leafIn, toldTo, ColourDrawn, Drawn, ColourAsked, PlanesAsked, Ended}
 use Rattle.driver.specs.declared.walk.Leaf.{Leaf}
 
 -- the leaf is a block of a picture of w by h
@@ -94,21 +97,31 @@ module _ (g : Given) (leaf : Leaf) (kind mask at : ℕ) (words u v : List ℕ) w
 
 pub told : (w h : ℕ) (leaf : Leaf) (words modes keep : List ℕ) → sizeOk w h ≡ true → IsBlock w h leaf
     → length words ≡ unitCount w h → length modes ≡ unitCount w h → length keep ≡ unitCount w h
-    → Told (w / 4) (leaf .x .0 / 4) (leaf .y .0 / 4) (leaf .side / 4) words modes keep
+    → Inside (w / 4) (leaf .x .0 / 4) (leaf .y .0 / 4) (leaf .side / 4) words modes keep
 told w h leaf words modes keep s b e f d =
     let n = sized w h s in
     let k = blocked w h (leaf .x .0) (leaf .y .0) (leaf .side) b in
     let column = four (leaf .x .0) (leaf .side) (k .side-ok) (k .column) in
     let row = four (leaf .y .0) (leaf .side) (k .side-ok) (k .row) in
     let rows : leaf .y .0 / 4 + leaf .side / 4 ≤ h / 4 = omega (arith, k .by-four, k .inside-down) in
+    let below : (leaf .y .0 / 4 + leaf .side / 4) * (w / 4) ≤ unitCount w h = omega (arith, mul-le-mul-right (w / 4) rows, mul-comm (h / 4) (w / 4)) in
     record {
-      some = omega (arith, n .some-wide);
+      wide = omega (arith, n .wide);
+      high = omega (arith, n .high);
       right = omega (arith, k .by-four, k .inside);
-      bottom = omega (arith, mul-le-mul-right (w / 4) rows, mul-comm (h / 4) (w / 4));
-      modes-same = f ∙ sym e;
-      keep-same = d ∙ sym e;
-      rows = omega (arith, n .high);
+      in-words = rw e below;
+      in-modes = rw f below;
+      in-keep = rw d below;
     }
+
+-- its units lie in the maps: what `tell_units` leaves is the leaf told
+pub told-leaf : (w : ℕ) (leaf : Leaf) (said kind mark : ℕ) {x y word mode : ℕ} {words modes keep words′ modes′ keep′ : List ℕ} → x ≡ leaf .x .0 / 4 → y ≡ leaf .y .0 / 4
+    → word ≡ said → mode ≡ kind → Inside (w / 4) (leaf .x .0 / 4) (leaf .y .0 / 4) (leaf .side / 4) words modes keep
+    → mapsOf words′ modes′ keep′ ≡ toldMaps (w / 4) x y (leaf .side / 4) word mode mark (mapsOf words modes keep)
+    → (words′ ≡ toldTo w leaf said words) × (modes′ ≡ toldTo w leaf kind modes) × (keep′ ≡ toldTo w leaf mark keep)
+told-leaf w leaf said kind mark ex ey ew em i q =
+    let e = (rw (ex, ey, ew, em) at q) ∙ told-all _ _ _ _ _ _ _ said kind mark i in
+    (ap (λ (m : Maps). m .words) e, ap (λ (m : Maps). m .modes) e, ap (λ (m : Maps). m .keep) e)
 
 -- ---- one leaf more of a list: leaf k + j is numbered from the list's first
 

@@ -1,4 +1,3 @@
 pub mod Copies
 pub mod Leaves
-pub mod Maps
 pub mod Packing

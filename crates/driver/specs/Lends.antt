@@ -69,15 +69,6 @@ pub record PlanesAsked (g : Given) (leaf : Leaf) (mask : ℕ) (words y u v : Lis
   pub y-asked : BlockAsked (aroundLeaf g Luma leaf y words)
   pub colour : ColourAsked g leaf mask words u v
 
--- a block of n by n units in three maps of rows of `columns`
-pub record Told (columns x y n : ℕ) (words modes keep : List ℕ) : Type 0 where
-  pub some : 0 < columns
-  pub right : x + n ≤ columns
-  pub bottom : (y + n) * columns ≤ length words
-  pub modes-same : length modes ≡ length words
-  pub keep-same : length keep ≡ length words
-  pub rows : y + n ≤ 4096
-
 -- the planes and the maps of a state
 pub record Ended (s : State) (y u v words modes keep : List ℕ) : Type 0 where
   pub y-end : y ≡ s .y

@@ -7,7 +7,7 @@ ghost use Rattle.driver.specs.Lends.{givenOf};
 use def::Answer;
 use def::Format;
 use driver_check::checked_leaves;
-use walk::clear;
+use unit_maps::clear_words;
 use walk::draw_picture;
 
 mod component; // component.rt: one component of a leaf
@@ -65,7 +65,7 @@ pub fn reconstruct(
     ) {
         return Answer::Refused(r);
     }
-    clear(&mut *words);
+    clear_words(&mut *words);
     draw_picture(
         w,
         h,

@@ -3,8 +3,7 @@ ghost use mathlib.Core.Path.{_≡_};
 ghost use mathlib.Core.List.{[]};
 ghost use Prim.Native.Nat.{ℕ, _+_, _*_, _/_, _%_, _≤_, _<_};
 ghost use lib.ListN.{length, getD};
-ghost use Rattle.laws.specs.Index.{pick, tabulate};
-ghost use Rattle.laws.specs.Plane.{withRow};
+ghost use Rattle.laws.specs.Index.{pick};
 ghost use Rattle.def.specs.Picture.{rootsAlong, rootCount};
 ghost use Rattle.def.specs.Word.{leafWord};
 ghost use Rattle.split.specs.Stored.{leavesFrom};
@@ -13,7 +12,8 @@ ghost use Rattle.driver_rules.specs.Call.{leavesOf};
 ghost use Rattle.driver_rules.specs.Records.{kindAt, recordQp, maskAt, keepAt, isMode, codedY, endV, placeOf, first, passed};
 ghost use Rattle.driver_rules.specs.Steps.{steps};
 ghost use Rattle.driver.specs.Packed.{packedLeaf, unpacked, unpackedAt, Packed};
-ghost use Rattle.driver.specs.Lends.{givenOf, stateOf, colourEnd, toldTo, ColourDrawn, Drawn, ColourAsked, PlanesAsked, Told, Ended};
+ghost use Rattle.driver.specs.Lends.{givenOf, stateOf, colourEnd, toldTo, ColourDrawn, Drawn, ColourAsked, PlanesAsked, Ended};
+ghost use Rattle.unit_maps.specs.Maps.{Inside};
 use crate::component::Block;
 use crate::component::component;
 use def::Component;
@@ -26,6 +26,7 @@ use leaf_record::coded_y;
 use leaf_record::mode_of;
 use leaf_record::word_of;
 use split::Walked;
+use unit_maps::tell_units;
 
 // A root's place, in luma samples.
 pub(crate) struct Root {
@@ -141,64 +142,20 @@ fn leaf_at(leaves: &[u16], root: Root, j: usize) -> Leaf
 
 // ---- the maps
 
-// n units from place `at` on are told.
-fn tell_row(
-    words: &mut [u32],
-    modes: &mut [u8],
-    keep: &mut [u8],
-    at: usize,
-    n: usize,
-    word: u32,
-    mode: u8,
-    mark: u8,
-)
-    requires { ⌜ (at + n ≤ length (now words)) × (at + n ≤ length (now modes)) × (at + n ≤ length (now keep)) ⌝ }
-    ensures { λ _. ⌜ (now (words .exit) ≡ withRow 0 at n (λ (j : ℕ). word) (now (words .entry))) × (now (modes .exit) ≡ withRow 0 at n (λ (j : ℕ). mode) (now (modes .entry)))
-        × (now (keep .exit) ≡ withRow 0 at n (λ (j : ℕ). mark) (now (keep .entry))) ⌝ }
-{
-    let mut j = 0;
-    while j < n {
-        words[at + j] = word;
-        modes[at + j] = mode;
-        keep[at + j] = mark;
-        j += 1;
-    }
-}
-
-// The units of a leaf, in maps of a picture w wide: the word of its record, the mode, and whether they are kept. A leaf of 4 is one unit, and no loop.
+// The units of a leaf, in maps of a picture w wide: the word of its record, the mode, and whether they are kept. They lie in the maps, and so are told.
 fn tell(words: &mut [u32], modes: &mut [u8], keep: &mut [u8], w: usize, leaf: Leaf, record: Record)
-    requires { ⌜ Told (w / 4) (leaf .x .0 / 4) (leaf .y .0 / 4) (leaf .side / 4) (now words) (now modes) (now keep) ⌝ }
+    requires { ⌜ Inside (w / 4) (leaf .x .0 / 4) (leaf .y .0 / 4) (leaf .side / 4) (now words) (now modes) (now keep) ⌝ }
     ensures { λ _. ⌜ (now (words .exit) ≡ toldTo w leaf (leafWord (isMode («record» .kind)) («record» .qp) (codedY («record» .mask))) (now (words .entry)))
         × (now (modes .exit) ≡ toldTo w leaf (pick (isMode («record» .kind)) («record» .kind) 255) (now (modes .entry)))
         × (now (keep .exit) ≡ toldTo w leaf («record» .keep) (now (keep .entry))) ⌝ }
 {
-    let columns = w / 4;
-    let x = pel2scu(leaf.x).0;
-    let y = pel2scu(leaf.y).0;
-    let side = leaf.side;
-    let n = side / 4;
+    let x = pel2scu(leaf.x);
+    let y = pel2scu(leaf.y);
+    let n = leaf.side / 4;
     let word = word_of(record.kind, record.qp, record.mask);
     let mode = mode_of(record.kind);
     let mark = record.keep;
-    if n == 1 {
-        let at = y * columns + x;
-        tell_row(words, modes, keep, at, 1, word, mode, mark);
-        return;
-    }
-    let mut r = 0;
-    while r < n {
-        tell_row(
-            &mut *words,
-            &mut *modes,
-            &mut *keep,
-            (y + r) * columns + x,
-            n,
-            word,
-            mode,
-            mark,
-        );
-        r += 1;
-    }
+    tell_units(words, modes, keep, w / 4, x, y, n, word, mode, mark);
 }
 
 // ---- a leaf
@@ -402,17 +359,6 @@ fn draw_leaves(
 }
 
 // ---- the picture
-
-// Map words start at 0.
-pub(crate) fn clear(words: &mut [u32])
-    ensures { λ _. ⌜ now (words .exit) ≡ tabulate (length (now (words .entry))) (λ (k : ℕ). 0) ⌝ }
-{
-    let mut i = 0;
-    while i < words.len() {
-        words[i] = 0;
-        i += 1;
-    }
-}
 
 // All leaves, root after root in raster order.
 pub(crate) fn draw_picture(

@@ -28,10 +28,10 @@ input s =
 abbrev drawn : tie.After-slice-known13 → tie.After-draw-picture
 drawn c = c .before .before .before .before .before .before .before .before .before .before .before .before
 
-abbrev cleared : tie.After-draw-picture-arg6 → tie.After-clear
+abbrev cleared : tie.After-draw-picture-arg6 → tie.After-clear-words
 cleared c = c .before .before .before .before .before .before .before .before
 
-abbrev checked : tie.After-clear → tie.After-enum-told
+abbrev checked : tie.After-clear-words → tie.After-enum-told
 checked c = c .before .before
 
 abbrev start : tie.After-enum-told → tie.Start
@@ -45,7 +45,7 @@ draw-picture-requires : tie.Need-draw-picture-requires
 draw-picture-requires c κs =
     let k = cleared c in
     let p = passed-at (checked k) in
-    (p .given, (rw (k .clear .ensures) (p .state), (p .accepted, p .reaches)))
+    (p .given, (rw (k .clear-words .ensures) (p .state), (p .accepted, p .reaches)))
 
 returns : tie.Need-returns
 unfolding outcome
@@ -57,7 +57,7 @@ returns-2 c =
     let d = drawn c in
     let k = cleared (d .before) in
     let e = checked k in
-    on-done _ _ _ _ _ (e .before .before .checked-leaves .ensures) (e .enum-told .given .1) (done-ended (input (start e)) (k .clear .ensures) (d .draw-picture .ensures))
+    on-done _ _ _ _ _ (e .before .before .checked-leaves .ensures) (e .enum-told .given .1) (done-ended (input (start e)) (k .clear-words .ensures) (d .draw-picture .ensures))
 
 pub reconstruct-spec : {M : Type 1} → statement M
 reconstruct-spec =
@@ -66,6 +66,6 @@ reconstruct-spec =
     (λ c. drawn c .draw-picture .kept .1 .1 .1 .1 .1 .1 .1 .1 .1 .1 .0)
     (λ c. drawn c .draw-picture .kept .1 .1 .1 .1 .1 .1 .1 .1 .1 .1 .1 .0)
     (λ c. drawn c .draw-picture .kept .1 .1 .1 .1 .1 .1 .1 .1 .1 .1 .1 .1 .0)
-    (λ c. drawn c .draw-picture .kept .1 .1 .1 .1 .1 .1 .1 .1 .1 .1 .1 .1 .1 .0 ∙ cleared (drawn c .before) .clear .kept .0)
+    (λ c. drawn c .draw-picture .kept .1 .1 .1 .1 .1 .1 .1 .1 .1 .1 .1 .1 .1 .0 ∙ cleared (drawn c .before) .clear-words .kept .0)
     (λ c. drawn c .draw-picture .kept .1 .1 .1 .1 .1 .1 .1 .1 .1 .1 .1 .1 .1 .1 .0)
     (λ c. drawn c .draw-picture .kept .1 .1 .1 .1 .1 .1 .1 .1 .1 .1 .1 .1 .1 .1 .1 .0) returns-2)

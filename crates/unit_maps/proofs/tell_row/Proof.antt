@@ -1,10 +1,10 @@
--- `driver::walk::tell_row` meets its contract: a turn stores one unit more in each map. Assumes nothing.
+-- `unit_maps::tell_row` meets its contract: a turn stores one unit more in each map. Assumes nothing.
 use Prim.Native.Nat.{ℕ, _-_, _≤_}
 use mathlib.Core.Path.{refl}
 use native.Mathlib.Omega.{arith}
 use Rattle.laws.proofs.Planes.{Rowed, rowed-none, rowed-more, rowed-all}
-use Rattle.driver.proofs.walk.tell_row.Statement.{statement}
-use Rattle.driver.proofs.walk.tell_row.Tie as tie
+use Rattle.unit_maps.proofs.tell_row.Statement.{statement}
+use Rattle.unit_maps.proofs.tell_row.Tie as tie
 
 abbrev Inv-loop : tie.InvT-loop
 Inv-loop words₀ modes₀ keep₀ at n word mode mark j₀ words modes keep j =
