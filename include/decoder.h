@@ -284,7 +284,7 @@ uint8_t lomsakeun_listing(const uint8_t *input, size_t input_len, uint8_t *out, 
 uint8_t lomsakeun_read_header(
     const uint8_t *s, size_t s_len, size_t *w, size_t *h, size_t *f, size_t *g, size_t *a, size_t *b, size_t *next, size_t *at);
 
-/* The header of a picture's stream, at the start of 256 bytes (y4m_header), and how many bytes it has. colour: the picture has chroma. */
+/* The header of a picture's stream, at the start of 256 bytes (y4m_header_out), and how many bytes it has. colour: the picture has chroma. */
 uint8_t lomsakeun_write_header(
     bool colour, size_t w, size_t h, size_t f, size_t g, size_t a, size_t b, uint8_t *out, size_t out_len, size_t *count);
 
@@ -293,7 +293,7 @@ uint8_t lomsakeun_read_frame(
     const uint8_t *s, size_t s_len, size_t place, size_t w, size_t h, uint16_t *y, size_t y_len,
     uint16_t *u, size_t u_len, uint16_t *v, size_t v_len, size_t *next, size_t *at);
 
-/* A picture's frame (y4m_frame), into exactly its bytes: 6 and two a sample. */
+/* A picture's frame (y4m_frame_out), into exactly its bytes: 6 and two a sample. */
 uint8_t lomsakeun_write_frame(
     bool colour, size_t w, size_t h, const uint16_t *y, size_t y_len, const uint16_t *u, size_t u_len,
     const uint16_t *v, size_t v_len, uint8_t *out, size_t out_len);

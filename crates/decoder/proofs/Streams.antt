@@ -1,5 +1,5 @@
 -- The calls of YUV4MPEG2 streams: of each NAME-once and NAME-refusals, as in `Promises`; and an input that each accepts.
--- The answers are told apart by `read-apart`, `written-apart` (y4m_header) and `frame-apart` (y4m_frame).
+-- The answers are told apart by `read-apart` (y4m_header), `written-apart` (y4m_header_out) and `frame-apart` (y4m_frame).
 -- Assumes nothing.
 use Prim.Native.Nat.{ℕ}
 use mathlib.Core.Path.{_≡_, refl, sym, subst}
@@ -26,15 +26,16 @@ use Rattle.y4m_rules.specs.Numbers.{isNumber}
 use Rattle.y4m_rules.specs.Frames.{colourOk, bytesOf, frameText, frameEnd, matches, lineOk, linePlace, planesOk}
 use Rattle.y4m_rules.specs.Header.{Header, malformed, said, headerText, headerIn, words, ending, valueOk, saidWith}
 use Rattle.y4m_header.specs.ReadCall as header
-use Rattle.y4m_header.specs.WriteCall as header-out
 use Rattle.y4m_header.specs.declared.HeaderRead.{HeaderRead}
 use Rattle.y4m_header.specs.declared.HeaderRead.the-variants.{Read as ReadHeader, Refused as NoHeader}
-use Rattle.y4m_header.proofs.Answers.{read-apart, written-apart}
+use Rattle.y4m_header.proofs.Answers.{read-apart}
+use Rattle.y4m_header_out.specs.WriteCall as header-out
+use Rattle.y4m_header_out.proofs.Answers.{written-apart}
 use Rattle.y4m_frame.specs.ReadCall as frame
-use Rattle.y4m_frame.specs.WriteCall as frame-out
 use Rattle.y4m_frame.specs.declared.FrameRead.{FrameRead}
 use Rattle.y4m_frame.specs.declared.FrameRead.the-variants.{Read, Refused}
 use Rattle.y4m_frame.proofs.Answers.{frame-apart}
+use Rattle.y4m_frame_out.specs.WriteCall as frame-out
 use Rattle.y4m.specs.Import as import
 use Rattle.decoder.specs.Promise.{ended, Sole, OneOf, Refuses}
 use Rattle.decoder.proofs.Settled.{told, settled}

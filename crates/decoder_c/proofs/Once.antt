@@ -24,9 +24,9 @@ use Rattle.split.specs.LeavesCall as meeting
 use Rattle.split.specs.ListCall as listing
 use Rattle.y4m.specs.Import as importing
 use Rattle.y4m_frame.specs.ReadCall as framing
-use Rattle.y4m_frame.specs.WriteCall as drawing
+use Rattle.y4m_frame_out.specs.WriteCall as drawing
 use Rattle.y4m_header.specs.ReadCall as heading
-use Rattle.y4m_header.specs.WriteCall as writing
+use Rattle.y4m_header_out.specs.WriteCall as writing
 use Rattle.decoder_c.specs.Masks as masks
 use Rattle.decoder_c.specs.Ranks as ranked
 use Rattle.decoder_c.specs.Screen as screen

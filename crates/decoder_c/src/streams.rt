@@ -2,16 +2,16 @@
 ghost use mathlib.Core.Path.{_≡_};
 ghost use Rattle.laws.specs.Call.{Gives};
 ghost use Rattle.y4m_header.specs.ReadCall as heading;
-ghost use Rattle.y4m_header.specs.WriteCall as writing;
+ghost use Rattle.y4m_header_out.specs.WriteCall as writing;
 ghost use Rattle.y4m_frame.specs.ReadCall as framing;
-ghost use Rattle.y4m_frame.specs.WriteCall as drawing;
+ghost use Rattle.y4m_frame_out.specs.WriteCall as drawing;
 ghost use Rattle.y4m.specs.Import as importing;
 ghost use Rattle.decoder_c.specs.Flags.{formatOf};
 ghost use Rattle.decoder_c.specs.Streams.{headingOf, framedOf};
 use crate::format_of;
 use y4m_frame::FrameRead;
 use y4m_header::HeaderRead;
-use y4m_header::HeaderWritten;
+use y4m_header_out::HeaderWritten;
 
 // ---- answers in numbers: a value is 0 where refused
 
@@ -150,7 +150,16 @@ pub extern "C" fn lomsakeun_write_header(
         (record { format = formatOf colour; w = w; h = h; f = f; g = g; a = a; b = b; out = now (out .entry) })
         (record { reading = record { number = n; count = now (count .exit) }; out = now (out .exit) }) ⌝ }
 {
-    let seen = written_numbers(y4m_header::write_header(format_of(colour), w, h, f, g, a, b, out));
+    let seen = written_numbers(y4m_header_out::write_header(
+        format_of(colour),
+        w,
+        h,
+        f,
+        g,
+        a,
+        b,
+        out,
+    ));
     *count = seen.count;
     seen.number
 }
@@ -191,7 +200,7 @@ pub extern "C" fn lomsakeun_write_frame(
         (record { format = formatOf colour; w = w; h = h; y = now (y .entry); u = now (u .entry); v = now (v .entry); out = now (out .entry) })
         (record { number = n; out = now (out .exit) }) ⌝ }
 {
-    def::answer_number(y4m_frame::write_frame(format_of(colour), w, h, y, u, v, out))
+    def::answer_number(y4m_frame_out::write_frame(format_of(colour), w, h, y, u, v, out))
 }
 
 #[no_mangle]

@@ -3,7 +3,7 @@
 use def::Format;
 use y4m_frame::FrameRead;
 use y4m_header::HeaderRead;
-use y4m_header::HeaderWritten;
+use y4m_header_out::HeaderWritten;
 
 // ---- answers
 
@@ -83,7 +83,7 @@ fn header_written(
     b: usize,
     out: &mut [u8],
 ) {
-    print_written(y4m_header::write_header(format_of(colour), w, h, f, g, a, b, out));
+    print_written(y4m_header_out::write_header(format_of(colour), w, h, f, g, a, b, out));
     replay::print_u8(out);
     replay::print_end();
 }
@@ -113,7 +113,7 @@ fn frame_written(
     v: &[u16],
     out: &mut [u8],
 ) {
-    replay::print_first(def::answer_number(y4m_frame::write_frame(
+    replay::print_first(def::answer_number(y4m_frame_out::write_frame(
         format_of(colour),
         w,
         h,

@@ -30,14 +30,14 @@ use Rattle.y4m_rules.specs.Frames.{colourOk, frameLength, bytesOf, frameText, l
 use Rattle.y4m_rules.specs.Header.{headerText, said, headerIn}
 use Rattle.y4m_rules.proofs.Frames.{bytes-long, plane-back, line-back}
 use Rattle.y4m_rules.proofs.Header.{header-back, header-short}
-use Rattle.y4m_header.specs.WriteCall as header
 use Rattle.y4m_header.specs.ReadCall as reading
 use Rattle.y4m_header.specs.declared.HeaderRead.the-variants.{Read}
-use Rattle.y4m_header.proofs.Answers.{writable}
-use Rattle.y4m_frame.specs.WriteCall as frame
+use Rattle.y4m_header_out.specs.WriteCall as header
+use Rattle.y4m_header_out.proofs.Answers.{writable}
 use Rattle.y4m_frame.specs.ReadCall as framed
 use Rattle.y4m_frame.specs.declared.FrameRead.{FrameRead}
 use Rattle.y4m_frame.specs.declared.FrameRead.the-variants.{Read as ReadFrame}
+use Rattle.y4m_frame_out.specs.WriteCall as frame
 use Rattle.y4m.specs.Import as import
 use Rattle.y4m.specs.Again.{Exported, stream, Again}
 

@@ -4,9 +4,9 @@ use Prim.Native.Nat.{ℕ, _+_}
 use mathlib.Core.List.{List, _++_}
 use mathlib.Core.Path.{_≡_}
 use lib.ListN.{length, take}
-use Rattle.y4m_header.specs.WriteCall as header
 use Rattle.y4m_header.specs.ReadCall as reading
-use Rattle.y4m_frame.specs.WriteCall as frame
+use Rattle.y4m_header_out.specs.WriteCall as header
+use Rattle.y4m_frame_out.specs.WriteCall as frame
 use Rattle.y4m.specs.Import as import
 
 -- a header and a frame of one picture, each written without a refusal

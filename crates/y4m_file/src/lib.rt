@@ -98,7 +98,7 @@ fn after(more: bool, number: u8, at: usize, failed: bool) -> Turn {
 
 // Writes a frame.
 pub fn put_frame(w: usize, h: usize, y: &[u16], u: &[u16], v: &[u16], bytes: &mut [u8]) -> Turn {
-    match y4m_frame::write_frame(Format::Colour, w, h, y, u, v, bytes) {
+    match y4m_frame_out::write_frame(Format::Colour, w, h, y, u, v, bytes) {
         Answer::Refused(r) => after(false, def::refusal_number(r), 0, false),
         Answer::Done => {
             if io::write_all(STDOUT_FILENO, bytes) {

@@ -1,2 +1,1 @@
 pub mod ReadCall
-pub mod WriteCall

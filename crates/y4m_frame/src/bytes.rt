@@ -1,11 +1,9 @@
-// The bytes of a frame: its line, and samples of two bytes, the low byte first.
+// The bytes of a frame, read: its line, and samples of two bytes, the low byte first.
 ghost use mathlib.Core.Path.{_≡_};
 ghost use Prim.Native.Nat.{_+_, _*_, _≤_};
 ghost use lib.ListN.{length, drop};
-ghost use Rattle.edges.specs.Put.{Put};
 ghost use Rattle.samples.specs.Samples.{samplesOk};
-ghost use Rattle.y4m_rules.specs.Words.{frameLine};
-ghost use Rattle.y4m_rules.specs.Frames.{bytesOf, planeAt, matches, lineOk, linePlace};
+ghost use Rattle.y4m_rules.specs.Frames.{planeAt, matches, lineOk, linePlace};
 
 // ---- the line
 
@@ -46,19 +44,6 @@ pub(crate) fn line_place(s: &[u8], at: usize) -> usize
     at
 }
 
-pub(crate) fn put_line(out: &mut [u8]) -> usize
-    requires { ⌜ 6 ≤ length (now out) ⌝ }
-    ensures { λ r. ⌜ Put frameLine (now (out .entry)) 0 (now (out .exit)) r ⌝ }
-{
-    out[0] = b'F';
-    out[1] = b'R';
-    out[2] = b'A';
-    out[3] = b'M';
-    out[4] = b'E';
-    out[5] = b'\n';
-    6
-}
-
 // ---- samples
 
 // The sample of two bytes.
@@ -93,18 +78,4 @@ pub(crate) fn read_plane(s: &[u8], from: usize, plane: &mut [u16])
         plane[i] = sample(s[from + 2 * i], s[from + 2 * i + 1]);
         i += 1;
     }
-}
-
-// A plane's bytes from `at` on; the place after them is answered.
-pub(crate) fn put_plane(out: &mut [u8], at: usize, plane: &[u16]) -> usize
-    requires { ⌜ at + 2 * length (now plane) ≤ length (now out) ⌝ }
-    ensures { λ r. ⌜ Put (bytesOf (now (plane .entry))) (now (out .entry)) at (now (out .exit)) r ⌝ }
-{
-    let mut i = 0;
-    while i < plane.len() {
-        out[at + 2 * i] = (plane[i] % 256) as u8;
-        out[at + 2 * i + 1] = (plane[i] / 256) as u8;
-        i += 1;
-    }
-    at + 2 * i
 }

@@ -1,4 +1,5 @@
 -- What each early answer and each last one of the header's functions comes to.
+--     value-no, value-is, ratio-no, ratio-is    what an answer tells of its text
 --     same-long, same-other, same-all     a text that is just some bytes
 --     value-none, value-some, term-no, term-none, term-some, ratio-cut, ratio-upper-no, ratio-lower-no, ratio-both    numbers
 --     told-bad, told-twice, told-once     a word's value, where its letter may come once
@@ -6,11 +7,12 @@
 use mathlib.Core.Bool.{Bool, true, false, not, _&&_, _||_}
 use mathlib.Core.List.{List, [], _∷_}
 use mathlib.Core.Path.{_≡_, refl, sym, ap, ap₂, _∙_}
-use Prim.Native.Nat.{ℕ, zero, suc, _+_, _-_, _≤_, _<_}
+use Prim.Native.Nat.{ℕ, _+_, _-_, _≤_, _<_}
 use native.Mathlib.Omega.{arith}
 use borrow.Author.Tests.{eq-eqb, ne-eqb}
 use lib.Dec.{eqb}
 use lib.ListN.{length, take, drop, getD, List·getD-eq-default}
+use Rattle.laws.specs.Index.{pick}
 use Rattle.laws.proofs.Bools.{and-false}
 use Rattle.sheet_lines.specs.Lines.{startsWith, sameLine}
 use Rattle.sheet_lines.proofs.Forms.{rest-of}
@@ -18,6 +20,7 @@ use Rattle.y4m_rules.specs.Words.{colonOf, progressive, format}
 use Rattle.y4m_rules.specs.Numbers.{isNumber, isTerm, isRatio, inRange, valueOf, afterColon, upper, lower}
 use Rattle.y4m_rules.specs.Header.{withW, withH, withF, withI, withA, withC, valueOk, saidWith, wordOk, tell}
 use Rattle.y4m_rules.specs.declared.Said.{Said}
+use Rattle.y4m_rules.proofs.Reading.{before-take, before-found}
 use Rattle.y4m_header.specs.Values.{valueBy, ratioBy, toldBy}
 use Rattle.y4m_header.specs.declared.numbers.Value.{Value}
 use Rattle.y4m_header.specs.declared.numbers.Value.the-variants.{Is, Malformed}
@@ -25,7 +28,36 @@ use Rattle.y4m_header.specs.declared.numbers.Ratio.{Ratio}
 use Rattle.y4m_header.specs.declared.numbers.Ratio.the-variants.{Is as IsRatio, Malformed as NoRatio}
 use Rattle.y4m_header.specs.declared.words.Told.{Told}
 use Rattle.y4m_header.specs.declared.words.Told.the-variants.{Said as TellsSo, Malformed as NotTold}
-use Rattle.y4m_header.proofs.Reading.{before-take, before-found, value-no, value-is}
+
+-- ---- what an answer tells
+
+module _ (form : List ℕ → Bool) (l : List ℕ) (v : Value) (e : v ≡ valueBy form l) where
+  pub value-no : v ≡ Malformed → form l ≡ false
+  value-no q = go (form l) (sym e ∙ q) where
+    go : (t : Bool) → pick t (Is (valueOf l)) Malformed ≡ Malformed → t ≡ false
+    go true z = cc
+    go false z = refl
+
+  pub value-is : (n : ℕ) → v ≡ Is n → (form l ≡ true) × (n ≡ valueOf l)
+  value-is n q = go (form l) (sym e ∙ q) where
+    go : (t : Bool) → pick t (Is (valueOf l)) Malformed ≡ Is n → (t ≡ true) × (n ≡ valueOf l)
+    go true z = (refl, cc)
+    go false z = absurd (let y : _≡_ {A = ℕ} 0 1 = cc in omega arith)
+
+module _ (l : List ℕ) (v : Ratio) (e : v ≡ ratioBy l) where
+  pub ratio-no : v ≡ NoRatio → isRatio l ≡ false
+  unfolding ratioBy
+  ratio-no q = go (isRatio l) (sym e ∙ q) where
+    go : (t : Bool) → pick t (IsRatio (upper l) (lower l)) NoRatio ≡ NoRatio → t ≡ false
+    go true z = cc
+    go false z = refl
+
+  pub ratio-is : (n m : ℕ) → v ≡ IsRatio n m → (isRatio l ≡ true) × (n ≡ upper l) × (m ≡ lower l)
+  unfolding ratioBy
+  ratio-is n m q = go (isRatio l) (sym e ∙ q) where
+    go : (t : Bool) → pick t (IsRatio (upper l) (lower l)) NoRatio ≡ IsRatio n m → (t ≡ true) × (n ≡ upper l) × (m ≡ lower l)
+    go true z = (refl, cc, cc)
+    go false z = absurd (let y : _≡_ {A = ℕ} 0 1 = cc in omega arith)
 
 -- ---- a text that is just some bytes
 

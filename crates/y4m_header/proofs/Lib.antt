@@ -1,5 +1,3 @@
 pub mod Answers
 pub mod Forms
 pub mod Lines
-pub mod Printing
-pub mod Reading

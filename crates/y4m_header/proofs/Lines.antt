@@ -19,12 +19,12 @@ use Rattle.sheet_lines.specs.Lines.{startsWith, sameLine}
 use Rattle.y4m_rules.specs.Words.{magic, wordOf}
 use Rattle.y4m_rules.specs.Header.{nothing, wordOk, tell, Header, malformed, said, needed, ending, words, headOf, headerIn}
 use Rattle.y4m_rules.specs.declared.Said.{Said}
+use Rattle.y4m_rules.proofs.Reading.{here, before-take, before-fits}
 use Rattle.y4m_header.specs.Values.{toldBy, wordsOf, headLength}
 use Rattle.y4m_header.specs.declared.words.Told.{Told}
 use Rattle.y4m_header.specs.declared.words.Told.the-variants.{Said as TellsSo, Malformed as NotTold}
 use Rattle.y4m_header.specs.declared.words.Words.{Words}
 use Rattle.y4m_header.specs.declared.words.Words.the-variants.{Whole, Malformed as Broken}
-use Rattle.y4m_header.proofs.Reading.{here, before-take, before-fits}
 
 -- ---- where the loop stands
 

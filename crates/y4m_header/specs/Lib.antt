@@ -1,3 +1,2 @@
 pub mod ReadCall
 pub mod Values
-pub mod WriteCall

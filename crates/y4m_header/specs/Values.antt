@@ -2,12 +2,11 @@
 -- Assumes nothing: these are definitions.
 use Prim.Native.Nat.{ℕ}
 use mathlib.Core.Bool.{Bool}
-use mathlib.Core.List.{List, _∷_, _++_}
+use mathlib.Core.List.{List}
 use lib.Dec.{ltb}
 use Rattle.laws.specs.Index.{pick}
-use Rattle.y4m_rules.specs.Words.{magic}
-use Rattle.y4m_rules.specs.Numbers.{number, isRatio, valueOf, upper, lower}
-use Rattle.y4m_rules.specs.Header.{param, Header, malformed, said}
+use Rattle.y4m_rules.specs.Numbers.{isRatio, valueOf, upper, lower}
+use Rattle.y4m_rules.specs.Header.{Header, malformed, said}
 use Rattle.y4m_rules.specs.declared.Said.{Said}
 use Rattle.y4m_header.specs.declared.numbers.Value.{Value}
 use Rattle.y4m_header.specs.declared.numbers.Value.the-variants.{Is, Malformed}
@@ -32,10 +31,6 @@ toldBy ok p = pick ok (TellsSo p) NotTold
 abbrev pub wordsOf : Header → Words
 wordsOf (malformed at) = Broken at
 wordsOf (said p n) = Whole p n
-
--- the header up to H
-abbrev pub sidesText : ℕ → ℕ → List ℕ
-sidesText w h = magic ++ param 87 (number w) (32 ∷ 72 ∷ number h)
 
 -- how many of n bytes a header may have
 abbrev pub headLength : ℕ → ℕ

@@ -22,6 +22,10 @@ unfoldable pub headerText : (w h f g a b : ℕ) → List ℕ
 headerText w h f g a b =
     magic ++ param 87 (number w) (param 72 (number h) (param 70 (ratio f g) (param 73 progressive (param 65 (ratio a b) (param 67 format (10 ∷ []))))))
 
+-- the header up to H
+abbrev pub sidesText : ℕ → ℕ → List ℕ
+sidesText w h = magic ++ param 87 (number w) (32 ∷ 72 ∷ number h)
+
 -- ---- what a word says
 
 -- nothing was said

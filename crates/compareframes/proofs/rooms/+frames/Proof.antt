@@ -7,7 +7,7 @@ use borrow.Author.Needs.{needs}
 use borrow.Fn.Kinds.{In}
 use borrow.Fn.PlainCycle.{Measures, is, falls, and}
 use Rattle.laws.specs.Index.{pick}
-use Rattle.y4m_frame.proofs.Runs.{area, quarter}
+use Rattle.y4m_rules.proofs.Runs.{area, quarter}
 use Rattle.say.proofs.line.Reads as line-reads
 use Rattle.compareframes.proofs.rooms.frames.Reads as frames
 use Rattle.compareframes.proofs.rooms.frames.Kinds as frames-kinds

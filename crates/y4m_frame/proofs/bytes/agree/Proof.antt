@@ -7,7 +7,7 @@ use native.Mathlib.Omega.{arith}
 use borrow.Author.Needs.{needs}
 use lib.ListN.{length, drop}
 use Rattle.y4m_rules.specs.Frames.{matches}
-use Rattle.y4m_frame.proofs.Runs.{match-none, match-out, match-other, match-on}
+use Rattle.y4m_rules.proofs.Runs.{match-none, match-out, match-other, match-on}
 use Rattle.y4m_frame.proofs.bytes.agree.Statement.{statement}
 use Rattle.y4m_frame.proofs.bytes.agree.Tie as tie
 

@@ -8,7 +8,7 @@ use borrow.Author.Needs.{needs}
 use lib.ListN.{length, drop, length-drop}
 use Rattle.y4m_rules.specs.Words.{frameSpace}
 use Rattle.y4m_rules.specs.Frames.{matches, linePlace}
-use Rattle.y4m_frame.proofs.Runs.{match-fits}
+use Rattle.y4m_rules.proofs.Runs.{match-fits}
 use Rattle.y4m_frame.proofs.bytes.line_place.Statement.{statement}
 use Rattle.y4m_frame.proofs.bytes.line_place.Tie as tie
 

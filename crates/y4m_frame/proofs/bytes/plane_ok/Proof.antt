@@ -9,7 +9,7 @@ use Rattle.laws.proofs.ScanAll.{scan-step}
 use Rattle.samples.specs.Samples.{sampleOk}
 use Rattle.samples.proofs.Samples.{joined}
 use Rattle.y4m_rules.specs.Frames.{sampleAt}
-use Rattle.y4m_frame.proofs.Runs.{scan-plane}
+use Rattle.y4m_rules.proofs.Runs.{scan-plane}
 use Rattle.y4m_frame.proofs.bytes.plane_ok.Statement.{statement}
 use Rattle.y4m_frame.proofs.bytes.plane_ok.Tie as tie
 

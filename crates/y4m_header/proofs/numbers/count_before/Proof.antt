@@ -5,7 +5,7 @@ use native.Mathlib.Omega.{arith}
 use borrow.Author.Needs.{needs}
 use lib.ListN.{length, drop}
 use Rattle.y4m_rules.specs.Words.{before}
-use Rattle.y4m_header.proofs.Reading.{before-stop, before-on, before-end}
+use Rattle.y4m_rules.proofs.Reading.{before-stop, before-on, before-end}
 use Rattle.y4m_header.proofs.numbers.count_before.Statement.{statement}
 use Rattle.y4m_header.proofs.numbers.count_before.Tie as tie
 

@@ -6,7 +6,7 @@ use borrow.Author.Needs.{needs}
 use lib.ListN.{length, drop}
 use Rattle.sheet_lines.specs.Lines.{valueFrom}
 use Rattle.sheet_lines.proofs.Reading.{value-on, value-all, value-more}
-use Rattle.y4m_header.proofs.Reading.{five-digits, digit-at, value-small}
+use Rattle.y4m_rules.proofs.Reading.{five-digits, digit-at, value-small}
 use Rattle.y4m_header.proofs.numbers.decimal_value.Statement.{statement}
 use Rattle.y4m_header.proofs.numbers.decimal_value.Tie as tie
 

@@ -9,7 +9,7 @@ use lib.ListN.{length, take}
 use lib.Seq.{length-take-le}
 use Rattle.sheet_lines.specs.Lines.{sameLine}
 use Rattle.y4m_rules.specs.Words.{magic, wordOf}
-use Rattle.y4m_header.proofs.Reading.{before-short, before-take}
+use Rattle.y4m_rules.proofs.Reading.{before-short, before-take}
 use Rattle.y4m_header.proofs.Lines.{head-is, head-fits, magic-long, no-magic, with-magic}
 use Rattle.y4m_header.proofs.words.header_in.Statement.{statement}
 use Rattle.y4m_header.proofs.words.header_in.Tie as tie

@@ -4,7 +4,7 @@ use mathlib.Core.Path.{_≡_}
 use native.Mathlib.Omega.{arith}
 use borrow.Author.Needs.{needs}
 use lib.ListN.{length}
-use Rattle.y4m_header.proofs.Reading.{before-fits}
+use Rattle.y4m_rules.proofs.Reading.{before-fits}
 use Rattle.y4m_header.proofs.Lines.{Going, going, step, at-whole, at-missing, at-word, at-end}
 use Rattle.y4m_header.proofs.words.words_in.Statement.{statement}
 use Rattle.y4m_header.proofs.words.words_in.Tie as tie
