@@ -76,9 +76,10 @@ use Rattle.marks_rules.specs.Marks.{marks, digits}
 use Rattle.marks_rules.specs.Pictures.{joined}
 use Rattle.mend.proofs.Apart.{mended-apart}
 use Rattle.mend.specs.MendCall as mend
-use Rattle.pack.proofs.Apart.{readingOf as placedReading, placed-apart, Wrote, write-sole, Read, read-sole}
-use Rattle.pack.specs.declared.Reader.{Reader}
-use Rattle.pack.specs.declared.Writer.{Writer}
+use Rattle.pack.proofs.Apart.{readingOf as placedReading, placed-apart}
+use Rattle.pack_parts.proofs.Apart.{Wrote, write-sole, Read, read-sole}
+use Rattle.pack_parts.specs.declared.Reader.{Reader}
+use Rattle.pack_parts.specs.declared.Writer.{Writer}
 use Rattle.pack_rules.specs.Form as compact
 use Rattle.pack_rules.specs.GetCall as get-map
 use Rattle.pack_rules.specs.PutCall as put-map

@@ -45,6 +45,8 @@ use Rattle.decoder.proofs.samples_ok.Kinds as samples-ok-kinds
 use Rattle.decoder.proofs.samples_ok.Reads as samples-ok-reads
 use Rattle.decoder.proofs.get_bit.Kinds as get-bit-kinds
 use Rattle.decoder.proofs.get_bit.Reads as get-bit-reads
+use Rattle.decoder.proofs.bits_in.Kinds as bits-in-kinds
+use Rattle.decoder.proofs.bits_in.Reads as bits-in-reads
 use Rattle.decoder.proofs.mark_place.Kinds as mark-place-kinds
 use Rattle.decoder.proofs.mark_place.Reads as mark-place-reads
 use Rattle.decoder.proofs.mark_byte.Kinds as mark-byte-kinds
@@ -266,6 +268,9 @@ rows-right-once κs a r r′ x x′ p q = p ∙ sym q
 
 pub get-bit-once : Sole 1 get-bit-kinds.ps get-bit-kinds.r get-bit-reads.Post (λ κs r x. r)
 get-bit-once κs a r r′ x x′ p q = p ∙ sym q
+
+pub bits-in-once : Sole 0 bits-in-kinds.ps bits-in-kinds.r bits-in-reads.Post (λ κs r x. r)
+bits-in-once κs a r r′ x x′ p q = p .0 ∙ sym (q .0)
 
 pub mark-place-once : Sole 0 mark-place-kinds.ps mark-place-kinds.r mark-place-reads.Post (λ κs r x. r)
 mark-place-once κs a r r′ x x′ p q = p ∙ sym q

@@ -13,13 +13,13 @@
 //                       lanes_by_halves, window_luma, window_luma_two, window_kept, window_chroma, window_chroma_two, motion_row, place_at, marks_at
 //       edge rows       fill_rows, set_motion, set_flag, deblock_by_rows; row_at, rows_at, rows_right, checked_maps
 //     the sheet         read, listing
-//     the compact map   put_map, get_map; take_map; write_to, write_map, read_from, read_map; get_bit, put_bit
+//     the compact map   put_map, get_map; take_map; write_to, write_map, read_from, read_map; get_bit, put_bit, bits_in
 //     a torn map        mend
 //     streams           read_header, write_header, read_frame, write_frame, import_frame
 // Inside are those that a caller needs none of. They are public because another crate calls them, and total like the rest: checked_points, start_qp, delta_in,
 // delta_out, checked_leaves, coded_y, coded_u, coded_v, mode_of, word_of, clear_words, tell_units, roots_along, root_leaves, root_list, list_marks, take_marks,
-// mark_place, mark_byte, root_count, checked, checked_band, entries, mask_of, line, lanes, lanes_by_halves, window_luma, window_luma_two, window_kept, window_chroma, window_chroma_two, motion_row,
-// place_at, marks_at, rows_at, checked_maps, read.
+// mark_place, mark_byte, root_count, checked, checked_band, entries, mask_of, line, lanes, lanes_by_halves, window_luma, window_luma_two, window_kept, window_chroma,
+// window_chroma_two, motion_row, place_at, marks_at, rows_at, checked_maps, bits_in, read.
 pub use avail::Avail;
 pub use avail::Neighbours;
 pub use avail::get_avail_inter;
@@ -97,15 +97,14 @@ pub use mpm::get_mpm;
 pub use mpm::get_mpm_number;
 pub use nbr::get_nbr;
 pub use pack::Placed;
-pub use pack::Reader;
-pub use pack::Writer;
-pub use pack::get_map;
+pub use pack::bits_in;
 pub use pack::put_map;
-pub use pack::read_from;
-pub use pack::read_map;
-pub use pack::take_map;
-pub use pack::write_map;
-pub use pack::write_to;
+pub use pack_parts::Reader;
+pub use pack_parts::Writer;
+pub use pack_parts::read_from;
+pub use pack_parts::read_map;
+pub use pack_parts::write_map;
+pub use pack_parts::write_to;
 pub use rank::Rank;
 pub use rank::visiting_rank;
 pub use recon::recon;
@@ -131,6 +130,8 @@ pub use unit_edits::set_flag;
 pub use unit_edits::set_motion;
 pub use unit_maps::clear_words;
 pub use unit_maps::tell_units;
+pub use unpack::get_map;
+pub use unpack::take_map;
 pub use window::Place;
 pub use window::window_chroma;
 pub use window::window_chroma_two;

@@ -34,7 +34,7 @@ pub extern "C" fn lomsakeun_get_map(
         (record { w = w; h = h; src = now (src .entry); at = now (at .entry); map = now (map .entry) })
         (record { number = n; at = now (at .exit); map = now (map .exit) }) ⌝ }
 {
-    let seen = pack::get_map(w, h, src, *at, map);
+    let seen = unpack::get_map(w, h, src, *at, map);
     *at = seen.at;
     let answer = seen.answer;
     def::answer_number(answer)

@@ -11,7 +11,7 @@ ghost use Rattle.marks_rules.specs.Mended.{judge};
 ghost use Rattle.marks_rules.specs.Pictures.{rootDigits, pictureDigits};
 ghost use Rattle.pack_rules.specs.Form.{digitAt};
 ghost use Rattle.split.specs.Picture.{rootWalk, pictureWalk};
-ghost use Rattle.pack.specs.Taken.{Mapped};
+ghost use Rattle.pack_rules.specs.Taken.{Mapped};
 use bits::put_bit;
 use def::Answer;
 use def::Refusal;

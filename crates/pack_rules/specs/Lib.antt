@@ -3,3 +3,4 @@ pub mod GetCall
 pub mod Kept
 pub mod PutCall
 pub mod TakeCall
+pub mod Taken

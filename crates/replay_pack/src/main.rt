@@ -16,7 +16,7 @@ fn put(w: usize, h: usize, splits: &[u8], buf: &mut [u8], at: usize) {
 }
 
 fn get(w: usize, h: usize, src: &[u8], at: usize, map: &mut [u8]) {
-    print(pack::get_map(w, h, src, at, &mut *map));
+    print(unpack::get_map(w, h, src, at, &mut *map));
     replay::print_u8(map);
     replay::print_end();
 }

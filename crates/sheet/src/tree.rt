@@ -13,7 +13,7 @@ use def::Answer;
 use def::Refusal;
 use def::refusal_number;
 use def::roots_along;
-use pack::take_map;
+use unpack::take_map;
 
 // The place after the digits that were taken.
 pub(crate) enum Taken {

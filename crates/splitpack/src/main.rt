@@ -44,7 +44,7 @@ fn packed(w: usize, h: usize, map: &[u8], digits: &mut [u8]) -> u8 {
 
 // The digits are unpacked, and the map is saved.
 fn unpacked(w: usize, h: usize, digits: &[u8], map: &mut [u8]) -> u8 {
-    let placed = pack::get_map(w, h, digits, 0, &mut *map);
+    let placed = unpack::get_map(w, h, digits, 0, &mut *map);
     let answer = placed.answer;
     match answer {
         Answer::Refused(r) => map_file::refused_digits(4, w, h, digits, def::refusal_number(r)),

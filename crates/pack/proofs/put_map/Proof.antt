@@ -13,7 +13,7 @@ use Rattle.marks.proofs.Callers.{roots-told}
 use Rattle.marks.proofs.Growing.{counted-done, counted-refused}
 use Rattle.pack_rules.specs.PutCall as put-call
 use Rattle.split.specs.Picture.{pictureWalk}
-use Rattle.pack.specs.Taken.{Mapped}
+use Rattle.pack_rules.specs.Taken.{Mapped}
 use Rattle.pack.proofs.Calls.{put-refused, put-stopped}
 use Rattle.pack.proofs.Writing.{few-of}
 use Rattle.pack.proofs.put_map.Statement.{statement}
