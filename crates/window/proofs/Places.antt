@@ -5,14 +5,13 @@
 --     by-rows, by-halves, by-neither    a call by what these tests answer; kept-in, kept-out    one that makes neither
 -- Assumes nothing.
 use Prim.Native.Nat.{ℕ, _+_, _-_, _*_, _≤_, _<_}
-use mathlib.Core.Bool.{Bool, true, false, _&&_, _||_}
+use mathlib.Core.Bool.{Bool, true, false, _&&_}
 use mathlib.Core.List.{List}
 use mathlib.Core.Path.{_≡_, refl, sym, ap, _∙_}
 use native.Mathlib.Nat.{mul-one, mul-le-mul}
 use native.Mathlib.Omega.{arith}
 use borrow.Author.Tests.{eqb-true, leb-true, ltb-true, lt-ltb, le-ltb}
-use lib.Dec.{eqb, leb, ltb}
-use Rattle.laws.specs.Index.{pick}
+use lib.Dec.{eqb, leb}
 use Rattle.laws.proofs.Bools.{both-left, both-right, or-true}
 use Rattle.line.specs.declared.Mask.{Mask}
 use Rattle.window.specs.declared.Place.{Place}

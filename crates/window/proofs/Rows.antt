@@ -131,7 +131,7 @@ put-long : (w : Bool) (i v : ℕ) (xs : List ℕ) → length (putIf w i v xs) �
 put-long true i v xs = length-set xs i v
 put-long false i v xs = refl
 
-pub lines-long : (m : Mask) (q : ℕ → Quad) (step next at n : ℕ) (xs : List ℕ) → length (putLines m q step next at n xs) ≡ length xs
+lines-long : (m : Mask) (q : ℕ → Quad) (step next at n : ℕ) (xs : List ℕ) → length (putLines m q step next at n xs) ≡ length xs
 unfolding putLines
 lines-long m q step next at zero xs = refl
 lines-long m q step next at (suc n) xs = simp put-long (lines-long m q step next at n xs)

@@ -2,13 +2,12 @@
 --     one-window    lines at one strength
 --     two-windows    two windows, the lines of the second right after those of the first
 -- Assumes nothing.
-use Prim.Native.Nat.{ℕ, _+_, _*_, _<_}
+use Prim.Native.Nat.{ℕ, _+_, _*_}
 use mathlib.Core.Bool.{Bool, true}
 use mathlib.Core.List.{List}
 use mathlib.Core.Path.{_≡_, refl, ap, _∙_}
 use native.Mathlib.Omega.{arith}
 use borrow.Author.Tests.{lt-ltb, le-ltb}
-use Rattle.laws.specs.Index.{pick}
 use Rattle.line.specs.declared.Mask.{Mask}
 use Rattle.lanes.specs.Lanes.{heldLine}
 use Rattle.lanes.proofs.ByLane.{on-samples}

@@ -1,6 +1,6 @@
 -- `window::chroma_rows` meets its contract: four rows of each plane into lanes and back. Assumes nothing.
 use Prim.Native.Nat.{ℕ, _+_, _*_, _≤_, min}
-use mathlib.Core.Path.{refl, sym, ap, _∙_}
+use mathlib.Core.Path.{refl, sym}
 use native.Mathlib.Omega.{arith}
 use borrow.Author.Needs.{needs}
 use lib.Dec.{lit≤}
@@ -9,7 +9,7 @@ use Rattle.lanes.specs.Lanes.{rows}
 use Rattle.lanes.proofs.ByLane.{rows-spread}
 use Rattle.window.proofs.Lanes.{chromaSts, u-each, v-each, chroma-done}
 use Rattle.window.proofs.Places.{rows-at, rows-lie}
-use Rattle.window.proofs.Rows.{lines-long, gathered}
+use Rattle.window.proofs.Rows.{gathered}
 use Rattle.window.proofs.chroma_rows.Statement.{statement}
 use Rattle.window.proofs.chroma_rows.Tie as tie
 
@@ -65,7 +65,7 @@ returns c =
     chroma-done rows rows-spread _ _ (a .p) (g .result) 1 (f .result) i (g .ensures .0) (sym (b .beside)) (f .ensures .0)
     (λ k. a .su) (λ k. a .sv) 2 _ _ _ (chromaSts (a .su) (a .sv) 0 0) (r .result) (a .u .now) (a .v .now) _ _ (lit≤ tt)
     (gathered _ (g .result) (f .result) (a .u .now) _ _ 0 2 m (lit≤ tt) refl t)
-    (gathered _ (g .result) (f .result) (a .v .now) _ _ 2 2 m (lit≤ tt) (ap length t ∙ lines-long _ _ 8 1 0 2 _) (v .before .before .copy-rows2 .ensures))
+    (gathered _ (g .result) (f .result) (a .v .now) _ _ 2 2 m (lit≤ tt) (v .before .before .before .before .before .before .copy-rows .kept .0) (v .before .before .copy-rows2 .ensures))
     (u-each (a .su) (a .sv)) (v-each (a .su) (a .sv)) (r .ensures)
     (c .before .before .before .before .before .before .before .copy-rows3 .ensures) (c .before .before .copy-rows4 .ensures)
 

@@ -1,7 +1,6 @@
 -- `window::window_chroma_two` meets its contract: by rows, by halves, or not at all. Assumes nothing.
 use Prim.Native.Nat.{min}
 use mathlib.Core.Path.{_≡_, sym, ap, _∙_}
-use mathlib.Core.Bool.{true}
 use borrow.Author.Needs.{needs}
 use lib.ListN.{length}
 use Rattle.window.specs.Window.{byRows, byHalves, twice}

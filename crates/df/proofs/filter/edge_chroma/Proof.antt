@@ -1,6 +1,6 @@
 -- `df::filter::edge_chroma` meets its contract: at the edge's place in both planes, with the strengths at its place and by its marks. Without a strength nothing changes. Assumes nothing.
 use Prim.Native.Nat.{_*_, _/_, _<_, min}
-use mathlib.Core.Path.{_≡_, refl, sym, ap, _∙_}
+use mathlib.Core.Path.{_≡_, sym, ap, _∙_}
 use native.Mathlib.Omega.{arith}
 use borrow.Author.Needs.{needs}
 use borrow.Author.Tests.{eqb-true, lt-ltb}

@@ -1,6 +1,6 @@
 -- `df::filter::edge_luma` meets its contract: at the edge's place, with the strength at its place and by its marks. Without a strength nothing changes. Assumes nothing.
 use Prim.Native.Nat.{_*_, _/_, _<_}
-use mathlib.Core.Path.{_≡_, refl, sym, ap, _∙_}
+use mathlib.Core.Path.{_≡_, sym, ap, _∙_}
 use native.Mathlib.Omega.{arith}
 use borrow.Author.Needs.{needs}
 use borrow.Author.Tests.{lt-ltb}
