@@ -1,7 +1,7 @@
 // The walk over a picture's leaves: leaf by leaf the components that the picture has, and what the units are told.
 ghost use mathlib.Core.Path.{_≡_};
 ghost use mathlib.Core.List.{[]};
-ghost use Prim.Native.Nat.{ℕ, _+_, _*_, _/_, _%_, _≤_, _<_};
+ghost use Prim.Native.Nat.{_+_, _*_, _/_, _%_, _≤_, _<_};
 ghost use lib.ListN.{length, getD};
 ghost use Rattle.laws.specs.Index.{pick};
 ghost use Rattle.def.specs.Picture.{rootsAlong, rootCount};

@@ -1,6 +1,6 @@
 -- A block of units and maps: what the test tells, and what it leaves.
 --     inside, lies-inside    the test passes exactly where the block lies in the maps
---     told-none, told-all    what `tell_units` leaves; `told` for a block that lies there
+--     told-none, told-all    what `tell_units` leaves, where the test fails and where the block lies in the maps
 --     one-told    a row of one unit is the block of one by one
 -- Assumes nothing.
 use Prim.Native.Nat.{ℕ, _+_, _*_, _≤_, _<_}
@@ -14,7 +14,7 @@ use lib.ListN.{length}
 use Rattle.laws.specs.Plane.{withRow, withBlock}
 use Rattle.laws.proofs.Calls.{all-at}
 use Rattle.laws.proofs.Whole.{rows-none, rows-more, rows-all}
-use Rattle.unit_maps.specs.Maps.{Maps, mapsOf, liesTests, lies, Inside, withBlocks, toldMaps}
+use Rattle.unit_maps.specs.Maps.{mapsOf, liesTests, lies, Inside, withBlocks, toldMaps}
 
 module _ (columns x y n : ℕ) (words modes keep : List ℕ) where
   pub inside : lies columns x y n (length words) (length modes) (length keep) ≡ true → Inside columns x y n words modes keep

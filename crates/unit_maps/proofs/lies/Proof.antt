@@ -1,5 +1,5 @@
 -- `unit_maps::lies` meets its contract: the tests of the list, those first that keep the sums and the product small. Assumes nothing.
-use Prim.Native.Nat.{ℕ, _+_, _*_, _≤_, _<_}
+use Prim.Native.Nat.{ℕ, _+_, _≤_, _<_}
 use mathlib.Core.Path.{_≡_, sym}
 use mathlib.Core.Bool.{true, false}
 use native.Mathlib.Nat.{mul-le-mul}

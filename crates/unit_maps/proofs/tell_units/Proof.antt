@@ -17,7 +17,7 @@ there c = inside _ _ _ _ _ _ _ (sym (c .before .lies .ensures) ∙ not-false _ (
 returns-2 : tie.Need-returns-2
 returns-2 c =
     let told = c .before .before .before .before .before .before in
-    told .tell-block .ensures ∙ sym (told-all _ _ _ _ _ _ _ _ _ _ (there (told .before .before .before .before)))
+    rw (told-all _ _ _ _ _ _ _ _ _ _ (there (told .before .before .before .before))) (told .tell-block .ensures)
 
 pub tell-units-spec : {M : Type 1} → statement M
 tell-units-spec =
