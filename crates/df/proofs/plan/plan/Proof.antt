@@ -80,12 +80,13 @@ loop-again c =
     let x = c .before .before .before .before .number-at .ensures in
     let y = c .before .before .before .number-at2 .ensures in
     let e = turn (c .before .before .before) in
+    let h = c .before .before .before .before .before .before .before .is-horizontal .ensures in
     let d = passOf (a .pass) in
     let m : Maps = record { words = a .words .now; over = record { motion = a .motion .now; refs = a .refs .now; keep = a .keep .now } } in
     let t = c .before .before .before .before .before .loop-test .taken in (
       omega (arith, t),
       upto-more _ _ _ _ (l .k) _ (omega (arith, s .pre .fits, t))
-          (c .before .place-at .ensures ∙ ap (λ (v : Pass). placeIn v (a .words .now) (a .motion .now) (a .refs .now) (a .rows .now) (n .q) (n .p)) (c .before .before .before .before .before .before .before .is-horizontal .ensures)
+          (c .before .place-at .ensures ∙ ap (λ (v : Pass). placeIn v (a .words .now) (a .motion .now) (a .refs .now) (a .rows .now) (n .q) (n .p)) h
           ∙ place-known d (a .columns) (a .rows .now) (s .pre .right) e (u .0) (u .1) ∙ (λ i. placeAt m d (a .columns) (edge (x i / 4) (y i / 4)))) (l .inv .1),
       upto-more _ _ _ _ (l .k) _ (omega (arith, s .pre .fits-marks, t))
           (c .marks-at .ensures ∙ marks-known d (a .columns) (a .rows .now) (s .pre .right) e (u .0) (u .1) ∙ (λ i. marksAt m d (a .columns) (edge (x i / 4) (y i / 4)))) (l .inv .2),
