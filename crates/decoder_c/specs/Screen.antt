@@ -4,8 +4,8 @@ use Prim.Native.Nat.{ℕ}
 use mathlib.Core.Bool.{Bool, true, false}
 use mathlib.Core.List.{List}
 use Rattle.ward.specs.RowCall as call
-use Rattle.ward.specs.declared.Run.{Run}
-use Rattle.ward.specs.declared.Run.the-variants.{Full, Preview}
+use Rattle.ward_check.specs.declared.Run.{Run}
+use Rattle.ward_check.specs.declared.Run.the-variants.{Full, Preview}
 use Rattle.decoder_c.specs.declared.screen.Seen.{Seen}
 
 abbrev pub runOf : Bool → Run

@@ -6,36 +6,40 @@
 -- Assumes nothing.
 use mathlib.Core.Bool.{Bool, true, false, not}
 use mathlib.Core.List.{List, [], _∷_}
-use mathlib.Core.Path.{_≡_, refl, sym, ap, ap₂, _∙_, subst}
-use Prim.Native.Nat.{ℕ, _+_, _-_, _*_, _/_, _≤_, _<_}
+use mathlib.Core.Path.{_≡_, sym, ap, _∙_, subst}
+use Prim.Native.Nat.{ℕ, _+_, _-_, _*_, _≤_, _<_}
 use native.Mathlib.Nat.{mul-comm, mul-le-mul}
 use native.Mathlib.Omega.{arith}
 use borrow.Author.Tests.{not-true, not-false, ltb-true, eqb-true, eq-eqb, ne-eqb}
 use lib.Dec.{eqb, ltb}
-use lib.ListN.{length, getD}
+use lib.ListN.{length}
 use Rattle.laws.specs.Call.{Gives, unless}
 use Rattle.laws.specs.Index.{pick}
 use Rattle.laws.specs.Plane.{withRow}
 use Rattle.laws.proofs.Calls.{all-at}
 use Rattle.laws.proofs.Flat.{row-below}
-use Rattle.decoder.specs.Face.{afterChecks, numberOf, Answer, Format, Refusal}
+use Rattle.decoder.specs.Face.{Answer, Format, Refusal}
 use Rattle.decoder.specs.Face.answers.{Done, Refused as No}
 use Rattle.decoder.specs.Face.formats.{Grey, Colour}
 use Rattle.decoder.specs.Face.refusals.{Sample}
-use Rattle.ward.specs.Fits.{Within, Fits, sampleAt, lastRow}
-use Rattle.ward.specs.RowCall.{Input, Reading, Outcome, readingOf, lengthsOk, turnOk, asked, planeOf, rowOk, shownOf, rowInto, given, lentPlane, outcome}
-use Rattle.ward.specs.Screen.{across, madeOk}
-use Rattle.ward.specs.Turns.{planesOf, inPlane, planeLength, columnsOf, rowsOf, nextTurn}
-use Rattle.ward.specs.declared.Rowed.{Rowed}
+use Rattle.ward_check.specs.Checks as checks
+use Rattle.ward_check.specs.Checks.{lengthsOk}
+use Rattle.ward_check.specs.Sizes.{across, planesOf, inPlane, planeLength, columnsOf, rowsOf}
+use Rattle.ward_check.specs.declared.Run.{Run}
+use Rattle.ward_check.specs.declared.Run.the-variants.{Full, Preview}
+use Rattle.ward_check.specs.declared.Window.{Window}
+use Rattle.ward_check.proofs.Ladder.{sides, inside}
+use Rattle.ward_check.proofs.Sizes.{part-le, part-sum, part-small, across-small, length-there}
+use Rattle.ward_rows.specs.Rows.{sampleAt, lastRow, madeOk, putOk, putRow}
+use Rattle.ward_rows.proofs.Runs.{Within, lies-within}
+use Rattle.ward.specs.Fits.{Fits}
+use Rattle.ward.specs.RowCall.{Input, Outcome, readingOf, turnOk, asked, planeOf, rowOk, rowInto, given, lentPlane, outcome}
+use Rattle.ward.specs.Turns.{nextTurn}
 use Rattle.ward.specs.declared.Rowed.the-variants.{Given, Refused}
-use Rattle.ward.specs.declared.Run.{Run}
-use Rattle.ward.specs.declared.Run.the-variants.{Full, Preview}
 use Rattle.ward.specs.declared.Turn.{Turn}
-use Rattle.ward.specs.declared.Window.{Window}
-use Rattle.ward.proofs.Ladder.{Asked, sides, inside, stopped, told, gone}
+use Rattle.ward.proofs.Ladder.{Asked, stopped, told, gone}
 use Rattle.ward.proofs.Planes.{row-shown}
 use Rattle.ward.proofs.Stores.{row-alike}
-use Rattle.ward.proofs.Turns.{part-le, part-sum, part-small, across-small, length-there}
 
 -- ---- the turn's row of a plane
 
@@ -59,6 +63,8 @@ module _ (t : Turn) (w : ℕ) (c : Window) where
       let lent : inPlane k (c .bottom) * s ≤ long = subst (λ (z : ℕ). inPlane k (c .bottom) * z ≤ long) (sym es) (f .lent) in
       let row = row-below (y + lastRow (t .run) (t .row)) s (inPlane k (c .bottom)) long (omega arith) lent in
       record {
+        wide = omega (arith, es, part-small k w, f .small);
+        columns = omega (arith, across-columns, columns, en, es, ex);
         inside = omega (arith, row, across-columns, columns, en, es, ex);
         room = omega (arith, across-small (t .run) n, across-columns, columns, part-small k w, f .room);
         high = omega (arith, part-small k (c .top));
@@ -66,10 +72,18 @@ module _ (t : Turn) (w : ℕ) (c : Window) where
       }
 
   module _ (p out : List ℕ) (n s x y : ℕ) (en : n ≡ inPlane (t .plane) (c .right - c .left)) (es : s ≡ inPlane (t .plane) w)
-      (ex : x ≡ inPlane (t .plane) (c .left)) (ey : y ≡ inPlane (t .plane) (c .top)) (b : Bool) (f : b ≡ madeOk (t .run) s x y n (t .row) p) (out′ : List ℕ)
-      (g : out′ ≡ pick b (withRow 0 0 (across (t .run) n) (sampleAt (t .run) s x y (t .row) p) out) out) where
+      (ex : x ≡ inPlane (t .plane) (c .left)) (ey : y ≡ inPlane (t .plane) (c .top)) (fits : Fits t w c (length p) (length out))
+      (b : Bool) (f : b ≡ putOk (t .run) s x y n (t .row) p (length out)) (out′ : List ℕ) (put : out′ ≡ putRow (t .run) s x y n (t .row) p out) where
+    -- the row lies in the plane and in the buffer, so that its samples alone are tested
+    made : putOk (t .run) s x y n (t .row) p (length out) ≡ madeOk (t .run) s x y n (t .row) p
+    unfolding putOk
+    made = rw (lies-within (t .run) s x y n (t .row) (length p) (length out) (within fits n s x y en es ex ey))
+
     tested : b ≡ rowOk t w c p
-    tested = f ∙ rw (en, es, ex, ey)
+    tested = f ∙ made ∙ rw (en, es, ex, ey)
+
+    g : out′ ≡ pick b (withRow 0 0 (across (t .run) n) (sampleAt (t .run) s x y (t .row) p) out) out
+    g = put ∙ ap (λ (i : Bool). pick i (withRow 0 0 (across (t .run) n) (sampleAt (t .run) s x y (t .row) p) out) out) (sym f)
 
     pub given-no : not b ≡ true → record { reading = readingOf (Refused Sample t); out = out′ } ≡ given t w c p out
     given-no q =
@@ -82,9 +96,9 @@ module _ (t : Turn) (w : ℕ) (c : Window) where
     given-yes q l next k en′ ek =
         let e : rowOk t w c p ≡ true = sym tested ∙ not-false b q in
         let m = inPlane (t .plane) (c .bottom - c .top) in
-        let put : out′ ≡ withRow 0 0 (across (t .run) n) (sampleAt (t .run) s x y (t .row) p) out = g ∙ rw (not-false b q) in
+        let whole : out′ ≡ withRow 0 0 (across (t .run) n) (sampleAt (t .run) s x y (t .row) p) out = g ∙ rw (not-false b q) in
         let full : out′ ≡ rowInto t w c p out =
-        rw (en, es, ex, ey) at put ∙ row-alike _ _ _ out
+        rw (en, es, ex, ey) at whole ∙ row-alike _ _ _ out
         (λ j lj. sym (row-shown (inPlane (t .plane) w) (inPlane (t .plane) (c .left)) (inPlane (t .plane) (c .top)) (inPlane (t .plane) (c .right - c .left)) m p (t .run) (t .row) j l lj)) in
         let count : k ≡ columnsOf (t .run) c (t .plane) = ek ∙ ap (across (t .run)) en in
         rw (e, full, en′, count)
@@ -109,15 +123,15 @@ module _ (t : Turn) (plane row : ℕ) (f : Format) (w h y u v : ℕ) (c : Window
   length-tests = eqb y (planeLength f 0 w h) ∷ eqb u (planeLength f 1 w h) ∷ eqb v (planeLength f 2 w h) ∷ eqb out w ∷ []
 
   pub same-turn : t .plane ≡ plane
-  unfolding turnOk turn-tests
+  unfolding checks.turnOk turn-tests
   same-turn = sym (eqb-true plane (t .plane) (all-at turn-tests 0 (a .turn)))
 
   pub there : t .plane < planesOf f
-  unfolding turnOk turn-tests
+  unfolding checks.turnOk turn-tests
   there = ltb-true (t .plane) (planesOf f) (all-at turn-tests 2 (a .turn))
 
   pub row-there : t .row < rowsOf (t .run) c (t .plane)
-  unfolding turnOk turn-tests
+  unfolding checks.turnOk turn-tests
   row-there = ltb-true (t .row) _ (all-at turn-tests 3 (a .turn))
 
   three : (g : Format) → planesOf g ≤ 3
@@ -151,6 +165,7 @@ module _ (t : Turn) (plane row : ℕ) (f : Format) (w h y u v : ℕ) (c : Window
         columns = i .columns;
         rows = i .rows;
         wide = i .wide;
+        small = s .wide;
         low = omega (arith, i .high, s .high);
         lent = omega (arith, part, whole, e, mul-comm (inPlane k h) (inPlane k w));
         room = omega (arith, o);

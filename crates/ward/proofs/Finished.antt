@@ -14,8 +14,9 @@ use Rattle.decoder.specs.Face.bands.{Plane, luma-plane, u-plane, v-plane}
 use Rattle.decoder.specs.Face.deblocking as deblocking
 use Rattle.decoder.specs.Face.refusals.{Size, Length, Window as OffWindow, Turn as OutOfTurn}
 use Rattle.decoder.proofs.Face.{sample-any, finished}
+use Rattle.ward_check.specs.Checks.{lengthsOk, windowOk, asked}
 use Rattle.ward.specs.Finished.{lentAs, Never7}
-use Rattle.ward.specs.RowCall.{Input, lengthsOk, windowOk, turnOk, asked, rowOk, refused, done, lentPlane, outcome}
+use Rattle.ward.specs.RowCall.{Input, turnOk, rowOk, refused, done, lentPlane, outcome}
 use Rattle.ward.proofs.Stores.{made-fine}
 
 module _ (j : Input) (small : (x : Plane) → samplesOk (lentAs x j) ≡ true) where

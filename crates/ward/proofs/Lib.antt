@@ -3,9 +3,7 @@ pub mod Finished
 pub mod Ladder
 pub mod Planes
 pub mod Promises
-pub mod Runs
 pub mod Stores
-pub mod Sums
 pub mod Takes
 pub mod Turns
 pub mod Whole

@@ -1,6 +1,6 @@
 -- What is shown of a plane: cropping and converting commute; larger input never gives smaller output; a sample of the preview lies between the least and the
 -- greatest of its four; and each row that a run gives is that row of what it shows.
---     screened-small, screened-over, screened-under, screened-mono, quarter-mono, quarter-least, quarter-greatest    a sample
+--     screened-mono, quarter-mono, quarter-least, quarter-greatest    a sample
 --     commute, convert-mono, crop-mono, half-mono, shown-mono, half-least, half-greatest    a plane
 --     length-shown, row-shown    the rows
 --     faithful    all of this together
@@ -15,32 +15,19 @@ use borrow.Author.Tests.{ltb-true, ltb-false}
 use lib.Dec.{ltb}
 use lib.ListN.{length, getD, List·getD-eq-default}
 use lib.Seq.{ext-getD}
-use Rattle.laws.specs.Index.{pick, tabulate}
-use Rattle.laws.proofs.Flat.{flat-within, next-row}
+use Rattle.laws.specs.Index.{tabulate}
+use Rattle.laws.proofs.Flat.{flat-within}
 use Rattle.laws.proofs.Tabulate.{length-tabulate, getD-tabulate}
+use Rattle.ward_check.specs.Sizes.{across}
+use Rattle.ward_check.specs.declared.Run.{Run}
+use Rattle.ward_check.specs.declared.Run.the-variants.{Full, Preview}
+use Rattle.ward_rows.specs.Rows.{sampleAt}
+use Rattle.ward_rows.specs.Samples.{screened, quarter}
+use Rattle.ward_rows.proofs.Samples.{by-held, screened-small}
 use Rattle.ward.specs.Faithful.{Below, Faithful}
-use Rattle.ward.specs.Fits.{quarterAt, sampleAt}
-use Rattle.ward.specs.Screen.{screened, quarter, convert, crop, corner, fourth, half, across, shown}
-use Rattle.ward.specs.declared.Run.{Run}
-use Rattle.ward.specs.declared.Run.the-variants.{Full, Preview}
+use Rattle.ward.specs.Screen.{convert, crop, corner, fourth, half, shown}
 
 -- ---- a sample
-
-by-held : (v : ℕ) (P : ℕ → Type 0) → (255 < (v + 2) / 4 → P 255) → ((v + 2) / 4 ≤ 255 → P ((v + 2) / 4)) → P (screened v)
-unfolding screened
-by-held v P f g = go (ltb 255 ((v + 2) / 4)) refl where
-  go : (t : Bool) → ltb 255 ((v + 2) / 4) ≡ t → P (pick t 255 ((v + 2) / 4))
-  go true e = f (ltb-true 255 ((v + 2) / 4) e)
-  go false e = g (ltb-false 255 ((v + 2) / 4) e)
-
-pub screened-small : (v : ℕ) → screened v ≤ 255
-screened-small v = by-held v (λ n. n ≤ 255) (λ p. omega arith) (λ p. p)
-
-pub screened-over : (v : ℕ) → 255 < (v + 2) / 4 → 255 ≡ screened v
-screened-over v h = by-held v (λ n. 255 ≡ n) (λ p. refl) (λ p. omega arith)
-
-pub screened-under : (v : ℕ) → (v + 2) / 4 ≤ 255 → (v + 2) / 4 ≡ screened v
-screened-under v h = by-held v (λ n. (v + 2) / 4 ≡ n) (λ p. omega arith) (λ p. refl)
 
 pub screened-mono : (u v : ℕ) → u ≤ v → screened u ≤ screened v
 screened-mono u v l =

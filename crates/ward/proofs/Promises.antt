@@ -13,20 +13,23 @@ use denote.Ref.{now}
 use lib.ListN.{length, replicate}
 use Rattle.laws.specs.Scan.{allBelow}
 use Rattle.decoder.proofs.Face.{number-apart, number-some}
-use Rattle.decoder.specs.Face.{sizeOk, Format}
+use Rattle.decoder.specs.Face.{sizeOk}
 use Rattle.decoder.specs.Face.formats.{Grey, Colour}
 use Rattle.decoder.specs.Face.refusals.{Size, Length, Sample, Window as OffWindow, Turn as OutOfTurn}
 use Rattle.decoder.specs.Promise.{ended, Sole, Refuses}
 use Rattle.decoder.proofs.Refusing.{last, rung, by-checks}
 use Rattle.decoder.proofs.Settled.{settled}
+use Rattle.ward_check.specs.Checks as checks
+use Rattle.ward_check.specs.Sizes.{planeLength}
+use Rattle.ward_check.specs.declared.Run.{Run}
+use Rattle.ward_check.specs.declared.Run.the-variants.{Full, Preview}
+use Rattle.ward_check.specs.declared.Window.{Window}
+use Rattle.ward_rows.specs.Rows.{madeOk}
+use Rattle.ward_rows.specs.Samples.{runOk}
 use Rattle.ward.specs.RowCall as call
-use Rattle.ward.specs.Screen.{runOk, madeOk}
-use Rattle.ward.specs.Turns.{planeLength, firstTurn}
+use Rattle.ward.specs.Turns.{firstTurn}
 use Rattle.ward.specs.declared.Rowed.{Rowed}
 use Rattle.ward.specs.declared.Rowed.the-variants.{Given, Refused}
-use Rattle.ward.specs.declared.Run.{Run}
-use Rattle.ward.specs.declared.Run.the-variants.{Full, Preview}
-use Rattle.ward.specs.declared.Window.{Window}
 use Rattle.ward.proofs.Turn.first.Kinds as first-kinds
 use Rattle.ward.proofs.Turn.first.Reads as first-reads
 use Rattle.ward.proofs.Turn.row.Kinds as row-kinds
@@ -67,15 +70,15 @@ asking run w plane right sample out =
     }
 
 pub row-refusals : Refuses call.outcome (λ o. o .reading .number) (Size ∷ Length ∷ OffWindow ∷ OutOfTurn ∷ Sample ∷ [])
-unfolding call.outcome call.asked call.lengthsOk call.windowOk call.turnOk planeLength madeOk runOk sizeOk allBelow
+unfolding call.outcome checks.asked checks.lengthsOk checks.windowOk checks.turnOk planeLength madeOk runOk sizeOk allBelow
 row-refusals =
     record {
       only = λ i.
           by-checks (λ o. o .reading .number) (call.refused (i .turn) (i .out)) (call.done (i .turn) (i .w) (i .window) (call.lentPlane i) (i .out))
           (Size ∷ Length ∷ OffWindow ∷ OutOfTurn ∷ Sample ∷ []) (call.check i) (λ r. refl) refl
           (rung (sizeOk (i .w) (i .h)) Size _
-          (rung (call.lengthsOk (i .format) (i .w) (i .h) (length (i .y)) (length (i .u)) (length (i .v)) (length (i .out))) Length _
-          (rung (call.windowOk (i .window) (i .w) (i .h)) OffWindow _
+          (rung (checks.lengthsOk (i .format) (i .w) (i .h) (length (i .y)) (length (i .u)) (length (i .v)) (length (i .out))) Length _
+          (rung (checks.windowOk (i .window) (i .w) (i .h)) OffWindow _
           (rung (call.turnOk (i .turn) (i .plane) (i .row) (i .format) (i .window)) OutOfTurn _
           (rung (call.rowOk (i .turn) (i .w) (i .window) (call.lentPlane i)) Sample _ last)))));
       shown =
@@ -112,5 +115,5 @@ pub accepted :
     ∷ call.outcome grey .reading .number
     ∷ []
     ≡ replicate 3 0
-unfolding call.outcome call.asked call.lengthsOk call.windowOk call.turnOk planeLength madeOk runOk sizeOk allBelow
+unfolding call.outcome checks.asked checks.lengthsOk checks.windowOk checks.turnOk planeLength madeOk runOk sizeOk allBelow
 accepted = refl

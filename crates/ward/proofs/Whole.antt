@@ -24,19 +24,23 @@ use Rattle.decoder.specs.Face.{Format}
 use Rattle.decoder.specs.Face.answers.{Done, Refused}
 use Rattle.decoder.specs.Face.formats.{Grey, Colour}
 use Rattle.decoder.specs.Face.refusals.{Sample}
-use Rattle.ward.specs.RowCall.{Outcome, lengthsOk, windowOk, windowTests, turnOk, asked, planeOf, rowOk, done, outcome}
-use Rattle.ward.specs.Screen.{across}
-use Rattle.ward.specs.Turns.{planesOf, inPlane, columnsOf, rowsOf, nextTurn}
+use Rattle.ward_check.specs.Checks as checks
+use Rattle.ward_check.specs.Checks.{lengthsOk, windowOk, windowTests}
+use Rattle.ward_check.specs.Sizes.{across, planesOf, inPlane, columnsOf, rowsOf}
+use Rattle.ward_check.specs.declared.Run.{Run}
+use Rattle.ward_check.specs.declared.Run.the-variants.{Full, Preview}
+use Rattle.ward_check.specs.declared.Window.{Window}
+use Rattle.ward_check.proofs.Ladder.{inside}
+use Rattle.ward_check.proofs.Sizes.{part-small, across-small}
+use Rattle.ward.specs.RowCall.{Outcome, planeOf, rowOk, done, outcome}
+use Rattle.ward.specs.Turns.{nextTurn}
 use Rattle.ward.specs.Whole.{Lent, Fine, asking, inTurn, samplesOf, played, shownPlane, shownPlanes, rowsUpTo, rowCount, Whole}
-use Rattle.ward.specs.declared.Run.{Run}
-use Rattle.ward.specs.declared.Run.the-variants.{Full, Preview}
 use Rattle.ward.specs.declared.Turn.{Turn}
-use Rattle.ward.specs.declared.Window.{Window}
-use Rattle.ward.proofs.Ladder.{Asked, inside, gone}
+use Rattle.ward.proofs.Ladder.{Asked, gone}
 use Rattle.ward.proofs.Planes.{length-shown}
 use Rattle.ward.proofs.Stores.{made-fine}
 use Rattle.ward.proofs.Takes.{row-first, take-more, take-all}
-use Rattle.ward.proofs.Turns.{part-small, across-small, same-plane, next-plane}
+use Rattle.ward.proofs.Turns.{same-plane, next-plane}
 
 -- ---- rows
 
@@ -94,7 +98,7 @@ module _ (l : Lent) (fine : Fine l) (run : Run) where
 
   module _ (a b : ℕ) (ha : a < planesOf (l .format)) (hb : b < rowsOf run (l .window) a) (out : List ℕ) (e : length out ≡ l .w) where
     passed : Asked (turnAt a b) a b (l .format) (l .w) (l .h) (length (l .y)) (length (l .u)) (length (l .v)) (l .window) (length out)
-    unfolding turnOk
+    unfolding checks.turnOk
     passed =
         record {
           size = fine .size;
@@ -235,7 +239,7 @@ module _ (l : Lent) (fine : Fine l) (run : Run) where
     last at (ended ea eb) = (ea, eb)
 
     late : (t : Turn) (plane row : ℕ) (out : List ℕ) → length out ≡ l .w → planesOf (l .format) ≤ t .plane → outcome (asking l t plane row out) .reading .number ≡ 22
-    unfolding outcome asked turnOk
+    unfolding outcome checks.asked checks.turnOk
     late t plane row out e h =
         let tests = eqb plane (t .plane) ∷ eqb row (t .row) ∷ ltb (t .plane) (planesOf (l .format)) ∷ ltb (t .row) (rowsOf (t .run) (l .window) (t .plane)) ∷ [] in
         rw (fine .size, lengths out e, fine .window, all-fails tests 2 (le-ltb _ _ h))

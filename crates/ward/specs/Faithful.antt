@@ -5,8 +5,9 @@ use mathlib.Core.List.{List}
 use mathlib.Core.Path.{_≡_}
 use Prim.Native.Nat.{ℕ, _+_, _*_, _/_, _≤_, _<_}
 use lib.ListN.{getD}
-use Rattle.ward.specs.Screen.{screened, quarter, convert, crop, corner, half, shown}
-use Rattle.ward.specs.declared.Run.{Run}
+use Rattle.ward_check.specs.declared.Run.{Run}
+use Rattle.ward_rows.specs.Samples.{screened}
+use Rattle.ward.specs.Screen.{convert, crop, corner, half, shown}
 
 -- no sample of the one is over that of the other; past the end there is 0
 abbrev pub Below : List ℕ → List ℕ → Type 0

@@ -1,23 +1,26 @@
 -- The call `row`: the row of a plane whose turn it is. Its refusals: 1, 2, 21 for the window, 22 for a row out of turn, 7 for the samples that the row is
 -- made of.
 -- Assumes nothing: these are definitions.
-use Prim.Native.Nat.{ℕ, _+_, _-_, _*_, _%_}
+use Prim.Native.Nat.{ℕ, _+_, _-_, _*_}
 use mathlib.Core.Bool.{Bool}
-use mathlib.Core.List.{List, [], _∷_}
-use lib.Dec.{leb, ltb, eqb}
+use mathlib.Core.List.{List}
+use lib.Dec.{eqb}
 use lib.ListN.{length, getD}
-use Rattle.laws.specs.Call.{unless, allOf}
+use Rattle.laws.specs.Call.{unless}
 use Rattle.laws.specs.Index.{pick}
 use Rattle.laws.specs.Plane.{withRow}
-use Rattle.decoder.specs.Face.{afterChecks, sizeOk, numberOf, Answer, Format, Refusal}
+use Rattle.decoder.specs.Face.{afterChecks, numberOf, Answer, Format, Refusal}
 use Rattle.decoder.specs.Face.answers.{Done, Refused}
-use Rattle.decoder.specs.Face.refusals.{Size, Length, Sample, Window as OffWindow, Turn as OutOfTurn}
-use Rattle.ward.specs.Screen.{shown, madeOk}
-use Rattle.ward.specs.Turns.{planesOf, inPlane, planeLength, columnsOf, rowsOf, nextTurn}
+use Rattle.decoder.specs.Face.refusals.{Sample}
+use Rattle.ward_check.specs.Checks as checks
+use Rattle.ward_check.specs.Sizes.{inPlane, columnsOf}
+use Rattle.ward_check.specs.declared.Window.{Window}
+use Rattle.ward_rows.specs.Rows.{madeOk}
+use Rattle.ward.specs.Screen.{shown}
+use Rattle.ward.specs.Turns.{nextTurn}
 use Rattle.ward.specs.declared.Rowed as rowed
 use Rattle.ward.specs.declared.Rowed.the-variants as answers
 use Rattle.ward.specs.declared.Turn.{Turn}
-use Rattle.ward.specs.declared.Window.{Window}
 
 pub record Input : Type 0 where
   pub turn : Turn
@@ -48,32 +51,13 @@ pub record Outcome : Type 0 where
 
 -- ---- the checks
 
--- the planes have the lengths of their format, and the row's buffer has w bytes
-unfoldable pub lengthsOk : Format → (w h y u v out : ℕ) → Bool
-lengthsOk f w h y u v out =
-    allOf (eqb y (planeLength f 0 w h) ∷ eqb u (planeLength f 1 w h) ∷ eqb v (planeLength f 2 w h) ∷ eqb out w ∷ [])
-
--- edges on multiples of 4, some columns and some rows, inside
-abbrev pub windowTests : Window → (w h : ℕ) → List Bool
-windowTests c w h =
-    eqb (c .left % 4) 0 ∷ eqb (c .top % 4) 0 ∷ eqb (c .right % 4) 0 ∷ eqb (c .bottom % 4) 0
-    ∷ ltb (c .left) (c .right) ∷ leb (c .right) w ∷ ltb (c .top) (c .bottom) ∷ leb (c .bottom) h ∷ []
-
-unfoldable pub windowOk : Window → (w h : ℕ) → Bool
-windowOk c w h = allOf (windowTests c w h)
-
--- the row that is asked for is the turn's, of a plane that the format has, and one of the window's
-unfoldable pub turnOk : Turn → (plane row : ℕ) → Format → Window → Bool
-turnOk t plane row f c =
-    allOf (eqb plane (t .plane) ∷ eqb row (t .row) ∷ ltb (t .plane) (planesOf f) ∷ ltb (t .row) (rowsOf (t .run) c (t .plane)) ∷ [])
+-- of a row that is asked for at a turn
+abbrev pub turnOk : Turn → (plane row : ℕ) → Format → Window → Bool
+turnOk t plane row f c = checks.turnOk (t .run) (t .plane) (t .row) plane row f c
 
 -- the ladder down to 22, and what comes after it
-unfoldable pub asked : Turn → (plane row : ℕ) → Format → (w h y u v : ℕ) → Window → (out : ℕ) → Answer → Answer
-asked t plane row f w h y u v c out k =
-    unless (sizeOk w h) (Refused Size)
-    (unless (lengthsOk f w h y u v out) (Refused Length)
-    (unless (windowOk c w h) (Refused OffWindow)
-    (unless (turnOk t plane row f c) (Refused OutOfTurn) k)))
+abbrev pub asked : Turn → (plane row : ℕ) → Format → (w h y u v : ℕ) → Window → (out : ℕ) → Answer → Answer
+asked t plane row f w h y u v c out k = checks.asked (t .run) (t .plane) (t .row) plane row f w h y u v c out k
 
 -- ---- the row of a plane
 

@@ -7,11 +7,13 @@ use mathlib.Core.Path.{_≡_}
 use Prim.Native.Nat.{ℕ, zero, suc, _+_, _<_}
 use lib.ListN.{length, take}
 use Rattle.decoder.specs.Face.{sizeOk, Format, samplesOk}
-use Rattle.ward.specs.RowCall.{Input, Outcome, windowOk, planeOf, shownOf, outcome}
-use Rattle.ward.specs.Turns.{planesOf, planeLength, rowsOf, firstTurn}
-use Rattle.ward.specs.declared.Run.{Run}
+use Rattle.ward_check.specs.Checks.{windowOk}
+use Rattle.ward_check.specs.Sizes.{planesOf, planeLength, rowsOf}
+use Rattle.ward_check.specs.declared.Run.{Run}
+use Rattle.ward_check.specs.declared.Window.{Window}
+use Rattle.ward.specs.RowCall.{Input, Outcome, planeOf, shownOf, outcome}
+use Rattle.ward.specs.Turns.{firstTurn}
 use Rattle.ward.specs.declared.Turn.{Turn}
-use Rattle.ward.specs.declared.Window.{Window}
 
 -- a picture and a window, as they are lent to every call of a run
 pub record Lent : Type 0 where

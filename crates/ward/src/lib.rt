@@ -1,35 +1,24 @@
 // The ward screen: 8-bit rows of a window in finished planes, at full size or half, one at a time: Y, then U, then V, top first.
+// What it refuses is in `ward_check`, and the samples of a row are in `ward_rows`.
 // There is no Rust beside it. It stands above the face and goes by the latter's statements.
 ghost use mathlib.Core.Path.{_≡_};
-ghost use Prim.Native.Nat.{_+_, _-_, _*_, _/_, _≤_, _<_};
+ghost use Prim.Native.Nat.{_<_};
 ghost use lib.ListN.{length};
 ghost use Rattle.laws.specs.Call.{Gives};
-ghost use Rattle.decoder.specs.Face.answers.{Done};
-ghost use Rattle.ward.specs.Screen.{across};
-ghost use Rattle.ward.specs.Turns.{planesOf, inPlane, planeLength, columnsOf, rowsOf, firstTurn, nextTurn};
+ghost use Rattle.ward_check.specs.Sizes.{rowsOf};
+ghost use Rattle.ward.specs.Turns.{firstTurn, nextTurn};
 ghost use Rattle.ward.specs.RowCall as call;
 ghost use Rattle.ward.specs.Fits.{Fits};
 use decoder::Answer;
 use decoder::Format;
 use decoder::Refusal;
+use ward_check::across_run;
+use ward_check::in_plane;
+use ward_rows::put_row;
 
-mod rows;
-
-use rows::put_row;
-
-// The two runs over a window.
-pub enum Run {
-    Full,
-    Preview,
-}
-
-// A crop window by its edges, in luma samples: left and top are its first column and row, right and bottom those after its last.
-pub struct Window {
-    pub left: usize,
-    pub top: usize,
-    pub right: usize,
-    pub bottom: usize,
-}
+// The two runs, and a crop window.
+pub use ward_check::Run;
+pub use ward_check::Window;
 
 // Which row of a run comes next: of plane 0, 1 or 2, that is of Y, U or V. A value that is handed back after each call.
 pub struct Turn {
@@ -42,116 +31,6 @@ pub struct Turn {
 pub enum Rowed {
     Given(Turn, usize),
     Refused(Refusal, Turn),
-}
-
-// ---- sizes
-
-// Samples along a side, in what a run shows.
-pub(crate) fn across_run(run: Run, n: usize) -> usize
-    ensures { λ r. ⌜ r ≡ across run n ⌝ }
-{
-    match run {
-        Run::Full => n,
-        Run::Preview => n / 2,
-    }
-}
-
-// How many planes a picture has.
-fn planes_of(format: Format) -> usize
-    ensures { λ r. ⌜ r ≡ planesOf format ⌝ }
-{
-    match format {
-        Format::Grey => 1,
-        Format::Colour => 3,
-    }
-}
-
-// A place or a length counted in luma samples, in those of a plane.
-fn in_plane(k: usize, n: usize) -> usize
-    ensures { λ r. ⌜ r ≡ inPlane k n ⌝ }
-{
-    if k == 0 {
-        return n;
-    }
-    n / 2
-}
-
-// Samples of a plane.
-fn plane_length(format: Format, k: usize, w: usize, h: usize) -> usize
-    requires { ⌜ (w ≤ 4096) × (h ≤ 4096) ⌝ }
-    ensures { λ r. ⌜ r ≡ planeLength format k w h ⌝ }
-{
-    if k < planes_of(format) {
-        return in_plane(k, w) * in_plane(k, h);
-    }
-    0
-}
-
-// ---- the checks
-
-fn lengths_ok(format: Format, w: usize, h: usize, y: usize, u: usize, v: usize, out: usize) -> bool
-    requires { ⌜ (w ≤ 4096) × (h ≤ 4096) ⌝ }
-    ensures { λ r. ⌜ r ≡ call.lengthsOk format w h y u v out ⌝ }
-{
-    let luma = plane_length(format, 0, w, h);
-    let first = plane_length(format, 1, w, h);
-    let second = plane_length(format, 2, w, h);
-    (y == luma) & (u == first) & (v == second) & (out == w)
-}
-
-// Whether a window's edges stand on multiples of 4, and it has some samples, all of them inside.
-fn window_ok(c: Window, w: usize, h: usize) -> bool
-    ensures { λ r. ⌜ r ≡ call.windowOk c w h ⌝ }
-{
-    (c.left % 4 == 0)
-        & (c.top % 4 == 0)
-        & (c.right % 4 == 0)
-        & (c.bottom % 4 == 0)
-        & (c.left < c.right)
-        & (c.right <= w)
-        & (c.top < c.bottom)
-        & (c.bottom <= h)
-}
-
-// Whether a row is the turn's, and there is such a row.
-fn turn_ok(t: Turn, plane: usize, row: usize, format: Format, c: Window) -> bool
-    requires { ⌜ c .top < c .bottom ⌝ }
-    ensures { λ r. ⌜ r ≡ call.turnOk t plane row format c ⌝ }
-{
-    let run = t.run;
-    let planes = planes_of(format);
-    let rows = across_run(run, in_plane(t.plane, c.bottom - c.top));
-    (plane == t.plane) & (row == t.row) & (t.plane < planes) & (t.row < rows)
-}
-
-fn checked(
-    t: Turn,
-    plane: usize,
-    row: usize,
-    format: Format,
-    w: usize,
-    h: usize,
-    y: usize,
-    u: usize,
-    v: usize,
-    c: Window,
-    out: usize,
-) -> Answer
-    ensures { λ r. ⌜ r ≡ call.asked t plane row format w h y u v c out Done ⌝ }
-{
-    if !decoder::size_ok(w, h) {
-        return Answer::Refused(Refusal::Size);
-    }
-    if !lengths_ok(format, w, h, y, u, v, out) {
-        return Answer::Refused(Refusal::Length);
-    }
-    if !window_ok(c, w, h) {
-        return Answer::Refused(Refusal::Window);
-    }
-    if !turn_ok(t, plane, row, format, c) {
-        return Answer::Refused(Refusal::Turn);
-    }
-    Answer::Done
 }
 
 // ---- the turn
@@ -239,8 +118,11 @@ impl Turn {
             })
             (record { reading = call.readingOf r; out = now (out .exit) }) ⌝ }
     {
-        let found = checked(
-            self,
+        let run = self.run;
+        let found = ward_check::checked_row(
+            run,
+            self.plane,
+            self.row,
             plane,
             row,
             format,

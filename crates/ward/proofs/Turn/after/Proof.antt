@@ -3,9 +3,9 @@ use mathlib.Core.Path.{_≡_, ap, _∙_}
 use native.Mathlib.Omega.{arith}
 use borrow.Author.Needs.{needs}
 use Prim.Native.Nat.{_-_}
-use Rattle.ward.specs.Screen.{across}
-use Rattle.ward.specs.Turns.{inPlane, rowsOf}
-use Rattle.ward.proofs.Turns.{same-plane, next-plane, part-small, across-small}
+use Rattle.ward_check.specs.Sizes.{across, inPlane, rowsOf}
+use Rattle.ward_check.proofs.Sizes.{part-small, across-small}
+use Rattle.ward.proofs.Turns.{same-plane, next-plane}
 use Rattle.ward.proofs.Turn.after.Statement.{statement}
 use Rattle.ward.proofs.Turn.after.Tie as tie
 

@@ -3,8 +3,6 @@ use mathlib.Core.Path.{_≡_, sym, _∙_}
 use denote.Ref.{now}
 use borrow.Author.Needs.{needs}
 use lib.ListN.{length}
-use Prim.Native.Nat.{ℕ}
-use Rattle.decoder.specs.Face.answers.{Done}
 use Rattle.ward.specs.RowCall.{Input}
 use Rattle.ward.proofs.Ladder.{Asked}
 use Rattle.ward.proofs.Answers.{lent-0, lent-1, lent-2, same-turn, long-0, long-1, long-2, fits, row-refused, all-passed, row-given}
@@ -39,7 +37,7 @@ AskedOf i = Asked (i .turn) (i .plane) (i .row) (i .format) (i .w) (i .h) (lengt
 
 asked : (c : tie.After-enum-told) → AskedOf (input (start c))
 unfolding AskedOf
-asked c = all-passed (input (start c)) _ (c .before .before .checked .ensures) (c .enum-told .given .1)
+asked c = all-passed (input (start c)) _ (c .before .before .checked-row .ensures) (c .enum-told .given .1)
 
 -- the turn's plane is the one that is asked for
 same : (i : Input) → AskedOf i → i .turn .plane ≡ i .plane
@@ -75,18 +73,18 @@ given-requires-3 c κs =
 -- ---- the outcome
 
 returns : tie.Need-returns
-returns c = row-refused (input (c .before .before .before .before .before .before .before .before)) _ (c .before .before .before .checked .ensures) _ (c .before .found .given .1)
+returns c = row-refused (input (c .before .before .before .before .before .before .before .before)) _ (c .before .before .before .checked-row .ensures) _ (c .before .found .given .1)
 
 returns-2 : tie.Need-returns-2
 returns-2 c =
     let i = input (c .before .before .before .before .before .before .before .before .before .before .before .before) in
-    row-given i _ (c .before .before .before .before .before .before .before .checked .ensures) (c .before .before .before .before .before .enum-told .given .1) _
+    row-given i _ (c .before .before .before .before .before .before .before .checked-row .ensures) (c .before .before .before .before .before .enum-told .given .1) _
     (lent-0 (i .y) (i .u) (i .v) (i .turn .plane) (same i (asked (c .before .before .before .before .before)) ∙ c .before .before .before .before .match2 .keys1)) _ (c .before .before .given .ensures)
 
 returns-3 : tie.Need-returns-3
 returns-3 c =
     let i = input (c .before .before .before .before .before .before .before .before .before .before .before .before) in
-    row-given i _ (c .before .before .before .before .before .before .before .checked .ensures) (c .before .before .before .before .before .enum-told .given .1) _
+    row-given i _ (c .before .before .before .before .before .before .before .checked-row .ensures) (c .before .before .before .before .before .enum-told .given .1) _
     (lent-1 (i .y) (i .u) (i .v) (i .turn .plane) (same i (asked (c .before .before .before .before .before)) ∙ c .before .before .before .before .match2 .keys2)) _
     (c .before .before .given2 .ensures)
 
@@ -95,7 +93,7 @@ returns-4 c =
     let i = input (c .before .before .before .before .before .before .before .before .before .before .before .before) in
     let s = same i (asked (c .before .before .before .before .before)) in
     let r = c .before .before .before .before .match2 .rest in
-    row-given i _ (c .before .before .before .before .before .before .before .checked .ensures) (c .before .before .before .before .before .enum-told .given .1) _
+    row-given i _ (c .before .before .before .before .before .before .before .checked-row .ensures) (c .before .before .before .before .before .enum-told .given .1) _
     (lent-2 (i .y) (i .u) (i .v) (i .turn .plane) (λ e. r .0 .1 (sym s ∙ e)) (λ e. r .1 (sym s ∙ e))) _ (c .before .before .given3 .ensures)
 
 pub row-spec : {M : Type 1} → statement M

@@ -1,0 +1,3 @@
+pub mod Ladder
+pub mod Promises
+pub mod Sizes
