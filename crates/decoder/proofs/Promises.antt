@@ -87,6 +87,7 @@ use Rattle.pack_rules.specs.TakeCall as take-map
 use Rattle.df_check.specs.Checks as checks
 use Rattle.df_check.specs.Rows.{bandRows}
 use Rattle.df.specs.Band as band
+use Rattle.by_rows_check.specs.Checks as rows-checks
 use Rattle.df.specs.ByRows as by-rows
 use Rattle.df.specs.Deblock as deblock
 use Rattle.rows_rules.specs.Checks.{lengthsOk, checkMaps, rightOk}
@@ -155,6 +156,8 @@ use Rattle.decoder.proofs.take_map.Kinds as take-map-kinds
 use Rattle.decoder.proofs.take_map.Reads as take-map-reads
 use Rattle.decoder.proofs.mend.Kinds as mend-kinds
 use Rattle.decoder.proofs.mend.Reads as mend-reads
+use Rattle.decoder.proofs.checked_by_rows.Kinds as checked-by-rows-kinds
+use Rattle.decoder.proofs.checked_by_rows.Reads as checked-by-rows-reads
 use Rattle.decoder.proofs.deblock_by_rows.Kinds as by-rows-kinds
 use Rattle.decoder.proofs.deblock_by_rows.Reads as by-rows-reads
 use Rattle.decoder.proofs.deblock.Kinds as deblock-kinds
@@ -877,32 +880,45 @@ then-map : (t : Bool) (k : Answer) → Stops by-deblocking k → Stops with-rows
 then-map t Done p = map-last t
 then-map t (Refused r) p = record { by = longer by-deblocking (Rows ∷ []) (numberOf r) (p .by) }
 
-by-rows-stop : (i : by-rows.Input) → Stops with-rows (by-rows.check i)
-unfolding by-rows.check
+by-rows-stop : (i : rows-checks.Input) → Stops with-rows (rows-checks.checkOf i)
+unfolding rows-checks.checkOf
 by-rows-stop i =
-    again (sizeOk (i .given .w) (i .given .h)) Size _ (inl refl)
-    (again (by-rows.rowsLengthOk (i .given .w) (i .given .h) (length (i .rows))) Length _ (inr (inl refl))
-    (then-map (by-rows.rowsOk i) (deblock.check (i .given)) (checks-stop (deblock.checked (i .given)))))
+    again (sizeOk (i .w) (i .h)) Size _ (inl refl)
+    (again (rows-checks.rowsLengthOk (i .w) (i .h) (length (i .rows))) Length _ (inr (inl refl))
+    (then-map (rows-checks.rowsOk i) (checks.checkOf (rows-checks.checked i)) (checks-stop (rows-checks.checked i))))
 
 abbrev lending : List ℕ → deblock.Input → by-rows.Input
 lending rows i = record { given = i; rows = rows }
 
+-- an input for each rung
+abbrev lendings : List by-rows.Input
+lendings = map (lending (1 ∷ 1 ∷ [])) (take 2 filterings) ++ map (lending (1 ∷ [])) (drop 2 filterings ++ (filtering 4 (root 1) 5 0 0 0 ∷ []))
+
 pub deblock-by-rows-refusals : Refuses by-rows.outcome (λ o. o .reading .number) with-rows
-unfolding by-rows.outcome by-rows.check by-rows.rowsLengthOk by-rows.rowsOk rightOk checkMaps lengthsOk rightBytes ruleByte edgeRow withField checks.checkOf
+unfolding by-rows.outcome rows-checks.checkOf rows-checks.rowsLengthOk rows-checks.rowsOk rightOk checkMaps lengthsOk rightBytes ruleByte edgeRow withField checks.checkOf
     checks.fromLengths checks.lengthsOk checks.settingsOk checks.offsetOk checks.keepOk checks.qpsOk checks.planesOk list.limitOk sizeOk walk
     byByte inTurn onward leafWalk samplesOk allBelow fieldOf
 deblock-by-rows-refusals =
     record {
-      only = λ i. by-checks (λ o. o .reading .number) (deblock.refused (i .given)) (deblock.done (i .given)) with-rows (by-rows.check i) (λ r. refl) refl (by-rows-stop i);
-      shown = map (lending (1 ∷ 1 ∷ [])) (take 2 filterings) ++ map (lending (1 ∷ [])) (drop 2 filterings ++ (filtering 4 (root 1) 5 0 0 0 ∷ []));
+      only = λ i. by-checks (λ o. o .reading .number) (deblock.refused (i .given)) (deblock.done (i .given)) with-rows (by-rows.check i) (λ r. refl) refl (by-rows-stop (by-rows.checked i));
+      shown = lendings;
       given = refl;
     }
+
+pub checked-by-rows-once : Sole 9 checked-by-rows-kinds.ps checked-by-rows-kinds.r checked-by-rows-reads.Post (λ κs r x. r)
+checked-by-rows-once κs a r r′ x x′ p q = one-outcome rows-checks.checkOf _ _ _ p q
+
+pub checked-by-rows-refusals : Refuses rows-checks.checkOf answerNumber with-rows
+unfolding rows-checks.checkOf rows-checks.rowsLengthOk rows-checks.rowsOk rightOk checkMaps lengthsOk rightBytes ruleByte edgeRow withField checks.checkOf
+    checks.fromLengths checks.lengthsOk checks.settingsOk checks.offsetOk checks.keepOk checks.qpsOk checks.planesOk list.limitOk sizeOk walk
+    byByte inTurn onward leafWalk samplesOk allBelow fieldOf
+checked-by-rows-refusals = record { only = λ i. by-rows-stop i .by; shown = map by-rows.checked lendings; given = refl }
 
 -- a length that is neither is 2, also where all that comes after the lengths is bad; no map and a right one are accepted
 pub deblock-by-rows-numbers : map (λ (i : by-rows.Input). by-rows.outcome i .reading .number)
     (lending (1 ∷ 1 ∷ []) (filtering 4 (root 2) 7 2 3407872 1024) ∷ map (λ (rows : List ℕ). lending rows (filtering 4 (root 1) 5 0 0 0)) ((0 ∷ 0 ∷ []) ∷ [] ∷ (0 ∷ []) ∷ []))
     ≡ 2 ∷ 2 ∷ 0 ∷ 0 ∷ []
-unfolding by-rows.outcome by-rows.check by-rows.rowsLengthOk by-rows.rowsOk rightOk checkMaps lengthsOk rightBytes ruleByte edgeRow withField checks.checkOf
+unfolding by-rows.outcome rows-checks.checkOf rows-checks.rowsLengthOk rows-checks.rowsOk rightOk checkMaps lengthsOk rightBytes ruleByte edgeRow withField checks.checkOf
     checks.fromLengths checks.lengthsOk checks.settingsOk checks.offsetOk checks.keepOk checks.qpsOk checks.planesOk list.limitOk sizeOk walk
     byByte inTurn onward leafWalk samplesOk allBelow fieldOf
 deblock-by-rows-numbers = refl

@@ -23,9 +23,10 @@ use Rattle.df_check.specs.BandCheck as band-checks
 use Rattle.df_check.specs.Checks as checks
 use Rattle.df_check.proofs.Passed.{passed, rest-passed}
 use Rattle.df.specs.Band as band
+use Rattle.by_rows_check.specs.Checks as rows-checks
+use Rattle.by_rows_check.proofs.Ladder.{picture-fine}
 use Rattle.df.specs.ByRows as by-rows
 use Rattle.df.specs.Deblock as deblock
-use Rattle.df.proofs.ByRows.{picture-fine}
 use Rattle.driver_rules.specs.Call as driver
 use Rattle.driver_rules.proofs.Checks.{all-passed}
 
@@ -70,14 +71,14 @@ module _ (i : deblock.Input) (t : List ℕ) (n : length t ≡ length (i .splits)
   by-map j rows = record { given = j; rows = rows }
 
   rows-checks-same : (rows : List ℕ) → by-rows.check (by-map deblock-other rows) ≡ by-rows.check (by-map i rows)
-  unfolding by-rows.check by-rows.rowsOk
+  unfolding rows-checks.checkOf rows-checks.rowsOk
   rows-checks-same rows = rw checks-same
 
   pub deblock-by-rows-same : (rows : List ℕ) → by-rows.outcome (by-map deblock-other rows) ≡ by-rows.outcome (by-map i rows)
   unfolding by-rows.outcome
   deblock-by-rows-same rows =
       after-same (deblock.refused i) (deblock.done i) (deblock.done deblock-other) (by-rows.check (by-map i rows)) (by-rows.check (by-map deblock-other rows)) (rows-checks-same rows)
-      (λ e. rw (deblock-tree .leaves (passed (deblock.checked i) (picture-fine (by-map i rows) e) .walk)))
+      (λ e. rw (deblock-tree .leaves (passed (deblock.checked i) (picture-fine (by-rows.checked (by-map i rows)) e) .walk)))
 
 -- ---- deblocking by bands
 

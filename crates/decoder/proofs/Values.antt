@@ -8,6 +8,7 @@ use denote.Ref.{now}
 use lib.IntN.{natAbs}
 use Rattle.chroma_qp_check.proofs.Offsets.{qp-apart}
 use Rattle.unit_maps.specs.Maps.{mapsOf}
+use Rattle.edge_place.specs.Plans.{listsOf}
 use Rattle.decoder.specs.Promise.{ended, Sole}
 use Rattle.decoder.proofs.pel2scu.Kinds as pel2scu-kinds
 use Rattle.decoder.proofs.pel2scu.Reads as pel2scu-reads
@@ -107,10 +108,8 @@ use Rattle.decoder.proofs.window_chroma_two.Kinds as window-chroma-two-
 use Rattle.decoder.proofs.window_chroma_two.Reads as window-chroma-two-reads
 use Rattle.decoder.proofs.motion_row.Kinds as motion-row-kinds
 use Rattle.decoder.proofs.motion_row.Reads as motion-row-reads
-use Rattle.decoder.proofs.place_at.Kinds as place-at-kinds
-use Rattle.decoder.proofs.place_at.Reads as place-at-reads
-use Rattle.decoder.proofs.marks_at.Kinds as marks-at-kinds
-use Rattle.decoder.proofs.marks_at.Reads as marks-at-reads
+use Rattle.decoder.proofs.plan_edges.Kinds as plan-edges-kinds
+use Rattle.decoder.proofs.plan_edges.Reads as plan-edges-reads
 use Rattle.decoder.proofs.row_at.Kinds as row-at-kinds
 use Rattle.decoder.proofs.row_at.Reads as row-at-reads
 use Rattle.decoder.proofs.rows_at.Kinds as rows-at-kinds
@@ -249,11 +248,9 @@ entries-once κs a r r′ x x′ p q = p ∙ sym q
 pub motion-row-once : Sole 0 motion-row-kinds.ps motion-row-kinds.r motion-row-reads.Post (λ κs r x. r)
 motion-row-once κs a r r′ x x′ p q = p .0 ∙ sym (q .0)
 
-pub place-at-once : Sole 4 place-at-kinds.ps place-at-kinds.r place-at-reads.Post (λ κs r x. r)
-place-at-once κs a r r′ x x′ p q = p ∙ sym q
-
-pub marks-at-once : Sole 1 marks-at-kinds.ps marks-at-kinds.r marks-at-reads.Post (λ κs r x. r)
-marks-at-once κs a r r′ x x′ p q = p ∙ sym q
+pub plan-edges-once : Sole 8 plan-edges-kinds.ps plan-edges-kinds.r plan-edges-reads.Post
+    (λ κs r x. listsOf (now (x .1 .1 .1 .1 .1 .1 .1 .1 .1 .0)) (now (x .1 .1 .1 .1 .1 .1 .1 .1 .1 .1 .0)))
+plan-edges-once κs a r r′ x x′ p q = p ∙ sym q
 
 pub row-at-once : Sole 3 row-at-kinds.ps row-at-kinds.r row-at-reads.Post (λ κs r x. r)
 row-at-once κs a r r′ x x′ p q = p .0 ∙ sym (q .0)

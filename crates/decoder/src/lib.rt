@@ -10,8 +10,8 @@
 //     7 driver          reconstruct; checked_leaves, coded_y, coded_u, coded_v, mode_of, word_of, clear_words, tell_units
 //     8 walk            leaves, check, visiting_rank, list_edges; root_leaves, root_list, list_marks, take_marks, mark_place, mark_byte, root_count
 //       deblocking      deblock; Bands::first, deblock_band; checked, checked_band, band_rows, rows_above, entries, mask_of, line, lanes,
-//                       lanes_by_halves, window_luma, window_luma_two, window_kept, window_chroma, window_chroma_two, motion_row, place_at, marks_at
-//       edge rows       fill_rows, set_motion, set_flag, deblock_by_rows; row_at, rows_at, rows_right, checked_maps
+//                       lanes_by_halves, window_luma, window_luma_two, window_kept, window_chroma, window_chroma_two, motion_row, plan_edges
+//       edge rows       fill_rows, set_motion, set_flag, deblock_by_rows; row_at, rows_at, rows_right, checked_maps, checked_by_rows
 //     the sheet         read, listing
 //     the compact map   put_map, get_map; take_map; write_to, write_map, read_from, read_map; get_bit, put_bit, bits_in
 //     a torn map        mend
@@ -19,13 +19,14 @@
 // Inside are those that a caller needs none of. They are public because another crate calls them, and total like the rest: checked_points, start_qp, delta_in,
 // delta_out, checked_leaves, coded_y, coded_u, coded_v, mode_of, word_of, clear_words, tell_units, roots_along, root_leaves, root_list, list_marks, take_marks,
 // mark_place, mark_byte, root_count, checked, checked_band, entries, mask_of, line, lanes, lanes_by_halves, window_luma, window_luma_two, window_kept, window_chroma,
-// window_chroma_two, motion_row, place_at, marks_at, rows_at, checked_maps, bits_in, read.
+// window_chroma_two, motion_row, plan_edges, rows_at, checked_maps, checked_by_rows, bits_in, read.
 pub use avail::Avail;
 pub use avail::Neighbours;
 pub use avail::get_avail_inter;
 pub use avail::get_avail_intra;
 pub use bits::get_bit;
 pub use bits::put_bit;
+pub use by_rows_check::checked_by_rows;
 pub use chroma_qp::derived_chroma_qp_mapping_tables;
 pub use chroma_qp_check::checked_points;
 pub use chroma_qp_check::delta_in;
@@ -67,8 +68,7 @@ pub use df_check::checked_band;
 pub use df_check::rows_above;
 pub use driver::reconstruct;
 pub use driver_check::checked_leaves;
-pub use edge_place::marks_at;
-pub use edge_place::place_at;
+pub use edge_place::plan_edges;
 pub use edges::list_edges;
 pub use edges::root_list;
 pub use ipred::ipred_b;

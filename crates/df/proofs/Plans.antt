@@ -3,23 +3,25 @@
 --     plan-filters    filtering a plane by a plan is filtering its edges there, where its places and marks are those of the maps
 --     plan-stays    a plane stays a plane
 --     plan-empty    and one without samples stays so
+--     plan-known    what `plan_edges` stores for edges whose units lie in the maps is their plan
 -- Assumes nothing.
 use Prim.Native.Nat.{ℕ, zero, suc, _+_, _-_, _*_, _/_, _%_, _≤_, _<_}
-use mathlib.Core.Bool.{Bool, true}
+use mathlib.Core.Bool.{true}
 use mathlib.Core.Path.{_≡_, refl, sym, ap, ap₂, _∙_, subst}
 use mathlib.Core.List.{List, [], _∷_, _++_, List·Memᴰ, List·Memᴰ·head, List·Memᴰ·tail}
-use native.Mathlib.Nat.{zero-add, le-of-suc-le-suc, not-suc-le-zero, mul-le-mul-right}
+use native.Mathlib.Nat.{le-of-suc-le-suc, not-suc-le-zero}
 use native.Mathlib.Numerals.{add-one}
 use native.Mathlib.Omega.{arith}
 use borrow.Author.Tests.{lt-ltb}
 use lib.Dec.{ltb, eqb}
 use lib.IntN.{ℤ}
 use lib.ListN.{length, getD, take, List·getD-append}
-use lib.Seq.{sets, sets-eq, length-sets, take-suc, take-all}
+use lib.Seq.{sets-eq, length-sets, take-suc, take-all}
 use Rattle.def.specs.declared.Component.{Component}
 use Rattle.def.specs.declared.Format.{Format}
 use Rattle.line.specs.declared.Mask.{Mask}
 use Rattle.line.specs.Line.{maskOf}
+use Rattle.laws.specs.Bits.{fieldOf}
 use Rattle.laws.specs.Orders.{run, each}
 use Rattle.laws.proofs.Orders.{run-append}
 use Rattle.split.specs.Edges.{Pass, vertical, horizontal, Edge, edge, edgeAt, edgeNumbers}
@@ -28,18 +30,20 @@ use Rattle.split.proofs.Demand3.{edges-twice}
 use Rattle.df_rules.specs.Filter.{maskAt, window, filtered}
 use Rattle.df_rules.specs.Lent.{LentPicture, Unit, Marked, AtUnit}
 use Rattle.df_rules.specs.Places.{stepAcross, unitQ, unitP}
-use Rattle.df_rules.specs.Strength.{Over, Maps, rowAt, qpAt, strengthOf, strength}
-use Rattle.df_rules.proofs.Edges.{Spot, spot, unit-of, mark-of, unit-q, unit-p, p-before}
+use Rattle.df_rules.specs.Strength.{Over, Maps, rowBy, qpAt, strengthOf, strength}
+use Rattle.df_rules.proofs.Edges.{spot, unit-of, mark-of, unit-q, unit-p, p-before}
 use Rattle.df_rules.proofs.Planes.{window-long, window-small, no-samples}
 use Rattle.df_rules.proofs.Strengths.{row-few}
 use Rattle.bands_rules.proofs.Lists.{Lies}
 use Rattle.row.specs.Between.{There}
-use Rattle.rows_rules.specs.Rule.{hasSide}
+use Rattle.rows_rules.specs.Rule.{hasSide, firstBit}
 use Rattle.edge_place.specs.Places.{placeIn, marksIn}
+use Rattle.edge_place.specs.Plans.{Input, listsOf, edgesIn, told, planned}
+use Rattle.edge_place.proofs.Plans.{units-in, has-both, all-planned, place-told, marks-told, place-in-plan, marks-in-plan}
 use Rattle.edge_place.proofs.Units.{place-in, marks-in}
 use Rattle.rows_rules.proofs.RightMap.{row-in-byte}
 use Rattle.rows_rules.proofs.Sides.{column-of, row-of}
-use Rattle.df.specs.Plan.{edgeFrom, edgesFrom, placeAt, marksAt, maskBy, Planned, filterIn, Known, RowsLent, Says, PlaneOf, At}
+use Rattle.df.specs.Plan.{edgeFrom, edgesFrom, placeAt, marksAt, maskBy, Planned, filterIn, RowsLent, PlaneOf, At}
 use Rattle.edges.specs.Put.{Put}
 
 -- ---- a list read back
@@ -118,13 +122,28 @@ module _ (l : List Edge) (few : length l ≤ 256) {out list : List ℕ} {r : ℕ
 
 -- ---- an edge's units lie in the maps
 
+pub record Known (d : Pass) (w : ℕ) (words : List ℕ) (over : Over) (x y : ℕ) : Type 0 where
+  pub before : stepAcross d w ≤ unitQ w (edge (x / 4) (y / 4))
+  pub side : hasSide d w (unitQ w (edge (x / 4) (y / 4))) ≡ true
+  pub q : Unit words (over .motion) (over .refs) (unitQ w (edge (x / 4) (y / 4)))
+  pub p : Unit words (over .motion) (over .refs) (unitP d w (edge (x / 4) (y / 4)))
+  pub q-mark : Marked (over .keep) (unitQ w (edge (x / 4) (y / 4)))
+  pub p-mark : Marked (over .keep) (unitP d w (edge (x / 4) (y / 4)))
+
+-- those of a list's first n edges, and there is room for their plan
+pub record Knowns (d : Pass) (w : ℕ) (words : List ℕ) (over : Over) (rows l : List ℕ) (n : ℕ) (places marks : List ℕ) : Type 0 where
+  pub wide : w ≤ 1024
+  pub long : 2 * n ≤ length l
+  pub fits : n ≤ length places
+  pub fits-marks : n ≤ length marks
+  pub right : RowsLent w words (over .motion) (over .refs) rows
+  pub edges : (k : ℕ) → k < n → Known d w words over (getD l (2 * k) 0) (getD l (2 * k + 1) 0)
+
 pub edge-known : (d : Pass) {format : Format} {w h : ℕ} {y u v words : List ℕ} {over : Over} {t : List ℕ} (a b : ℕ)
     → LentPicture format w h y u v words over t → At d w h a b → Known d w words over a b
 edge-known vertical {w} {h} a b f g =
     let k = spot vertical w h a b (f .wide) (f .high) g in
     record {
-      few-x = k .few-x;
-      few-y = k .few-z;
       before = p-before w h vertical (a / 4) (b / 4) (k .inner);
       side = ap (ltb 0) (column-of w (a / 4) (b / 4) (k .across)) ∙ lt-ltb 0 (a / 4) (k .inner);
       q = unit-q w h _ (unit-of w h f) vertical (a / 4) (b / 4) (k .across) (k .along);
@@ -135,8 +154,6 @@ edge-known vertical {w} {h} a b f g =
 edge-known horizontal {w} {h} a b f g =
     let k = spot horizontal w h b a (f .wide) (f .high) g in
     record {
-      few-x = k .few-z;
-      few-y = k .few-x;
       before = p-before w h horizontal (b / 4) (a / 4) (k .inner);
       side = ap (ltb 0) (row-of w (a / 4) (b / 4) (k .along)) ∙ lt-ltb 0 (b / 4) (k .inner);
       q = unit-q w h _ (unit-of w h f) horizontal (b / 4) (a / 4) (k .across) (k .along);
@@ -214,31 +231,53 @@ module _ (t : List ℕ) (first : ℕ) (c : Component) (d : Pass) (w : ℕ) where
     plan-empty zero xs e = refl
     plan-empty (suc n) xs e = no-samples xs e ∙ sym (no-samples _ (window-long _ _ _ _ _ _ _ ∙ ap length (sym (plan-empty n xs e)) ∙ e))
 
--- ---- by numbers that were read
+-- ---- by the maps
 
 -- a unit of the maps
-pub unit-there : {words : List ℕ} {motion refs : List ℤ} {k : ℕ} → Unit words motion refs k → There words motion refs k
+unit-there : {words : List ℕ} {motion refs : List ℤ} {k : ℕ} → Unit words motion refs k → There words motion refs k
 unit-there u = record { word = u .word; mv = u .mv; refi = u .refi }
 
--- a byte of the map says the row of an edge
-pub byte-has-row : (d : Pass) (w : ℕ) (words : List ℕ) (motion refs : List ℤ) (rows : List ℕ) {q p k : ℕ} → RowsLent w words motion refs rows → hasSide d w k ≡ true
-    → q ≡ k → p ≡ k - stepAcross d w → Says d words motion refs rows q p
-byte-has-row d w words motion refs rows {q} {p} {k} r s e f = rw (e, f) (λ l. row-in-byte words motion refs w d k _ (r k l) s)
+-- a byte of the map, if it is lent, says the row of an edge
+byte-has-row : (d : Pass) (w : ℕ) (words : List ℕ) (motion refs : List ℤ) (rows : List ℕ) → RowsLent w words motion refs rows → {q : ℕ} → hasSide d w q ≡ true
+    → q < length rows → fieldOf (firstBit d) 2 (getD rows q 0) ≡ rowBy words motion refs q (q - stepAcross d w)
+byte-has-row d w words motion refs rows r {q} s l = row-in-byte words motion refs w d q _ (r q l) s
 
 -- ---- what is answered for the units of an edge
 
-module _ (d : Pass) (w : ℕ) {words : List ℕ} {over : Over} (rows : List ℕ) (right : RowsLent w words (over .motion) (over .refs) rows)
-    {x y : ℕ} (k : Known d w words over x y) {q p : ℕ} (eq : q ≡ unitQ w (edge (x / 4) (y / 4))) (ep : p ≡ unitP d w (edge (x / 4) (y / 4))) where
-  pub place-known : placeIn d words (over .motion) (over .refs) rows q p ≡ placeAt (record { words = words; over = over }) d w (edge (x / 4) (y / 4))
-  place-known =
-      rw (eq, ep) (place-in d words (over .motion) (over .refs) rows _ _ (unit-there (k .q)) (unit-there (k .p))
-      (byte-has-row d w words (over .motion) (over .refs) rows right (k .side) refl refl) (k .q .qp))
+pub place-known : (d : Pass) (w : ℕ) {words : List ℕ} {over : Over} (rows : List ℕ) → RowsLent w words (over .motion) (over .refs) rows → {x y : ℕ} → Known d w words over x y
+    → let e = edge (x / 4) (y / 4) in placeIn d words (over .motion) (over .refs) rows (unitQ w e) (unitP d w e) ≡ placeAt (record { words = words; over = over }) d w e
+place-known d w {words} {over} rows right k =
+    place-in d words (over .motion) (over .refs) rows _ _ (unit-there (k .q)) (unit-there (k .p)) (byte-has-row d w words (over .motion) (over .refs) rows right (k .side)) (k .q .qp)
 
-  pub marks-known : marksIn (over .keep) q p ≡ marksAt (record { words = words; over = over }) d w (edge (x / 4) (y / 4))
-  marks-known = rw (eq, ep) (marks-in (over .keep) _ _ (k .q-mark .few) (k .p-mark .few))
+pub marks-known : (d : Pass) (w : ℕ) {words : List ℕ} {over : Over} {x y : ℕ} → Known d w words over x y
+    → let e = edge (x / 4) (y / 4) in marksIn (over .keep) (unitQ w e) (unitP d w e) ≡ marksAt (record { words = words; over = over }) d w e
+marks-known d w {words} {over} k = marks-in (over .keep) _ _ (k .q-mark .few) (k .p-mark .few)
 
-pub known-as : {d : Pass} {w : ℕ} {words : List ℕ} {over : Over} {x y a b : ℕ} → x ≡ a → y ≡ b → Known d w words over a b → Known d w words over x y
-known-as e f k = rw (e, f) k
+-- ---- what the call answers for a list
+
+module _ (d : Pass) (w : ℕ) {words : List ℕ} {over : Over} (rows l : List ℕ) (n : ℕ) {places₀ marks₀ : List ℕ} (f : Knowns d w words over rows l n places₀ marks₀) where
+  abbrev input : Pass → Input
+  input p = record { pass = p; columns = w; words = words; motion = over .motion; refs = over .refs; keep = over .keep; rows = rows; list = l; n = n }
+
+  units-told : (k : ℕ) → k < n → told (input d) k ≡ true
+  units-told k h =
+      let e = f .edges k h in
+      has-both _ _ _ (record {
+        before = e .before;
+        under = units-in _ _ _ _ _ (record { word = e .q .word; mv = omega (arith, e .q .mv); refi = omega (arith, e .q .refi); mark = e .q-mark .there });
+      })
+
+  all : n ≤ edgesIn w (length l) n (length places₀) (length marks₀)
+  all = all-planned w (length l) n (length places₀) (length marks₀) (omega (arith, f .wide)) (f .long) (f .fits) (f .fits-marks)
+
+  -- it is the plan by the maps
+  pub plan-known : {p : Pass} {places marks : List ℕ} → p ≡ d → listsOf places marks ≡ planned (input p) (listsOf places₀ marks₀) → Planned (record { words = words; over = over }) d w l n places marks
+  plan-known {p} {places} {marks} g e =
+      let e′ = e ∙ ap (λ (x : Pass). planned (input x) (listsOf places₀ marks₀)) g in
+      record {
+        at = λ k h. place-in-plan (input d) places₀ marks₀ places marks e′ k (omega (arith, all)) ∙ sym (place-told (input d) k (units-told k h)) ∙ place-known d w rows (f .right) (f .edges k h);
+        kept = λ k h. marks-in-plan (input d) places₀ marks₀ places marks e′ k (omega (arith, all)) ∙ sym (marks-told (input d) k (units-told k h)) ∙ marks-known d w (f .edges k h);
+      }
 
 module _ (d : Pass) {x y a b c e : ℕ} (p : x ≡ a) (q : y ≡ b) (r : c ≡ crossOf d (edge x y)) (s : e ≡ alongOf d (edge x y)) where
   pub at-given : {w h : ℕ} → At d w h a b → AtUnit d w h c e

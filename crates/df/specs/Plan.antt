@@ -1,37 +1,31 @@
 -- A root's plan: its edges as listing writes them, and for each the place of its strength and its keep marks; and what filtering by a plan leaves of the planes.
 -- Assumes nothing: these are definitions.
 use Prim.Native.Nat.{ℕ, zero, suc, _+_, _*_, _/_, _%_, _≤_, _<_}
-use mathlib.Core.Bool.{Bool, true}
+use mathlib.Core.Bool.{Bool}
 use mathlib.Core.List.{List, [], _∷_, _++_, map}
 use mathlib.Core.Path.{_≡_}
-use lib.Dec.{eqb, ltb}
+use lib.Dec.{eqb}
 use lib.IntN.{ℤ}
 use lib.ListN.{length, getD}
-use Rattle.laws.specs.Bits.{fieldOf}
-use Rattle.laws.specs.Index.{pick, tabulate}
 use Rattle.def.specs.Formats.{inFormat}
 use Rattle.def.specs.Word.{qpOf}
 use Rattle.def.specs.declared.Component.{Component}
 use Rattle.def.specs.declared.Format.{Format}
-use Rattle.def.specs.declared.Format.the-variants.{Grey, Colour}
 use Rattle.line.specs.declared.Mask.{Mask}
 use Rattle.line.specs.Line.{maskOf}
 use Rattle.split.specs.Edges.{Pass, Edge, edge, edgesOf}
 use Rattle.split.specs.Picture.{rootLeaves}
 use Rattle.split.specs.Rows.{crossOf, alongOf}
 use Rattle.df_rules.specs.Filter.{window, Planes, filterAll}
-use Rattle.df_rules.specs.Lent.{Unit, Marked, AtUnit}
-use Rattle.df_rules.specs.Places.{stepAcross, unitQ, unitP}
-use Rattle.df_rules.specs.Strength.{Over, Maps, rowBy}
+use Rattle.df_rules.specs.Lent.{AtUnit}
+use Rattle.df_rules.specs.Places.{unitQ, unitP}
+use Rattle.df_rules.specs.Strength.{Maps, rowBy}
 use Rattle.df_rules.specs.Window.{Samples}
-use Rattle.rows_rules.specs.Rule.{hasSide, firstBit, ruleByte}
+use Rattle.rows_rules.specs.Rule.{ruleByte}
+pub use Rattle.edge_place.specs.Plans.{edgeFrom}
 use Rattle.split.specs.RootCall.{leafDown}
 
--- edge k of a list: its two numbers are Q's first luma sample
-abbrev pub edgeFrom : List ℕ → ℕ → Edge
-edgeFrom l k = edge (getD l (2 * k) 0 / 4) (getD l (2 * k + 1) 0 / 4)
-
--- the first n
+-- the first n edges of a list
 unfoldable pub edgesFrom : List ℕ → ℕ → List Edge
 edgesFrom l zero = []
 edgesFrom l (suc n) = edgesFrom l n ++ (edgeFrom l n ∷ [])
@@ -75,30 +69,6 @@ filterIn t first c d w l places marks (suc n) xs =
 -- every byte of a map of edge rows that is lent is right; none may be lent
 abbrev pub RowsLent : (w : ℕ) (words : List ℕ) (motion refs : List ℤ) → List ℕ → Type 0
 RowsLent w words motion refs rows = (k : ℕ) → k < length rows → getD rows k 0 ≡ ruleByte words motion refs w k
-
--- Q's byte, if it is lent, has the row of Q and P
-abbrev pub Says : Pass → (words : List ℕ) (motion refs : List ℤ) → List ℕ → (q p : ℕ) → Type 0
-Says d words motion refs rows q p = q < length rows → fieldOf (firstBit d) 2 (getD rows q 0) ≡ rowBy words motion refs q p
-
--- the two units of an edge lie in the maps
-pub record Known (d : Pass) (w : ℕ) (words : List ℕ) (over : Over) (x y : ℕ) : Type 0 where
-  pub few-x : x ≤ 4096
-  pub few-y : y ≤ 4096
-  pub before : stepAcross d w ≤ unitQ w (edge (x / 4) (y / 4))
-  pub side : hasSide d w (unitQ w (edge (x / 4) (y / 4))) ≡ true
-  pub q : Unit words (over .motion) (over .refs) (unitQ w (edge (x / 4) (y / 4)))
-  pub p : Unit words (over .motion) (over .refs) (unitP d w (edge (x / 4) (y / 4)))
-  pub q-mark : Marked (over .keep) (unitQ w (edge (x / 4) (y / 4)))
-  pub p-mark : Marked (over .keep) (unitP d w (edge (x / 4) (y / 4)))
-
--- those of a list's first n edges, and there is room for their plan
-pub record Knowns (d : Pass) (w : ℕ) (words : List ℕ) (over : Over) (rows l : List ℕ) (n : ℕ) (places marks : List ℕ) : Type 0 where
-  pub wide : w ≤ 1024
-  pub long : 2 * n ≤ length l
-  pub fits : n ≤ length places
-  pub fits-marks : n ≤ length marks
-  pub right : RowsLent w words (over .motion) (over .refs) rows
-  pub edges : (k : ℕ) → k < n → Known d w words over (getD l (2 * k) 0) (getD l (2 * k + 1) 0)
 
 -- a plane of a picture of w by h units, m samples a unit's side
 pub record PlaneOf (m w h : ℕ) (xs : List ℕ) : Type 0 where

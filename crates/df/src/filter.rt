@@ -16,7 +16,6 @@ use crate::place::Pass;
 use crate::place::along_of;
 use crate::place::cross_of;
 use crate::place::place;
-use crate::plan::number_at;
 use def::Component;
 use def::Format;
 use line::Mask;
@@ -25,6 +24,14 @@ use window::window_chroma_two;
 use window::window_kept;
 use window::window_luma;
 use window::window_luma_two;
+
+// A number of a list.
+fn number_at(list: &[u16], i: usize) -> usize
+    requires { ⌜ i < length (now list) ⌝ }
+    ensures { λ r. ⌜ r ≡ getD (now (list .entry)) i 0 ⌝ }
+{
+    list[i] as usize
+}
 
 fn strength_at(entries: &[u8], i: usize) -> u16
     requires { ⌜ i < length (now entries) ⌝ }

@@ -21,7 +21,6 @@ use df_check::Settings;
 use strength::entries;
 
 mod place; // place.rt: the passes, and where an edge's lines lie
-mod plan; // plan.rt: the place of each edge's strength; no plane
 mod filter; // filter.rt: the edges of a list, filtered; no map
 mod pass; // pass.rt: a root's edges, and a pass over the picture
 mod band; // band.rt: a picture by bands

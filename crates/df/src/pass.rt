@@ -14,10 +14,10 @@ use crate::filter::filter_colour;
 use crate::filter::filter_luma;
 use crate::place::Pass;
 use crate::place::is_horizontal;
-use crate::plan::plan;
 use def::Format;
 use def::Pel;
 use def::roots_along;
+use edge_place::plan_edges;
 use split::Walked;
 
 // How many roots h rows of w samples have.
@@ -80,6 +80,7 @@ pub(crate) fn deblock_pass(
         columns: w / 4,
         rows: top + h / 4,
     };
+    let horizontal = is_horizontal(pass);
     let roots = root_count(w, h);
     let mut list = [0u16; 512];
     let mut places = [0u8; 256];
@@ -87,8 +88,8 @@ pub(crate) fn deblock_pass(
     let mut count = 0;
     for i in 0..roots {
         let n = root_edges(pass, halved, w, h, top, splits, i, &mut list);
-        plan(
-            pass,
+        plan_edges(
+            horizontal,
             size.columns,
             words,
             motion,

@@ -24,7 +24,7 @@ pub(crate) fn is_horizontal(pass: Pass) -> bool
 }
 
 // In a plane, or a map, of `wide` a row: from one place to the next across the pass's edges.
-pub(crate) fn step_across(pass: Pass, wide: usize) -> usize
+fn step_across(pass: Pass, wide: usize) -> usize
     ensures { λ r. ⌜ (r ≡ stepAcross (passOf pass) wide) × (r ≤ wide + 1) ⌝ }
 {
     match pass {

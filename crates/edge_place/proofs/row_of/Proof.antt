@@ -1,7 +1,4 @@
 -- `edge_place::row_of` meets its contract: the row that the map has, or the one that is worked out. Assumes nothing.
-use Prim.Native.Nat.{ℕ}
-use mathlib.Core.Path.{_≡_, sym, _∙_}
-use mathlib.Core.List.{List}
 use borrow.Author.Needs.{needs}
 use borrow.Author.Tests.{lt-ltb, le-ltb}
 use Rattle.edge_place.specs.Places.{lentRow}

@@ -4,8 +4,9 @@ use denote.Ref.{now}
 use lib.ListN.{length}
 use Rattle.def.specs.declared.Answer.the-variants.{Done}
 use Rattle.bands_rules.proofs.Whole.{both-zero, lent-zero}
-use Rattle.df.specs.ByRows.{Input, check}
-use Rattle.df.proofs.ByRows.{by-refused, picture-fine, rows-lent, same-outcome}
+use Rattle.by_rows_check.proofs.Ladder.{picture-fine, rows-fine}
+use Rattle.df.specs.ByRows.{Input, checked, check}
+use Rattle.df.proofs.ByRows.{by-refused, same-outcome}
 use Rattle.df.proofs.Calls.{accepted, lent-picture, deblock-done}
 use Rattle.df.proofs.Entries.{entries-long}
 use Rattle.df.proofs.by_rows.deblock_by_rows.Statement.{statement}
@@ -49,16 +50,17 @@ unfolding of
 passes-by-requires c κs =
     let i = of (c .before .before .before .before .before .before .before .before .before .before .before .before .before .before .before .before .before .before .before .before .before .before) in
     let e = fine (c .before .before .before .before .before .before .before) in
-    let f = picture-fine i e in
-    (lent-zero (lent-picture (i .given) f _ (ap length (c .before .before .before .before .before .before .entries-by .ensures) ∙ entries-long _ _ _ _ _ _)), accepted (i .given) f, rows-lent i e)
+    let f = picture-fine (checked i) e in
+    let t = ap length (c .before .before .before .before .before .before .entries-by .ensures) ∙ entries-long _ _ _ _ _ _ in
+    (lent-zero (lent-picture (i .given) f _ t), accepted (i .given) f, rows-fine (checked i) e)
 
 returns-2 : tie.Need-returns-2
 unfolding of
 returns-2 c =
-    let checked = c .before .before .before .before .before .before .before .before .before .before .before .before .before .before .before .before .before in
-    let i = of (checked .before .before .before .before .before .before .before .before .before .before .before .before .before .before .before) in
-    let e = fine checked in
-    deblock-done (i .given) (picture-fine i e) _ _ _ _ _ _ _
+    let passed = c .before .before .before .before .before .before .before .before .before .before .before .before .before .before .before .before .before in
+    let i = of (passed .before .before .before .before .before .before .before .before .before .before .before .before .before .before .before) in
+    let e = fine passed in
+    deblock-done (i .given) (picture-fine (checked i) e) _ _ _ _ _ _ _
     (c .before .before .before .before .before .before .before .before .before .before .before .before .before .before .before .before .entries-by .ensures)
     (both-zero _ _ _ (c .before .before .before .before .before .before .before .before .before .passes-by .ensures))
     (c .done .ensures)
