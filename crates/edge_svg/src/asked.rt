@@ -14,23 +14,18 @@ pub(crate) struct Asked {
 }
 
 // 1, 2 and 3 for an option that is known, 4 for one that is not, 0 for a word that is none.
-fn option(at: usize) -> u8 {
+fn option(at: usize) -> usize {
     let mut word = io::buffer();
     let n = os::arg(at, &mut word);
-    if words::is(&word[..n], b"--numbers") {
-        return 1;
-    }
-    if words::is(&word[..n], b"--torn") {
-        return 2;
-    }
-    if words::is(&word[..n], b"--digits") {
-        return 3;
+    let known = words::which(&word[..n], b"--numbers --torn --digits ");
+    if known != 0 {
+        return known;
     }
     if (0 < n) & (word[0] == b'-') { 4 } else { 0 }
 }
 
 // Whether an option is among the arguments.
-fn given(number: u8) -> bool {
+fn given(number: usize) -> bool {
     let count = os::arg_count();
     let mut at: usize = 1;
     while at < count {

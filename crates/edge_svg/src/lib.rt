@@ -86,20 +86,19 @@ fn opened(a: asked::Asked) -> u8 {
 }
 
 fn help() {
-    say::line(b"usage: edgepicture [--numbers] [SHEET]");
-    say::line(b"       edgepicture [--numbers] [--torn] W H LIMIT MAP");
-    say::line(b"       edgepicture [--numbers] --digits W H LIMIT DIGITS");
-    say::line(
-        b"Draws the leaves of a split tree and the edges between them as SVG: vertical edges orange, horizontal ones blue.",
+    say::words(
+        b"usage: edgepicture [--numbers] [SHEET]
+       edgepicture [--numbers] [--torn] W H LIMIT MAP
+       edgepicture [--numbers] --digits W H LIMIT DIGITS
+Draws the leaves of a split tree and the edges between them as SVG: vertical edges orange, horizontal ones blue.
+SHEET      a sheet, as edgelist reads it; without it, standard input
+MAP        the split map of a picture of W by H, 1,024 bytes a root; LIMIT is 5 or 6
+DIGITS     the same by its digits, as splitpack writes it
+--numbers  writes at each edge its place in its pass's order, from 1
+--torn     mends the map, and marks each block whose byte was changed
+status: 0 done, 1 refused, 2 bad usage or a failure of input or output
+",
     );
-    say::line(b"SHEET      a sheet, as edgelist reads it; without it, standard input");
-    say::line(
-        b"MAP        the split map of a picture of W by H, 1,024 bytes a root; LIMIT is 5 or 6",
-    );
-    say::line(b"DIGITS     the same by its digits, as splitpack writes it");
-    say::line(b"--numbers  writes at each edge its place in its pass's order, from 1");
-    say::line(b"--torn     mends the map, and marks each block whose byte was changed");
-    say::line(b"status: 0 done, 1 refused, 2 bad usage or a failure of input or output");
 }
 
 // The program, by its arguments.

@@ -47,12 +47,36 @@ pub(crate) fn words(pen: Pen, out: &mut [u8; 65536], text: &[u8]) -> Pen {
     p
 }
 
-// A number after some words.
-pub(crate) fn field(pen: Pen, out: &mut [u8; 65536], text: &[u8], n: usize) -> Pen {
+// A number of a list: 0 past its end.
+fn number_at(list: &[usize], i: usize) -> usize {
+    if list.len() <= i {
+        return 0;
+    }
+    list[i]
+}
+
+fn number(pen: Pen, out: &mut [u8; 65536], n: usize) -> Pen {
     let mut digits = [0u8; 20];
     let count = io::decimal(n as u64, &mut digits);
-    let p = words(pen, out, text);
-    words(p, out, &digits[..count])
+    words(pen, out, &digits[..count])
+}
+
+// Some words, in which each `@` stands for the next number.
+pub(crate) fn form(pen: Pen, out: &mut [u8; 65536], text: &[u8], numbers: &[usize]) -> Pen {
+    let mut p = pen;
+    let mut met: usize = 0;
+    let mut i = 0;
+    while i < text.len() {
+        let b = text[i];
+        if b == b'@' {
+            p = number(p, out, number_at(numbers, met));
+            met = std::num::wrapping_add_usize(met, 1);
+        } else {
+            p = byte(p, out, b);
+        }
+        i += 1;
+    }
+    p
 }
 
 // The first n bytes of the buffer.

@@ -104,7 +104,7 @@ fn root_leaves(pen: Pen, out: &mut [u8; 65536], job: Job, band: Band, map: &[u8]
     match decoder::leaves(job.w, band.rows, map, Pel(x), Pel(0), &mut list) {
         Walked::Refused(_) => pen,
         Walked::Done(n) => {
-            let p = svg::path(pen, out, b"l");
+            let p = svg::leaves_path(pen, out);
             let mut p = leaves(p, out, &list, n, 64 * (band.above % 64));
             p.leaves = plus(p.leaves, n);
             svg::end_path(p, out)
@@ -120,19 +120,33 @@ fn pass(
     horizontal: bool,
     list: &[u16],
     n: usize,
-    before: usize,
 ) -> Pen {
-    let p = if horizontal {
-        svg::path(pen, out, b"h")
-    } else {
-        svg::path(pen, out, b"v")
-    };
+    let p = svg::edges_path(pen, out, horizontal);
     let p = edges(p, out, horizontal, list, n, false, 0);
     let p = svg::end_path(p, out);
     if job.numbers {
-        return edges(p, out, horizontal, list, n, true, before);
+        return edges(p, out, horizontal, list, n, true, drawn(pen, horizontal));
     }
     p
+}
+
+// How many edges of a pass are drawn.
+fn drawn(pen: Pen, horizontal: bool) -> usize {
+    if horizontal {
+        pen.horizontal
+    } else {
+        pen.vertical
+    }
+}
+
+// The pen after n edges more of a pass.
+fn with_edges(mut pen: Pen, horizontal: bool, n: usize) -> Pen {
+    if horizontal {
+        pen.horizontal = plus(pen.horizontal, n);
+        return pen;
+    }
+    pen.vertical = plus(pen.vertical, n);
+    pen
 }
 
 // A root's edges of a pass.
@@ -158,18 +172,7 @@ fn root_edges(
         &mut list,
     ) {
         Walked::Refused(_) => pen,
-        Walked::Done(n) => {
-            if horizontal {
-                let before = pen.horizontal;
-                let mut p = pass(pen, out, job, true, &list, n, before);
-                p.horizontal = plus(before, n);
-                return p;
-            }
-            let before = pen.vertical;
-            let mut p = pass(pen, out, job, false, &list, n, before);
-            p.vertical = plus(before, n);
-            p
-        }
+        Walked::Done(n) => with_edges(pass(pen, out, job, horizontal, &list, n), horizontal, n),
     }
 }
 

@@ -2,7 +2,7 @@
 ghost use Prim.Native.Nat.{_≤_};
 use crate::Job;
 use crate::pen::Pen;
-use crate::pen::field;
+use crate::pen::form;
 use crate::pen::words;
 
 fn larger(a: usize, b: usize) -> usize {
@@ -93,33 +93,36 @@ fn thin(job: Job) -> usize {
 // The frame, and the picture's ground. A leaf's outline is as thin as can be seen.
 pub(crate) fn start(pen: Pen, out: &mut [u8; 65536], job: Job) -> Pen {
     let width = larger(plus(pixels(job, job.w), 72), 640);
-    let p = field(
+    let height = plus(pixels(job, job.h), 104);
+    let p = form(
         pen,
         out,
-        b"<svg xmlns=\"http://www.w3.org/2000/svg\" width=\"",
-        width,
+        b"<svg xmlns=\"http://www.w3.org/2000/svg\" width=\"@\" height=\"@\">\n",
+        &[width, height],
     );
-    let p = field(p, out, b"\" height=\"", plus(pixels(job, job.h), 104));
-    let p = words(p, out, b"\">\n");
     let p = style(p, out);
-    let p = words(
+    form(
         p,
         out,
-        b"<rect width=\"100%\" height=\"100%\" fill=\"#fff\"/>\n",
-    );
-    let p = field(p, out, b"<g transform=\"translate(48 80) scale(", job.scale);
-    let p = field(p, out, b")\" stroke-width=\"", thin(job));
-    let p = field(p, out, b"e-2\">\n<rect width=\"", job.w);
-    let p = field(p, out, b"\" height=\"", job.h);
-    words(p, out, b"\" class=\"l\"/>\n")
+        b"<rect width=\"100%\" height=\"100%\" fill=\"#fff\"/>\n\
+<g transform=\"translate(48 80) scale(@)\" stroke-width=\"@e-2\">\n\
+<rect width=\"@\" height=\"@\" class=\"l\"/>\n",
+        &[job.scale, thin(job), job.w, job.h],
+    )
 }
 
 // ---- leaves and edges
 
-pub(crate) fn path(pen: Pen, out: &mut [u8; 65536], class: &[u8]) -> Pen {
-    let p = words(pen, out, b"<path class=\"");
-    let p = words(p, out, class);
-    words(p, out, b"\" d=\"")
+pub(crate) fn leaves_path(pen: Pen, out: &mut [u8; 65536]) -> Pen {
+    words(pen, out, b"<path class=\"l\" d=\"")
+}
+
+// The path of a pass's edges.
+pub(crate) fn edges_path(pen: Pen, out: &mut [u8; 65536], horizontal: bool) -> Pen {
+    if horizontal {
+        return words(pen, out, b"<path class=\"h\" d=\"");
+    }
+    words(pen, out, b"<path class=\"v\" d=\"")
 }
 
 pub(crate) fn end_path(pen: Pen, out: &mut [u8; 65536]) -> Pen {
@@ -129,31 +132,23 @@ pub(crate) fn end_path(pen: Pen, out: &mut [u8; 65536]) -> Pen {
 // A leaf's outline, half a sample inside it: the edges around it stay to be seen.
 pub(crate) fn leaf(pen: Pen, out: &mut [u8; 65536], x: usize, y: usize, side: usize) -> Pen {
     let inner = std::num::wrapping_sub_usize(side, 1);
-    let p = field(pen, out, b"M", x);
-    let p = field(p, out, b".5 ", y);
-    let p = field(p, out, b".5h", inner);
-    let p = field(p, out, b"v", inner);
-    let p = field(p, out, b"h-", inner);
-    words(p, out, b"z")
+    form(pen, out, b"M@.5 @.5h@v@h-@z", &[x, y, inner, inner, inner])
 }
 
 // An edge, with a gap at both ends: each is one of its own.
 pub(crate) fn edge(pen: Pen, out: &mut [u8; 65536], horizontal: bool, x: usize, y: usize) -> Pen {
-    let p = field(pen, out, b"M", x);
     if horizontal {
-        let p = field(p, out, b".2 ", y);
-        return words(p, out, b"h3.6");
+        return form(pen, out, b"M@.2 @h3.6", &[x, y]);
     }
-    let p = field(p, out, b" ", y);
-    words(p, out, b".2v3.6")
+    form(pen, out, b"M@ @.2v3.6", &[x, y])
 }
 
-// A number of more than four digits is written small, so that it keeps to its edge.
-fn small(pen: Pen, out: &mut [u8; 65536], n: usize) -> Pen {
+// The text of a number. One of more than four digits is written small, so that it keeps to its edge.
+fn text_of(pen: Pen, out: &mut [u8; 65536], n: usize) -> Pen {
     if n < 10000 {
-        return pen;
+        return words(pen, out, b"<text class=\"n\"");
     }
-    words(pen, out, b" s")
+    words(pen, out, b"<text class=\"n s\"")
 }
 
 // The place of an edge in its pass's order, at its middle.
@@ -167,12 +162,13 @@ pub(crate) fn order(
 ) -> Pen {
     let right = if horizontal { 2 } else { 0 };
     let down = if horizontal { 0 } else { 2 };
-    let p = words(pen, out, b"<text class=\"n");
-    let p = small(p, out, n);
-    let p = field(p, out, b"\" x=\"", plus(x, right));
-    let p = field(p, out, b"\" y=\"", plus(y, down));
-    let p = field(p, out, b".4\">", n);
-    words(p, out, b"</text>\n")
+    let p = text_of(pen, out, n);
+    form(
+        p,
+        out,
+        b" x=\"@\" y=\"@.4\">@</text>\n",
+        &[plus(x, right), plus(y, down), n],
+    )
 }
 
 // ---- changes
@@ -187,11 +183,14 @@ fn inside(at: usize, side: usize, end: usize) -> usize {
 
 // A block whose byte was changed.
 pub(crate) fn changed(pen: Pen, out: &mut [u8; 65536], job: Job, b: map_file::Block) -> Pen {
-    let p = field(pen, out, b"<rect class=\"c\" x=\"", b.x);
-    let p = field(p, out, b"\" y=\"", b.y);
-    let p = field(p, out, b"\" width=\"", inside(b.x, b.side, job.w));
-    let p = field(p, out, b"\" height=\"", inside(b.y, b.side, job.h));
-    words(p, out, b"\"/>\n")
+    let width = inside(b.x, b.side, job.w);
+    let height = inside(b.y, b.side, job.h);
+    form(
+        pen,
+        out,
+        b"<rect class=\"c\" x=\"@\" y=\"@\" width=\"@\" height=\"@\"/>\n",
+        &[b.x, b.y, width, height],
+    )
 }
 
 // What its byte was and is; by its level in a line of its own, since a block and a part of it start at one place. What is left of a block in the picture
@@ -207,35 +206,33 @@ pub(crate) fn change(
 ) -> Pen {
     let last = std::num::wrapping_sub_usize(inside(b.y, b.side, job.h), 2);
     let line = smaller(2 * (level % 4), last);
-    let p = field(pen, out, b"<text class=\"k\" x=\"", b.x);
-    let p = field(p, out, b".6\" y=\"", plus(plus(b.y, line), 1));
-    let p = field(p, out, b".4\">", old);
-    let p = field(p, out, b"&#8594;", new);
-    words(p, out, b"</text>\n")
+    form(
+        pen,
+        out,
+        b"<text class=\"k\" x=\"@.6\" y=\"@.4\">@&#8594;@</text>\n",
+        &[b.x, plus(plus(b.y, line), 1), old, new],
+    )
 }
 
 // ---- the scales and the legend, in pixels
 
 // A number on a scale: the column or the row of samples that starts there.
 fn mark(pen: Pen, out: &mut [u8; 65536], job: Job, down: bool, at: usize) -> Pen {
+    let pixel = pixels(job, at);
     if down {
-        let p = field(
+        return form(
             pen,
             out,
-            b"<text class=\"y\" x=\"42\" y=\"",
-            plus(84, pixels(job, at)),
+            b"<text class=\"y\" x=\"42\" y=\"@\">@</text>\n",
+            &[plus(84, pixel), at],
         );
-        let p = field(p, out, b"\">", at);
-        return words(p, out, b"</text>\n");
     }
-    let p = field(
+    form(
         pen,
         out,
-        b"<text class=\"x\" y=\"74\" x=\"",
-        plus(48, pixels(job, at)),
-    );
-    let p = field(p, out, b"\">", at);
-    words(p, out, b"</text>\n")
+        b"<text class=\"x\" y=\"74\" x=\"@\">@</text>\n",
+        &[plus(48, pixel), at],
+    )
 }
 
 // Every root, and the end; a root has no number where there is no room for both.
@@ -252,71 +249,49 @@ fn scale_of(pen: Pen, out: &mut [u8; 65536], job: Job, down: bool, end: usize) -
     mark(p, out, job, down, end)
 }
 
-// Both scales, and what the picture has.
-fn title(pen: Pen, out: &mut [u8; 65536], job: Job) -> Pen {
-    let p = scale_of(pen, out, job, false, job.w);
-    let p = scale_of(p, out, job, true, job.h);
-    let p = field(p, out, b"<text x=\"48\" y=\"22\">", job.w);
-    let p = field(p, out, b" x ", job.h);
-    let p = field(p, out, b" samples, transform limit ", job.limit);
-    words(p, out, b"</text>\n")
-}
-
-// An entry of the legend: its sample, its words and how many there are.
-fn entry(pen: Pen, out: &mut [u8; 65536], sample: &[u8], text: &[u8], n: usize) -> Pen {
-    let p = words(pen, out, sample);
-    let p = field(p, out, text, n);
-    words(p, out, b"</text>\n")
-}
-
-// The edges of both passes.
-fn passes(pen: Pen, out: &mut [u8; 65536], vertical: usize, horizontal: usize) -> Pen {
-    let p = entry(
+// What the picture has: its size, the edges of both passes and the leaves.
+fn legend(pen: Pen, out: &mut [u8; 65536], job: Job, drawn: Pen) -> Pen {
+    form(
         pen,
         out,
-        b"<path d=\"M54 34v16\" stroke=\"#d55e00\" stroke-width=\"4\"/>\n",
-        b"<text x=\"66\" y=\"47\">vertical edges, first pass: ",
-        vertical,
-    );
-    entry(
-        p,
-        out,
-        b"<path d=\"M330 42h16\" stroke=\"#0072b2\" stroke-width=\"4\"/>\n",
-        b"<text x=\"352\" y=\"47\">horizontal edges, second pass: ",
-        horizontal,
+        b"<text x=\"48\" y=\"22\">@ x @ samples, transform limit @</text>\n\
+<path d=\"M54 34v16\" stroke=\"#d55e00\" stroke-width=\"4\"/>\n\
+<text x=\"66\" y=\"47\">vertical edges, first pass: @</text>\n\
+<path d=\"M330 42h16\" stroke=\"#0072b2\" stroke-width=\"4\"/>\n\
+<text x=\"352\" y=\"47\">horizontal edges, second pass: @</text>\n\
+<rect x=\"330\" y=\"12\" width=\"12\" height=\"12\" fill=\"none\" stroke=\"#8a8a8a\"/>\n\
+<text x=\"352\" y=\"22\">leaves: @</text>\n",
+        &[
+            job.w,
+            job.h,
+            job.limit,
+            drawn.vertical,
+            drawn.horizontal,
+            drawn.leaves,
+        ],
     )
 }
 
-// The leaves, and of a torn map the changes.
-fn blocks(pen: Pen, out: &mut [u8; 65536], job: Job, leaves: usize, changes: usize) -> Pen {
-    let p = entry(
+// The changes, of a torn map.
+fn changes(pen: Pen, out: &mut [u8; 65536], job: Job, n: usize) -> Pen {
+    if !job.torn {
+        return pen;
+    }
+    form(
         pen,
         out,
-        b"<rect x=\"330\" y=\"12\" width=\"12\" height=\"12\" fill=\"none\" stroke=\"#8a8a8a\"/>\n",
-        b"<text x=\"352\" y=\"22\">leaves: ",
-        leaves,
-    );
-    if !job.torn {
-        return p;
-    }
-    entry(
-        p,
-        out,
-        b"<rect x=\"464\" y=\"12\" width=\"12\" height=\"12\" fill=\"#ffe98a\" stroke=\"#7a5c00\" stroke-dasharray=\"3 2\"/>\n",
-        b"<text x=\"484\" y=\"22\">split bytes mended: ",
-        changes,
+        b"<rect x=\"464\" y=\"12\" width=\"12\" height=\"12\" fill=\"#ffe98a\" stroke=\"#7a5c00\" stroke-dasharray=\"3 2\"/>\n\
+<text x=\"484\" y=\"22\">split bytes mended: @</text>\n",
+        &[n],
     )
 }
 
 // The end of the picture: what was drawn is known by now.
 pub(crate) fn end(pen: Pen, out: &mut [u8; 65536], job: Job) -> Pen {
-    let leaves = pen.leaves;
-    let vertical = pen.vertical;
-    let horizontal = pen.horizontal;
-    let changes = pen.changes;
     let p = words(pen, out, b"</g>\n");
-    let p = title(p, out, job);
-    let p = passes(p, out, vertical, horizontal);
-    let p = blocks(p, out, job, leaves, changes);
+    let p = scale_of(p, out, job, false, job.w);
+    let p = scale_of(p, out, job, true, job.h);
+    let p = legend(p, out, job, pen);
+    let p = changes(p, out, job, pen.changes);
     words(p, out, b"</svg>\n")
 }

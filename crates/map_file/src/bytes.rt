@@ -44,8 +44,7 @@ fn torn(w: usize, h: usize, map: &[u8], root: usize) -> usize {
 
 // A byte of a root, by its place in the map, with the root and the block.
 fn tell_byte(w: usize, root: usize, place: usize) {
-    say::counted(b"byte ", 1024 * (root % 4096) + place % 1024);
-    say::words(b", ");
+    say::form(b"byte @, ", &[1024 * (root % 4096) + place % 1024]);
     tell_block(w, root, place);
 }
 
@@ -68,8 +67,10 @@ fn tell_torn(w: usize, h: usize, map: &[u8]) {
 // How long a map is and has to be, and the root in which a short one ends.
 fn tell_lengths(w: usize, h: usize, n: usize) {
     let asked = 1024 * root_count(w, h);
-    say::counted(b"the map has ", n);
-    say::counted(b" bytes, and that of the picture ", asked);
+    say::form(
+        b"the map has @ bytes, and that of the picture @",
+        &[n, asked],
+    );
     if n < asked {
         say::words(b", it ends in ");
         tell_root(w, n / 1024);

@@ -119,8 +119,7 @@ pub fn offending(w: usize, h: usize, src: &[u8], to: usize) -> Digit {
 
 // A bit by its byte and its place there, the high one first: `byte 20, bit 0`.
 fn tell_bit(at: usize) {
-    say::counted(b"byte ", at / 8);
-    say::counted(b", bit ", at % 8);
+    say::form(b"byte @, bit @", &[at / 8, at % 8]);
 }
 
 // The first bit of the last byte that is set behind the last digit.

@@ -73,39 +73,27 @@ pub fn root_count(w: usize, h: usize) -> usize
 
 // ---- what is told of it
 
-// A place in luma samples, after some words.
-fn tell_at(words: &[u8], x: usize, y: usize) {
-    say::counted(words, x);
-    say::counted(b" ", y);
-}
-
 // Root n of a picture of width w: `root 1 at 64 0`.
 pub fn tell_root(w: usize, n: usize) {
     let across = def::roots_along(w);
-    say::counted(b"root ", n);
-    tell_at(b" at ", root_x(across, n), root_y(across, n));
+    say::form(b"root @ at @ @", &[n, root_x(across, n), root_y(across, n)]);
 }
 
 // The block of root n that has a place among its root's bytes: `root 1 at 64 0, block of 16 at 96 0: `.
 pub fn tell_block(w: usize, n: usize, place: usize) {
     let across = def::roots_along(w);
-    let b = block_at(
-        root_x(across, n),
-        root_y(across, n),
-        place / 256,
-        place % 256,
+    let x = root_x(across, n);
+    let y = root_y(across, n);
+    let b = block_at(x, y, place / 256, place % 256);
+    say::form(
+        b"root @ at @ @, block of @ at @ @: ",
+        &[n, x, y, b.side, b.x, b.y],
     );
-    tell_root(w, n);
-    say::counted(b", block of ", b.side);
-    tell_at(b" at ", b.x, b.y);
-    say::words(b": ");
 }
 
 // The size of a picture that there is not.
 fn tell_size(w: usize, h: usize) {
-    say::counted(b"a picture of ", w);
-    say::counted(b"x", h);
-    say::words(b": ");
+    say::form(b"a picture of @x@: ", &[w, h]);
 }
 
 // ---- a file

@@ -2,26 +2,29 @@
 use say::end_line;
 use say::field;
 
-// A place in luma samples.
-fn at(words: &[u8], x: usize, y: usize) {
-    field(words, x);
-    field(b" ", y);
-}
-
 // One change; the picture has so many roots across.
 fn change(across: usize, root: u16, level: u16, place: u16, old: u16, new: u16) {
-    field(b"root=", root as usize);
-    field(b" level=", level as usize);
-    field(b" place=", place as usize);
-    field(b" old=", old as usize);
-    field(b" new=", new as usize);
-    let x = map_file::root_x(across, root as usize);
-    let y = map_file::root_y(across, root as usize);
-    at(b": root at ", x, y);
-    let b = map_file::block_at(x, y, level as usize, place as usize);
-    field(b", block of ", b.side);
-    at(b" at ", b.x, b.y);
-    end_line();
+    let n = root as usize;
+    let at = place as usize;
+    let x = map_file::root_x(across, n);
+    let y = map_file::root_y(across, n);
+    let depth = level as usize;
+    let b = map_file::block_at(x, y, depth, at);
+    say::fields(
+        b"root=@ level=@ place=@ old=@ new=@: root at @ @, block of @ at @ @\n",
+        &[
+            n,
+            depth,
+            at,
+            old as usize,
+            new as usize,
+            x,
+            y,
+            b.side,
+            b.x,
+            b.y,
+        ],
+    );
 }
 
 // So many changes of a list, and how many there are; false where they cannot be written.

@@ -4,12 +4,11 @@ mod list; // list.rt: the list as text
 mod rooms; // rooms.rt: room for a map, small and large
 
 fn help() {
-    say::line(b"usage: mendmap W H MAP MENDED");
-    say::line(
-        b"Mends the split map of a picture of W by H, 1,024 bytes a root, into the file MENDED, and lists each change.",
-    );
-    say::line(
-        b"status: 0 nothing changed, 3 something changed, 1 refused, 2 bad usage or a failure of input or output",
+    say::words(
+        b"usage: mendmap W H MAP MENDED
+Mends the split map of a picture of W by H, 1,024 bytes a root, into the file MENDED, and lists each change.
+status: 0 nothing changed, 3 something changed, 1 refused, 2 bad usage or a failure of input or output
+",
     );
 }
 

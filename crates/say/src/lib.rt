@@ -27,7 +27,55 @@ pub fn counted(text: &[u8], n: usize) {
     number(n);
 }
 
+// ---- numbers among words
+
+// A number of a list: 0 past its end.
+fn number_at(list: &[usize], i: usize) -> usize {
+    if list.len() <= i {
+        return 0;
+    }
+    list[i]
+}
+
+// A part of a text, to a descriptor.
+fn part(fd: i32, text: &[u8], from: usize, to: usize) {
+    if to < from {
+        return;
+    }
+    if text.len() < to {
+        return;
+    }
+    io::write_all(fd, &text[from..to]);
+}
+
+// Some words to a descriptor, in which each `@` stands for the next number.
+fn put(fd: i32, text: &[u8], numbers: &[usize]) {
+    let mut met: usize = 0;
+    let mut from: usize = 0;
+    let mut i = 0;
+    while i < text.len() {
+        if text[i] == b'@' {
+            part(fd, text, from, i);
+            io::print_decimal(fd, number_at(numbers, met) as u64);
+            met = std::num::wrapping_add_usize(met, 1);
+            from = std::num::wrapping_add_usize(i, 1);
+        }
+        i += 1;
+    }
+    part(fd, text, from, i);
+}
+
+// Words with numbers in them.
+pub fn form(text: &[u8], numbers: &[usize]) {
+    put(STDERR_FILENO, text, numbers);
+}
+
 // ---- on standard output
+
+// The same there.
+pub fn fields(text: &[u8], numbers: &[usize]) {
+    put(STDOUT_FILENO, text, numbers);
+}
 
 // A number after its name.
 pub fn field(name: &[u8], n: usize) {
@@ -70,34 +118,55 @@ pub fn status(n: u8) {
 
 // ---- refusals
 
-// What a number means.
+// Line n of some, from 1 on; false where there are fewer.
+fn line_of(lines: &[u8], n: usize) -> bool {
+    let mut met: usize = 1;
+    let mut from: usize = 0;
+    let mut i = 0;
+    while i < lines.len() {
+        if lines[i] == b'\n' {
+            if met == n {
+                part(STDERR_FILENO, lines, from, i);
+                return true;
+            }
+            met = std::num::wrapping_add_usize(met, 1);
+            from = std::num::wrapping_add_usize(i, 1);
+        }
+        i += 1;
+    }
+    false
+}
+
+// What a number means: a line for each, from 1 on.
 pub fn meaning(number: u8) {
-    match number {
-        1 => words(b"a side of the picture that is not a multiple of 4 from 4 to 4096"),
-        2 => words(b"something of the wrong length"),
-        3 => words(b"a setting outside its range"),
-        4 => words(b"a split byte that is not 0 or 1"),
-        5 => words(b"a block that reaches past the picture and is not cut"),
-        6 => words(b"a QP over 51"),
-        7 => words(b"a sample over 1023"),
-        8 => words(b"a place outside the picture, or off its multiple"),
-        9 => words(b"a mode that there is not"),
-        10 => words(b"a count of chroma points outside 1 to 58, or an a below 0"),
-        11 => words(b"a pivot outside -12 to 57"),
-        12 => words(b"a malformed sheet"),
-        13 => words(b"a leaf record, or the length of the leaf or residual list"),
-        14 => words(b"a band out of turn, or past the last"),
-        15 => words(b"a byte of the keep map that is not 0 or 1"),
-        16 => words(
-            b"the bits of a split map: too few, one set behind the last, or too little room",
-        ),
-        17 => words(b"a malformed header or frame line"),
-        18 => words(b"a stream that ends before its frame does"),
-        19 => words(b"a map of edge rows that differs from the rule"),
-        20 => words(b"an old sheet"),
-        21 => words(b"a window off the multiples of 4, empty or outside"),
-        22 => words(b"a row out of turn"),
-        _ => words(b"refused"),
+    let known = line_of(
+        b"a side of the picture that is not a multiple of 4 from 4 to 4096
+something of the wrong length
+a setting outside its range
+a split byte that is not 0 or 1
+a block that reaches past the picture and is not cut
+a QP over 51
+a sample over 1023
+a place outside the picture, or off its multiple
+a mode that there is not
+a count of chroma points outside 1 to 58, or an a below 0
+a pivot outside -12 to 57
+a malformed sheet
+a leaf record, or the length of the leaf or residual list
+a band out of turn, or past the last
+a byte of the keep map that is not 0 or 1
+the bits of a split map: too few, one set behind the last, or too little room
+a malformed header or frame line
+a stream that ends before its frame does
+a map of edge rows that differs from the rule
+an old sheet
+a window off the multiples of 4, empty or outside
+a row out of turn
+",
+        number as usize,
+    );
+    if !known {
+        words(b"refused");
     }
 }
 

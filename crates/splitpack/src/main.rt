@@ -84,13 +84,12 @@ fn one_map(file: i32, w: usize, h: usize, unpack: bool) -> u8 {
 // ---- the arguments
 
 fn help() {
-    say::line(b"usage: splitpack pack W H MAP DIGITS");
-    say::line(b"       splitpack unpack W H DIGITS MAP");
-    say::line(
-        b"Writes the split map of a picture of W by H, 1,024 bytes a root, as its digits, a bit each; or back.",
-    );
-    say::line(
-        b"status: 0 done, 3 done, and the digits' file goes on, 1 refused, 2 bad usage or a failure of input or output",
+    say::words(
+        b"usage: splitpack pack W H MAP DIGITS
+       splitpack unpack W H DIGITS MAP
+Writes the split map of a picture of W by H, 1,024 bytes a root, as its digits, a bit each; or back.
+status: 0 done, 3 done, and the digits' file goes on, 1 refused, 2 bad usage or a failure of input or output
+",
     );
 }
 

@@ -4,8 +4,7 @@ use decoder::Sheet;
 
 // A line and a character of it.
 fn tell_character(line: usize, character: usize) {
-    say::counted(b"line ", line);
-    say::counted(b", character ", character);
+    say::form(b"line @, character @", &[line, character]);
 }
 
 // ---- a line that is malformed
@@ -103,9 +102,10 @@ fn tell_digit(w: usize, h: usize, digits: &[u8]) {
 // ---- the sheet
 
 fn tell_size(w: usize, h: usize) {
-    say::counted(b"lines 1 and 2, a picture of ", w);
-    say::counted(b"x", h);
-    say::words(b", and a sheet's have at most 256x256: ");
+    say::form(
+        b"lines 1 and 2, a picture of @x@, and a sheet's have at most 256x256: ",
+        &[w, h],
+    );
 }
 
 // Where a sheet is refused, by the number that it is refused for.

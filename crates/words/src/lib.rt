@@ -18,6 +18,35 @@ pub fn is(word: &[u8], name: &[u8]) -> bool {
     true
 }
 
+// Whether a word is a part of a text.
+fn is_part(word: &[u8], text: &[u8], from: usize, to: usize) -> bool {
+    if to < from {
+        return false;
+    }
+    if text.len() < to {
+        return false;
+    }
+    is(word, &text[from..to])
+}
+
+// Which of some words a word is, from 1 on, and 0 for none of them. Behind each of them stands a blank.
+pub fn which(word: &[u8], list: &[u8]) -> usize {
+    let mut met: usize = 0;
+    let mut from: usize = 0;
+    let mut i = 0;
+    while i < list.len() {
+        if list[i] == b' ' {
+            met = std::num::wrapping_add_usize(met, 1);
+            if is_part(word, list, from, i) {
+                return met;
+            }
+            from = std::num::wrapping_add_usize(i, 1);
+        }
+        i += 1;
+    }
+    0
+}
+
 // A number, or that the word is none: one to nine digits.
 pub struct Counted {
     pub good: bool,

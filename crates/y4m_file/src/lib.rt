@@ -15,10 +15,12 @@ mod rooms; // rooms.rt: room for a frame
 
 pub use header::progress;
 pub use header::put_header;
+pub use rooms::Lengths;
 pub use rooms::frames;
 pub use rooms::large_bytes;
 pub use rooms::large_chroma;
 pub use rooms::large_luma;
+pub use rooms::lengths_of;
 pub use rooms::small_bytes;
 pub use rooms::small_chroma;
 pub use rooms::small_luma;

@@ -42,11 +42,11 @@ fn run() -> u8 {
 }
 
 fn help() {
-    say::line(b"usage: y4mcopy FILE > COPY");
-    say::line(
-        b"Writes a YUV4MPEG2 file again, read and checked; at a refusal it tells the byte and stops.",
+    say::words(
+        b"usage: y4mcopy FILE > COPY\n\
+        Writes a YUV4MPEG2 file again, read and checked; at a refusal it tells the byte and stops.\n\
+        status: 0 done, 1 refused, 2 bad usage or a failure of input or output\n",
     );
-    say::line(b"status: 0 done, 1 refused, 2 bad usage or a failure of input or output");
 }
 
 fn main() {

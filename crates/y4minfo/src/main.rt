@@ -58,11 +58,11 @@ fn run() -> u8 {
 }
 
 fn help() {
-    say::line(b"usage: y4minfo FILE");
-    say::line(
-        b"Tells a YUV4MPEG2 file's size, F, A and how many frames it has; or what it is refused for, and at which byte.",
+    say::words(
+        b"usage: y4minfo FILE\n\
+        Tells a YUV4MPEG2 file's size, F, A and how many frames it has; or what it is refused for, and at which byte.\n\
+        status: 0 done, 1 refused, 2 bad usage or a failure of input or output\n",
     );
-    say::line(b"status: 0 done, 1 refused, 2 bad usage or a failure of input or output");
 }
 
 fn main() {

@@ -4,7 +4,6 @@ use mathlib.Core.Path.{sym, ap, _∙_}
 use native.Mathlib.Omega.{arith}
 use borrow.Author.Needs.{needs}
 use Rattle.laws.specs.Index.{pick}
-use Rattle.y4m_rules.proofs.Runs.{area, quarter}
 use Prim.Native.Nat.{ℕ, _<_}
 use borrow.Fn.Kinds.{In}
 use borrow.Fn.PlainCycle.{Measures, is, falls, and}
@@ -12,6 +11,7 @@ use Rattle.y4m_file.proofs.rooms.frames.Reads as frames
 use Rattle.y4m_file.proofs.rooms.frames.Kinds as frames-kinds
 use Rattle.y4m_file.proofs.rooms.+frames.Lts-frames as frames-lts
 use Rattle.say.proofs.line.Reads as line-reads
+use Rattle.y4m_file.proofs.rooms.lengths_of.Reads as lengths-of-reads
 use Rattle.y4m_file.proofs.rooms.in_large.Reads as in-large-reads
 use Rattle.y4m_file.proofs.rooms.in_small.Reads as in-small-reads
 use Rattle.y4m_file.proofs.told.Reads as told-reads
@@ -30,6 +30,8 @@ frames-below t = and 0 frames-kinds.ps (falls 0 frames-kinds.ps _<_ μ-frames t)
 
 pub +frames-spec : {M : Type 1} → statement M
 +frames-spec = close μ-frames λ t. frames-lts.spec (
+  lengths-of-reads.Asked,
+  lengths-of-reads.Learnt,
   in-large-reads.Asked,
   in-large-reads.Learnt,
   told-reads.Asked,
@@ -43,18 +45,16 @@ pub +frames-spec : {M : Type 1} → statement M
 )
     (frames-at t)
     frames.Post
-    (λ c. search needs)
-    (λ c. search needs)
-    (λ c. let a = c .before .before .args in omega (arith, area (a .w) (a .h) (omega arith) (omega arith)))
-    (λ c. let a = c .before .before .args in omega (arith, quarter (a .w) (a .h) (omega arith) (omega arith)))
-    (λ c κs. let a = c .before .before .before .args in (area (a .w) (a .h) (omega arith) (omega arith), quarter (a .w) (a .h) (omega arith) (omega arith)))
     (λ c κs. search needs)
     (λ c. search needs)
     (λ c κs. search needs)
     (λ c κs. search needs)
     (λ c. search needs)
-    (λ c κs. let s = c .before .before .before .before in
-    (omega (arith, sym (ap (λ (b : Bool). pick b 0 1) (c .before .if3 .left)) ∙ s .pre .0), tt))
+    (λ c κs. search needs)
+    (λ c κs. search needs)
+    (λ c. search needs)
+    (λ c κs. let s = c .before .before .before .before .before .before in
+    (omega (arith, sym (ap (λ (b : Bool). pick b 0 1) (c .before .before .if2 .left)) ∙ s .pre .0), tt))
     (λ c. search needs)
     (λ c κs. search needs)
     (λ c. search needs)
