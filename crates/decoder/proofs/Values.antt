@@ -7,6 +7,7 @@ use mathlib.Core.List.{[], _∷_}
 use denote.Ref.{now}
 use lib.IntN.{natAbs}
 use Rattle.chroma_qp_check.proofs.Offsets.{qp-apart}
+use Rattle.edge_filter.proofs.Passes.{pass-apart}
 use Rattle.unit_maps.specs.Maps.{mapsOf}
 use Rattle.edge_place.specs.Plans.{listsOf}
 use Rattle.decoder.specs.Promise.{ended, Sole}
@@ -110,6 +111,12 @@ use Rattle.decoder.proofs.motion_row.Kinds as motion-row-kinds
 use Rattle.decoder.proofs.motion_row.Reads as motion-row-reads
 use Rattle.decoder.proofs.plan_edges.Kinds as plan-edges-kinds
 use Rattle.decoder.proofs.plan_edges.Reads as plan-edges-reads
+use Rattle.decoder.proofs.is_horizontal.Kinds as is-horizontal-kinds
+use Rattle.decoder.proofs.is_horizontal.Reads as is-horizontal-reads
+use Rattle.decoder.proofs.filter_luma.Kinds as filter-luma-kinds
+use Rattle.decoder.proofs.filter_luma.Reads as filter-luma-reads
+use Rattle.decoder.proofs.filter_chroma.Kinds as filter-chroma-kinds
+use Rattle.decoder.proofs.filter_chroma.Reads as filter-chroma-reads
 use Rattle.decoder.proofs.row_at.Kinds as row-at-kinds
 use Rattle.decoder.proofs.row_at.Reads as row-at-reads
 use Rattle.decoder.proofs.rows_at.Kinds as rows-at-kinds
@@ -251,6 +258,16 @@ motion-row-once κs a r r′ x x′ p q = p .0 ∙ sym (q .0)
 pub plan-edges-once : Sole 8 plan-edges-kinds.ps plan-edges-kinds.r plan-edges-reads.Post
     (λ κs r x. listsOf (now (x .1 .1 .1 .1 .1 .1 .1 .1 .1 .0)) (now (x .1 .1 .1 .1 .1 .1 .1 .1 .1 .1 .0)))
 plan-edges-once κs a r r′ x x′ p q = p ∙ sym q
+
+-- a list's edges: the calls that filter them answer nothing, and the planes are determined
+pub is-horizontal-once : Sole 0 is-horizontal-kinds.ps is-horizontal-kinds.r is-horizontal-reads.Post (λ κs r x. r)
+is-horizontal-once κs a r r′ x x′ p q = pass-apart r r′ (p ∙ sym q)
+
+pub filter-luma-once : Sole 5 filter-luma-kinds.ps filter-luma-kinds.r filter-luma-reads.Post (λ κs r x. now (x .1 .1 .0))
+filter-luma-once κs a r r′ x x′ p q = p ∙ sym q
+
+pub filter-chroma-once : Sole 6 filter-chroma-kinds.ps filter-chroma-kinds.r filter-chroma-reads.Post (λ κs r x. now (x .1 .1 .1 .0) ∷ now (x .1 .1 .1 .1 .0) ∷ [])
+filter-chroma-once κs a r r′ x x′ p q = λ i. (p .0 ∙ sym (q .0)) i ∷ (p .1 ∙ sym (q .1)) i ∷ []
 
 pub row-at-once : Sole 3 row-at-kinds.ps row-at-kinds.r row-at-reads.Post (λ κs r x. r)
 row-at-once κs a r r′ x x′ p q = p .0 ∙ sym (q .0)

@@ -10,7 +10,8 @@
 //     7 driver          reconstruct; checked_leaves, coded_y, coded_u, coded_v, mode_of, word_of, clear_words, tell_units
 //     8 walk            leaves, check, visiting_rank, list_edges; root_leaves, root_list, list_marks, take_marks, mark_place, mark_byte, root_count
 //       deblocking      deblock; Bands::first, deblock_band; checked, checked_band, band_rows, rows_above, entries, mask_of, line, lanes,
-//                       lanes_by_halves, window_luma, window_luma_two, window_kept, window_chroma, window_chroma_two, motion_row, plan_edges
+//                       lanes_by_halves, window_luma, window_luma_two, window_kept, window_chroma, window_chroma_two, motion_row, plan_edges,
+//                       is_horizontal, filter_luma, filter_chroma
 //       edge rows       fill_rows, set_motion, set_flag, deblock_by_rows; row_at, rows_at, rows_right, checked_maps, checked_by_rows
 //     the sheet         read, listing
 //     the compact map   put_map, get_map; take_map; write_to, write_map, read_from, read_map; get_bit, put_bit, bits_in
@@ -19,7 +20,7 @@
 // Inside are those that a caller needs none of. They are public because another crate calls them, and total like the rest: checked_points, start_qp, delta_in,
 // delta_out, checked_leaves, coded_y, coded_u, coded_v, mode_of, word_of, clear_words, tell_units, roots_along, root_leaves, root_list, list_marks, take_marks,
 // mark_place, mark_byte, root_count, checked, checked_band, entries, mask_of, line, lanes, lanes_by_halves, window_luma, window_luma_two, window_kept, window_chroma,
-// window_chroma_two, motion_row, plan_edges, rows_at, checked_maps, checked_by_rows, bits_in, read.
+// window_chroma_two, motion_row, plan_edges, is_horizontal, filter_luma, filter_chroma, rows_at, checked_maps, checked_by_rows, bits_in, read.
 pub use avail::Avail;
 pub use avail::Neighbours;
 pub use avail::get_avail_inter;
@@ -68,6 +69,10 @@ pub use df_check::checked_band;
 pub use df_check::rows_above;
 pub use driver::reconstruct;
 pub use driver_check::checked_leaves;
+pub use edge_filter::Pass;
+pub use edge_filter::filter_chroma;
+pub use edge_filter::filter_luma;
+pub use edge_filter::is_horizontal;
 pub use edge_place::plan_edges;
 pub use edges::list_edges;
 pub use edges::root_list;

@@ -4,9 +4,9 @@ pub mod ByRows
 pub mod Calls
 pub mod Edges
 pub mod Entries
+pub mod Filtered
 pub mod Lengths
 pub mod Listed
-pub mod Pairs
 pub mod Plans
 pub mod Room
 pub mod Turns

@@ -7,10 +7,9 @@
 -- Assumes nothing.
 use Prim.Native.Nat.{ℕ, zero, suc, _+_, _-_, _*_, _/_, _%_, _≤_, _<_}
 use mathlib.Core.Bool.{true}
-use mathlib.Core.Path.{_≡_, refl, sym, ap, ap₂, _∙_, subst}
+use mathlib.Core.Path.{_≡_, refl, sym, ap, ap₂, _∙_}
 use mathlib.Core.List.{List, [], _∷_, _++_, List·Memᴰ, List·Memᴰ·head, List·Memᴰ·tail}
 use native.Mathlib.Nat.{le-of-suc-le-suc, not-suc-le-zero}
-use native.Mathlib.Numerals.{add-one}
 use native.Mathlib.Omega.{arith}
 use borrow.Author.Tests.{lt-ltb}
 use lib.Dec.{ltb, eqb}
@@ -28,22 +27,22 @@ use Rattle.split.specs.Edges.{Pass, vertical, horizontal, Edge, edge, edgeAt, e
 use Rattle.split.specs.Rows.{crossOf, alongOf}
 use Rattle.split.proofs.Demand3.{edges-twice}
 use Rattle.df_rules.specs.Filter.{maskAt, window, filtered}
-use Rattle.df_rules.specs.Lent.{LentPicture, Unit, Marked, AtUnit}
+use Rattle.df_rules.specs.Lent.{LentPicture, Unit, Marked}
 use Rattle.df_rules.specs.Places.{stepAcross, unitQ, unitP}
-use Rattle.df_rules.specs.Strength.{Over, Maps, rowBy, qpAt, strengthOf, strength}
+use Rattle.df_rules.specs.Strength.{Over, Maps, rowBy, strengthOf, strength}
 use Rattle.df_rules.proofs.Edges.{spot, unit-of, mark-of, unit-q, unit-p, p-before}
 use Rattle.df_rules.proofs.Planes.{window-long, window-small, no-samples}
-use Rattle.df_rules.proofs.Strengths.{row-few}
 use Rattle.bands_rules.proofs.Lists.{Lies}
 use Rattle.row.specs.Between.{There}
 use Rattle.rows_rules.specs.Rule.{hasSide, firstBit}
+use Rattle.edge_filter.specs.Filter.{maskBy}
 use Rattle.edge_place.specs.Places.{placeIn, marksIn}
 use Rattle.edge_place.specs.Plans.{Input, listsOf, edgesIn, told, planned}
 use Rattle.edge_place.proofs.Plans.{units-in, has-both, all-planned, place-told, marks-told, place-in-plan, marks-in-plan}
 use Rattle.edge_place.proofs.Units.{place-in, marks-in}
 use Rattle.rows_rules.proofs.RightMap.{row-in-byte}
 use Rattle.rows_rules.proofs.Sides.{column-of, row-of}
-use Rattle.df.specs.Plan.{edgeFrom, edgesFrom, placeAt, marksAt, maskBy, Planned, filterIn, RowsLent, PlaneOf, At}
+use Rattle.df.specs.Plan.{edgeFrom, edgesFrom, placeAt, marksAt, Planned, filterIn, RowsLent, PlaneOf, At}
 use Rattle.edges.specs.Put.{Put}
 
 -- ---- a list read back
@@ -162,10 +161,6 @@ edge-known horizontal {w} {h} a b f g =
       p-mark = unit-p w h _ (mark-of w h f) horizontal (b / 4) (a / 4) (k .across) (k .along);
     }
 
--- a place is one of 208
-pub place-few : (m : Maps) (d : Pass) (w : ℕ) (e : Edge) → qpAt m (unitQ w e) ≤ 51 → placeAt m d w e ≤ 207
-place-few m d w e h = omega (arith, row-few m (unitQ w e) (unitP d w e))
-
 -- across and along, and back
 pub at-cross : (d : Pass) (x y : ℕ) → edgeAt d (crossOf d (edge x y) / 4) (alongOf d (edge x y) / 4) ≡ edge (x / 4) (y / 4)
 at-cross vertical x y = refl
@@ -205,26 +200,13 @@ module _ (t : List ℕ) (first : ℕ) (c : Component) (d : Pass) (w : ℕ) where
     abbrev by : ℕ → List ℕ → List ℕ
     by n xs = filterIn t first c d w l places marks n xs
 
-    pub plan-none : (xs : List ℕ) → xs ≡ by 0 xs
-    unfolding filterIn
-    plan-none xs = refl
-
-    pub plan-more : (n j : ℕ) (e : Edge) (xs ys zs : List ℕ) → ys ≡ by n xs → j ≡ first + getD places n 0 → e ≡ edgeFrom l n
-        → zs ≡ window (maskBy c (getD marks n 0)) d c w (4 * getD t j 0) e ys → zs ≡ by (n + 1) xs
-    unfolding filterIn
-    plan-more n j e xs ys zs a b g f =
-        f ∙ (λ i. window (maskBy c (getD marks n 0)) d c w (4 * getD t (b i) 0) (g i) (a i)) ∙ ap (λ (k : ℕ). by k xs) (sym (add-one n))
-
     -- a plane stays a plane
-    stays : (m h n : ℕ) (xs : List ℕ) → PlaneOf m w h xs → PlaneOf m w h (by n xs)
+    pub plan-stays : (m h n : ℕ) (xs : List ℕ) → PlaneOf m w h xs → PlaneOf m w h (by n xs)
     unfolding filterIn
-    stays m h zero xs f = f
-    stays m h (suc n) xs f =
-        let g = stays m h n xs f in
+    plan-stays m h zero xs f = f
+    plan-stays m h (suc n) xs f =
+        let g = plan-stays m h n xs f in
         record { wide = g .wide; high = g .high; long = window-long _ _ _ _ _ _ _ ∙ g .long; all = window-small _ _ _ _ _ _ _ (g .all) }
-
-    pub plan-stays : {m h : ℕ} (n : ℕ) (xs ys : List ℕ) → ys ≡ by n xs → PlaneOf m w h xs → PlaneOf m w h ys
-    plan-stays {m} {h} n xs ys e f = subst (PlaneOf m w h) (sym e) (stays m h n xs f)
 
     pub plan-empty : (n : ℕ) (xs : List ℕ) → length xs ≡ 0 → xs ≡ by n xs
     unfolding filterIn
@@ -278,14 +260,3 @@ module _ (d : Pass) (w : ℕ) {words : List ℕ} {over : Over} (rows l : List �
         at = λ k h. place-in-plan (input d) places₀ marks₀ places marks e′ k (omega (arith, all)) ∙ sym (place-told (input d) k (units-told k h)) ∙ place-known d w rows (f .right) (f .edges k h);
         kept = λ k h. marks-in-plan (input d) places₀ marks₀ places marks e′ k (omega (arith, all)) ∙ sym (marks-told (input d) k (units-told k h)) ∙ marks-known d w (f .edges k h);
       }
-
-module _ (d : Pass) {x y a b c e : ℕ} (p : x ≡ a) (q : y ≡ b) (r : c ≡ crossOf d (edge x y)) (s : e ≡ alongOf d (edge x y)) where
-  pub at-given : {w h : ℕ} → At d w h a b → AtUnit d w h c e
-  at-given g = rw (r, s, p, q) g
-
-  pub edge-given : edgeAt d (c / 4) (e / 4) ≡ edge (a / 4) (b / 4)
-  edge-given = rw (r, s, p, q) (at-cross d a b)
-
--- the places that the maps give are places
-pub plan-few : (m : Maps) (d : Pass) (w : ℕ) (l : List ℕ) (n : ℕ) (places marks : List ℕ) → Planned m d w l n places marks → ((k : ℕ) → qpAt m k ≤ 51) → (k : ℕ) → k < n → getD places k 0 ≤ 207
-plan-few m d w l n places marks z q k g = omega (arith, z .at k g, place-few m d w (edgeFrom l k) (q _))

@@ -1,5 +1,4 @@
 pub mod Band
 pub mod ByRows
 pub mod Deblock
-pub mod Edges
 pub mod Plan

@@ -1,18 +1,15 @@
 -- A root's plan: its edges as listing writes them, and for each the place of its strength and its keep marks; and what filtering by a plan leaves of the planes.
 -- Assumes nothing: these are definitions.
-use Prim.Native.Nat.{ℕ, zero, suc, _+_, _*_, _/_, _%_, _≤_, _<_}
+use Prim.Native.Nat.{ℕ, zero, suc, _+_, _*_, _/_, _≤_, _<_}
 use mathlib.Core.Bool.{Bool}
 use mathlib.Core.List.{List, [], _∷_, _++_, map}
 use mathlib.Core.Path.{_≡_}
-use lib.Dec.{eqb}
 use lib.IntN.{ℤ}
 use lib.ListN.{length, getD}
 use Rattle.def.specs.Formats.{inFormat}
 use Rattle.def.specs.Word.{qpOf}
 use Rattle.def.specs.declared.Component.{Component}
 use Rattle.def.specs.declared.Format.{Format}
-use Rattle.line.specs.declared.Mask.{Mask}
-use Rattle.line.specs.Line.{maskOf}
 use Rattle.split.specs.Edges.{Pass, Edge, edge, edgesOf}
 use Rattle.split.specs.Picture.{rootLeaves}
 use Rattle.split.specs.Rows.{crossOf, alongOf}
@@ -21,6 +18,7 @@ use Rattle.df_rules.specs.Lent.{AtUnit}
 use Rattle.df_rules.specs.Places.{unitQ, unitP}
 use Rattle.df_rules.specs.Strength.{Maps, rowBy}
 use Rattle.df_rules.specs.Window.{Samples}
+use Rattle.edge_filter.specs.Filter.{maskBy}
 use Rattle.rows_rules.specs.Rule.{ruleByte}
 pub use Rattle.edge_place.specs.Plans.{edgeFrom}
 use Rattle.split.specs.RootCall.{leafDown}
@@ -46,10 +44,6 @@ marksBy keep q p = getD keep p 0 + 2 * getD keep q 0
 
 abbrev pub marksAt : Maps → Pass → (w : ℕ) → Edge → ℕ
 marksAt m d w e = marksBy (m .over .keep) (unitQ w e) (unitP d w e)
-
--- and what is written of an edge that has them
-abbrev pub maskBy : Component → (marks : ℕ) → Mask
-maskBy c k = maskOf c (eqb (k % 2) 1) (eqb (k / 2) 1)
 
 -- a list's first n, by the maps
 pub record Planned (m : Maps) (d : Pass) (w : ℕ) (l : List ℕ) (n : ℕ) (places marks : List ℕ) : Type 0 where
@@ -87,27 +81,6 @@ pub record ColourOf (f : Format) (w h : ℕ) (xs : List ℕ) : Type 0 where
 -- (x, y) is the first luma sample of a unit that has one before it
 abbrev pub At : Pass → (w h x y : ℕ) → Type 0
 At d w h x y = AtUnit d w h (crossOf d (edge x y)) (alongOf d (edge x y))
-
--- a plan of n edges, in such a picture
-pub record Plan (d : Pass) (w h : ℕ) (l places marks : List ℕ) (n : ℕ) : Type 0 where
-  pub long : 2 * n ≤ length l
-  pub fits : n ≤ length places
-  pub fits-marks : n ≤ length marks
-  pub units : (k : ℕ) → k < n → At d w h (getD l (2 * k) 0) (getD l (2 * k + 1) 0)
-  pub few : (k : ℕ) → k < n → getD places k 0 ≤ 207
-
--- edge j of a list is the one right after (c, a) along the same line, and neither it nor edge i is beside a kept unit
-pub record Follows (d : Pass) (l marks : List ℕ) (i j c a : ℕ) : Type 0 where
-  pub unmarked : getD marks i 0 ≡ 0
-  pub next-unmarked : getD marks j 0 ≡ 0
-  pub across : crossOf d (edge (getD l (2 * j) 0) (getD l (2 * j + 1) 0)) ≡ c
-  pub along : alongOf d (edge (getD l (2 * j) 0) (getD l (2 * j + 1) 0)) ≡ a + 4
-
--- a turn over a plan of n edges, from edge i to edge r: it takes the plane xs to ys, so that what the first i edges left becomes what the first r leave
-pub record Turned (t : List ℕ) (first : ℕ) (c : Component) (d : Pass) (w : ℕ) (l places marks : List ℕ) (n i r : ℕ) (xs ys : List ℕ) : Type 0 where
-  pub on : i < r
-  pub within : r ≤ n
-  pub done : (zs : List ℕ) → xs ≡ filterIn t first c d w l places marks i zs → ys ≡ filterIn t first c d w l places marks r zs
 
 -- the list of a pass's edges of root i, `top` rows of units further down, r of them. w and h are in luma samples
 pub record ListedRoot (w h : ℕ) (s : List ℕ) (d : Pass) (halved : Bool) (top i : ℕ) (l : List ℕ) (r : ℕ) : Type 0 where

@@ -1,8 +1,7 @@
-// Deblocking: which edges are filtered, in which order, and with which strength. How lines are filtered is the matter of `line`, `lanes` and `window`.
+// Deblocking: which edges are filtered, in which order, and with which strength. How a list's edges are filtered is the matter of `edge_filter`.
 // The Rust beside it: df.rs.
 ghost use mathlib.Core.Path.{_≡_};
 ghost use Prim.Native.Nat.{_+_, _/_};
-ghost use lib.ListN.{length};
 ghost use Rattle.laws.specs.Call.{Gives};
 ghost use Rattle.split.specs.Edges.{vertical, horizontal};
 ghost use Rattle.bands_rules.specs.Bands.{listFrom, BothPassesFrom};
@@ -13,15 +12,13 @@ ghost use Rattle.df.specs.Deblock as Deblock;
 ghost use Rattle.strength.specs.Entries.{entriesIn};
 ghost use Rattle.df.specs.Plan.{RowsLent};
 use crate::pass::deblock_pass;
-use crate::place::Pass;
 use def::Format;
 use def::Refusal;
 use def::set_cod;
 use df_check::Settings;
+use edge_filter::Pass;
 use strength::entries;
 
-mod place; // place.rt: the passes, and where an edge's lines lie
-mod filter; // filter.rt: the edges of a list, filtered; no map
 mod pass; // pass.rt: a root's edges, and a pass over the picture
 mod band; // band.rt: a picture by bands
 mod by_rows; // by_rows.rt: rows read from a map

@@ -7,16 +7,15 @@ ghost use Rattle.def.specs.Picture.{rootCount};
 ghost use Rattle.bands_rules.specs.Bands.{listFrom};
 ghost use Rattle.df_rules.specs.Lent.{LentPicture};
 ghost use Rattle.split.specs.Accepted.{Accepted};
-ghost use Rattle.df.specs.Edges.{passOf};
+ghost use Rattle.edge_filter.specs.Edges.{passOf};
 ghost use Rattle.df.specs.Plan.{ListedRoot, PassDone, RowsLent};
-use crate::filter::Size;
-use crate::filter::filter_colour;
-use crate::filter::filter_luma;
-use crate::place::Pass;
-use crate::place::is_horizontal;
 use def::Format;
 use def::Pel;
 use def::roots_along;
+use edge_filter::Pass;
+use edge_filter::filter_chroma;
+use edge_filter::filter_luma;
+use edge_filter::is_horizontal;
 use edge_place::plan_edges;
 use split::Walked;
 
@@ -76,10 +75,7 @@ pub(crate) fn deblock_pass(
         (passOf pass) (w / 4) (listFrom (passOf pass) halved top (now (splits .entry)) (w / 4) (h / 4))
         (record { y = now (y .entry); u = now (u .entry); v = now (v .entry) }) (record { y = now (y .exit); u = now (u .exit); v = now (v .exit) }) r ⌝ }
 {
-    let size = Size {
-        columns: w / 4,
-        rows: top + h / 4,
-    };
+    let columns = w / 4;
     let horizontal = is_horizontal(pass);
     let roots = root_count(w, h);
     let mut list = [0u16; 512];
@@ -90,7 +86,7 @@ pub(crate) fn deblock_pass(
         let n = root_edges(pass, halved, w, h, top, splits, i, &mut list);
         plan_edges(
             horizontal,
-            size.columns,
+            columns,
             words,
             motion,
             refs,
@@ -101,11 +97,11 @@ pub(crate) fn deblock_pass(
             &mut places,
             &mut marks,
         );
-        filter_luma(pass, size, &mut *y, entries, &list, &places, &marks, n);
-        filter_colour(
+        filter_luma(pass, columns, &mut *y, entries, &list, &places, &marks, n);
+        filter_chroma(
             format,
             pass,
-            size,
+            columns,
             &mut *u,
             &mut *v,
             entries,

@@ -3,11 +3,12 @@
 --     line-put      a line written sample by sample
 --     put-more      a loop that writes lines; put-same    by lines that are the same
 --     window-put    on samples that is their window, at strength 0 too
---     windows-put    and so it is with two windows, one right after the other
---     apart-lines    the lines of units' edges that follow each other share no place; apart-pass    those of one do not
+--     later-line    lines leave a later one's samples as they were; put-append    lines written in two parts
+--     apart-ver, apart-hor    lines below each other share no place, nor do lines side by side
+--     apart-lines    nor those of units' edges that follow each other; apart-pass    nor those of one
 -- Assumes nothing.
 use Prim.Native.Nat.{ℕ, zero, suc, _+_, _-_, _*_, _≤_, _<_}
-use mathlib.Core.Path.{_≡_, refl, sym, ap, _∙_, subst}
+use mathlib.Core.Path.{_≡_, refl, sym, ap, _∙_}
 use mathlib.Core.Bool.{Bool, true, false}
 use mathlib.Core.List.{List}
 use native.Mathlib.Nat.{mul-le-mul-right, mul-le-mul, add-mul, add-zero, add-suc}
@@ -27,8 +28,7 @@ use Rattle.split.proofs.Induct.{test}
 use Rattle.df_rules.specs.Lent.{unitsAcross, unitsAlong}
 use Rattle.df_rules.specs.Lanes.{samplesAt, putLine, putLines, Apart}
 use Rattle.df_rules.specs.Places.{stepAcross, stepAlong}
-use Rattle.df_rules.specs.Window.{quadAt, putIf, lineAt, linesAt, windowAt, windowsAt, Samples}
-use Rattle.df_rules.proofs.Planes.{window-small}
+use Rattle.df_rules.specs.Window.{quadAt, putIf, lineAt, linesAt, windowAt, Samples}
 use Rattle.df_rules.proofs.Windows.{untouched, touched}
 
 -- ---- lines that share no place
@@ -65,9 +65,10 @@ off step next at k l j f = record {
   d = λ (e : at + l * next + j * step ≡ at + k * next + 3 * step). f 3 (omega arith) (omega arith);
 }
 
--- a line's samples that are the same become the same
-quad-kept : (st step p : ℕ) (ys xs : List ℕ) → ((j : ℕ) → j ≤ 3 → getD ys (p + j * step) 0 ≡ getD xs (p + j * step) 0) → quadAt st step p ys ≡ quadAt st step p xs
-quad-kept st step p ys xs keep = λ i. lineOf (at₀ (keep 0 (omega arith)) i) (at₁ (keep 1 (omega arith)) i) (keep 2 (omega arith) i) (keep 3 (omega arith) i) st
+-- a line whose samples are the same is the same
+same-line : (step p : ℕ) (ys xs : List ℕ) → ((j : ℕ) → j ≤ 3 → getD ys (p + j * step) 0 ≡ getD xs (p + j * step) 0) → samplesAt step p ys ≡ samplesAt step p xs
+same-line step p ys xs keep =
+    λ i. record { a = at₀ (keep 0 (omega arith)) i; b = at₁ (keep 1 (omega arith)) i; c = keep 2 (omega arith) i; d = keep 3 (omega arith) i }
   where
     at₀ : getD ys (p + 0 * step) 0 ≡ getD xs (p + 0 * step) 0 → getD ys p 0 ≡ getD xs p 0
     at₀ e = let z : p + 0 * step ≡ p = omega arith in rw z at e
@@ -76,12 +77,17 @@ quad-kept st step p ys xs keep = λ i. lineOf (at₀ (keep 0 (omega arith)) i) (
     at₁ e = let z : p + 1 * step ≡ p + step = omega arith in rw z at e
 
 -- the first k lines leave the samples of a later one as they were
-later : (m : Mask) (q : ℕ → Quad) (st step next at k o l : ℕ) (xs : List ℕ) → Apart step next o → k ≤ l → l < o
-    → quadAt st step (at + l * next) (putLines m q step next at k xs) ≡ quadAt st step (at + l * next) xs
-later m q st step next at k o l xs g h i =
+pub later-line : (m : Mask) (q : ℕ → Quad) (step next at k o l : ℕ) (xs : List ℕ) → Apart step next o → k ≤ l → l < o
+    → samplesAt step (at + l * next) (putLines m q step next at k xs) ≡ samplesAt step (at + l * next) xs
+later-line m q step next at k o l xs g h i =
     let keep : (j : ℕ) → j ≤ 3 → getD (putLines m q step next at k xs) (at + l * next + j * step) 0 ≡ getD xs (at + l * next + j * step) 0
     = λ j hj. lines-off m q step next at k xs (at + l * next + j * step) (λ n hn. off step next at n l j (λ r hr e. g .never n l r j (omega arith) i hr hj e)) in
-    quad-kept st step (at + l * next) (putLines m q step next at k xs) xs keep
+    same-line step (at + l * next) (putLines m q step next at k xs) xs keep
+
+-- and so what it becomes
+later : (m : Mask) (q : ℕ → Quad) (st step next at k o l : ℕ) (xs : List ℕ) → Apart step next o → k ≤ l → l < o
+    → quadAt st step (at + l * next) (putLines m q step next at k xs) ≡ quadAt st step (at + l * next) xs
+later m q st step next at k o l xs g h i = ap (λ (s : Quad). lineOf (s .a) (s .b) (s .c) (s .d) st) (later-line m q step next at k o l xs g h i)
 
 module _ (m : Mask) (st step next at : ℕ) (xs : List ℕ) where
   -- what line k becomes, read from xs
@@ -158,10 +164,9 @@ pub window-put : (m : Mask) (q : ℕ → Quad) (st step next at n : ℕ) (xs : L
 window-put m q st step next at n xs g s h =
     put-same m q (λ (k : ℕ). quadAt st step (at + k * next) xs) step next at n xs h ∙ sym (at-once m st step next at xs n g) ∙ lines-window m st step next at n xs s
 
--- ---- two windows, the lines of the second right after those of the first
+-- ---- lines written in two parts
 
--- k lines, and then n more
-put-append : (m : Mask) (q : ℕ → Quad) (step next at k n : ℕ) (xs : List ℕ)
+pub put-append : (m : Mask) (q : ℕ → Quad) (step next at k n : ℕ) (xs : List ℕ)
     → putLines m q step next at (k + n) xs ≡ putLines m (λ (j : ℕ). q (k + j)) step next (at + k * next) n (putLines m q step next at k xs)
 unfolding putLines
 put-append m q step next at k zero xs = rw (add-zero k)
@@ -169,25 +174,10 @@ put-append m q step next at k (suc n) xs =
     let e : at + (k + n) * next ≡ at + k * next + n * next = omega (arith, add-mul k n next) in
     rw (add-suc k n) (λ i. putLine m step (e i) (q (k + n)) (put-append m q step next at k n xs i))
 
-pub windows-put : (m : Mask) (q : ℕ → Quad) (s₀ s₁ step next at n : ℕ) (xs : List ℕ) → Apart step next (n + n) → Samples xs
-    → ((k : ℕ) → k < n → q k ≡ quadAt s₀ step (at + k * next) xs) → ((k : ℕ) → k < n → q (n + k) ≡ quadAt s₁ step (at + (n + k) * next) xs)
-    → putLines m q step next at (n + n) xs ≡ windowsAt m s₀ s₁ step next at n xs
-windows-put m q s₀ s₁ step next at n xs g s f h =
-    let few : Apart step next n = record { never = λ k l i j a b. g .never k l i j a (omega arith) } in
-    let ys = putLines m q step next at n xs in
-    let w : ys ≡ windowAt m s₀ step next at n xs = window-put m q s₀ step next at n xs few s f in
-    let small : Samples ys = subst Samples (sym w) (window-small m s₀ step next at n xs s) in
-    let r : (k : ℕ) → k < n → q (n + k) ≡ quadAt s₁ step (at + n * next + k * next) ys
-    = λ k l. h k l ∙ sym (later m q s₁ step next at n (n + n) (n + k) xs g (omega arith) (omega arith))
-    ∙ ap (λ (i : ℕ). quadAt s₁ step i ys) (omega (arith, add-mul n k next)) in
-    put-append m q step next at n n xs
-    ∙ window-put m (λ (k : ℕ). q (n + k)) s₁ step next (at + n * next) n ys few small r
-    ∙ ap (windowAt m s₁ step next (at + n * next) n) w
-
 -- ---- the lines of a unit's edge
 
 -- vertical: a line's samples are neighbours, and the rows are at least 4 long
-apart-ver : (next n : ℕ) → 4 ≤ next → Apart 1 next n
+pub apart-ver : (next n : ℕ) → 4 ≤ next → Apart 1 next n
 apart-ver next n h = record { never = go } where
   go : (k l i j : ℕ) → k < l → l < n → i ≤ 3 → j ≤ 3 → l * next + j * 1 ≡ k * next + i * 1 → ⊥
   go k l i j hk hl hi hj e =
@@ -196,7 +186,7 @@ apart-ver next n h = record { never = go } where
       omega arith
 
 -- horizontal: the lines are neighbours, and there are no more of them than samples in a row
-apart-hor : (step n : ℕ) → n ≤ step → Apart step 1 n
+pub apart-hor : (step n : ℕ) → n ≤ step → Apart step 1 n
 apart-hor step n h = record { never = go } where
   go : (k l i j : ℕ) → k < l → l < n → i ≤ 3 → j ≤ 3 → l * 1 + j * step ≡ k * 1 + i * step → ⊥
   go k l i j hk hl hi hj e =

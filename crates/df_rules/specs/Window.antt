@@ -37,10 +37,6 @@ linesAt m st step next at (suc n) xs = lineAt m st step (at + n * next) (linesAt
 unfoldable pub windowAt : Mask → (st step next at n : ℕ) → List ℕ → List ℕ
 windowAt m st step next at n xs = pick (eqb st 0) xs (linesAt m st step next at n xs)
 
--- two windows, the lines of the second right after those of the first
-abbrev pub windowsAt : Mask → (s₀ s₁ step next at n : ℕ) → List ℕ → List ℕ
-windowsAt m s₀ s₁ step next at n xs = windowAt m s₁ step next (at + n * next) n (windowAt m s₀ step next at n xs)
-
 -- every element is a sample
 abbrev pub Samples : List ℕ → Type 0
 Samples xs = (k : ℕ) → getD xs k 0 ≤ 1023

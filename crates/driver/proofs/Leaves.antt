@@ -26,7 +26,7 @@ use Rattle.nbr.proofs.Sides.{four}
 use Rattle.split.specs.Stored.{leavesFrom}
 use Rattle.driver_rules.specs.Asked.{GivenAsked, StateAsked, Stepped}
 use Rattle.driver_rules.specs.Call.{Input, leavesOf, done}
-use Rattle.driver_rules.specs.Records.{kindAt, recordQp, maskAt, keepAt, isMode, codedY, codedU, codedV, mostMask, residualCount, startU, placeOf, passed}
+use Rattle.driver_rules.specs.Records.{kindAt, recordQp, recordMask, keepAt, isMode, codedY, codedU, codedV, mostMask, residualCount, startU, placeOf, passed}
 use Rattle.driver_rules.specs.Steps.{Given, State, stepAt, steps}
 use Rattle.driver_rules.proofs.States.{plane-none, mask-of-y, asked-y, asked-u, asked-v}
 use Rattle.driver_rules.proofs.Walked.{one-leaf, leaves-none, leaves-more, stepped-place}
@@ -137,7 +137,7 @@ module _ {g : Given} {y u v words modes keep : List ℕ} {end : ℕ} where
 module _ (g : Given) {leaf : Leaf} {kind qp mask mark at end : ℕ} {y u v words modes keep y′ u′ v′ words′ modes′ keep′ : List ℕ} where
   pub leaves-next : {s : State} (list : List ℕ) (k j : ℕ) → GivenAsked g → IsBlock (g .w) (g .h) leaf
       → (leaf .x .0 ≡ getD list (3 * j) 0) × (leaf .y .0 ≡ getD list (3 * j + 1) 0) × (leaf .side ≡ getD list (3 * j + 2) 0)
-      → (kind ≡ kindAt (g .leaves) (k + j)) × (qp ≡ recordQp (g .leaves) (k + j)) × (mask ≡ maskAt (g .leaves) (k + j)) × (mark ≡ keepAt (g .leaves) (k + j))
+      → (kind ≡ kindAt (g .leaves) (k + j)) × (qp ≡ recordQp (g .leaves) (k + j)) × (mask ≡ recordMask (g .leaves) (k + j)) × (mark ≡ keepAt (g .leaves) (k + j))
       → Drawn (givenOf (g .w) (g .h) (g .format) (g .constrained) [] (g .residual) (g .pred-y) (g .pred-u) (g .pred-v)) leaf kind mask at words y u v y′ u′ v′ end
       → (words′ ≡ toldTo (g .w) leaf (leafWord (isMode kind) qp (codedY mask)) words) × (modes′ ≡ toldTo (g .w) leaf (pick (isMode kind) kind 255) modes)
       × (keep′ ≡ toldTo (g .w) leaf mark keep)

@@ -9,7 +9,7 @@ ghost use Rattle.def.specs.Word.{leafWord};
 ghost use Rattle.split.specs.Stored.{leavesFrom};
 ghost use Rattle.driver_rules.specs.Asked.{GivenAsked, StateAsked, Reaches, Blocks, Sides, Accepted, Listed, Stepped};
 ghost use Rattle.driver_rules.specs.Call.{leavesOf};
-ghost use Rattle.driver_rules.specs.Records.{kindAt, recordQp, maskAt, keepAt, isMode, codedY, endV, placeOf, first, passed};
+ghost use Rattle.driver_rules.specs.Records.{kindAt, recordQp, recordMask, keepAt, isMode, codedY, endV, placeOf, first, passed};
 ghost use Rattle.driver_rules.specs.Steps.{steps};
 ghost use Rattle.driver.specs.Packed.{packedLeaf, unpacked, unpackedAt, Packed};
 ghost use Rattle.driver.specs.Lends.{givenOf, stateOf, colourEnd, toldTo, ColourDrawn, Drawn, ColourAsked, PlanesAsked, Ended};
@@ -53,7 +53,7 @@ pub(crate) struct Record {
 fn record_at(leaves: &[u8], k: usize) -> Record
     requires { ⌜ 4 * (k + 1) ≤ length (now leaves) ⌝ }
     ensures { λ r. ⌜ (r .kind ≡ kindAt (now (leaves .entry)) k) × (r .qp ≡ recordQp (now (leaves .entry)) k)
-        × (r .mask ≡ maskAt (now (leaves .entry)) k) × (r .keep ≡ keepAt (now (leaves .entry)) k) ⌝ }
+        × (r .mask ≡ recordMask (now (leaves .entry)) k) × (r .keep ≡ keepAt (now (leaves .entry)) k) ⌝ }
 {
     let kind = leaves[4 * k];
     let qp = leaves[4 * k + 1];

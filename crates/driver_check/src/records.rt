@@ -1,7 +1,7 @@
 // A leaf record in its list: its mask, and how many residuals it takes.
 ghost use mathlib.Core.Path.{_≡_};
 ghost use Prim.Native.Nat.{_+_, _≤_};
-ghost use Rattle.driver_rules.specs.Records.{maskAt, residualCount, endV};
+ghost use Rattle.driver_rules.specs.Records.{recordMask, residualCount, endV};
 use def::Component;
 use leaf_record::coded_u;
 use leaf_record::coded_v;
@@ -12,7 +12,7 @@ use leaf_record::coded_y;
 // The mask of leaf k, 0 where the list ends before it.
 pub(crate) fn mask_at(leaves: &[u8], k: usize) -> u8
     requires { ⌜ k ≤ 1048576 ⌝ }
-    ensures { λ r. ⌜ r ≡ maskAt (now (leaves .entry)) k ⌝ }
+    ensures { λ r. ⌜ r ≡ recordMask (now (leaves .entry)) k ⌝ }
 {
     let i = 4 * k + 2;
     if i < leaves.len() {

@@ -37,7 +37,7 @@ use Rattle.split.specs.Walk.{Leaf}
 use Rattle.driver_rules.specs.Asked.{Small, LentAsked, GivenAsked, StateAsked, Reaches, Accepted}
 use Rattle.driver_rules.specs.Call.{Input, colourLength, readTests, readOk, writtenTests, writtenOk, recordTests, recordsOk, lentTests, lentOk, dataCheck, checkOf}
 use Rattle.driver_rules.specs.Call.{check, leavesOf, start, done, outcome}
-use Rattle.driver_rules.specs.Records.{byteAt, maskAt, bytesOk, mostMask, Place, first, passed}
+use Rattle.driver_rules.specs.Records.{byteAt, recordMask, bytesOk, mostMask, Place, first, passed}
 use Rattle.driver_rules.proofs.Places.{passed-count}
 use Rattle.driver_rules.proofs.Small.{done-none}
 
@@ -112,10 +112,10 @@ lent-colour : (w h : ℕ) (f : Format) (lent : List ℕ) → length lent ≡ col
 lent-colour w h f lent e s c = record { long = rw c at e; small = s }
 
 -- a mask past the records is 0
-masks-most : (r : List ℕ) (n m : ℕ) → length r ≡ 4 * n → bytesOk r n 2 m ≡ true → (k : ℕ) → maskAt r k ≤ m
+masks-most : (r : List ℕ) (n m : ℕ) → length r ≡ 4 * n → bytesOk r n 2 m ≡ true → (k : ℕ) → recordMask r k ≤ m
 unfolding bytesOk
 masks-most r n m e b k = go (decLt k n) where
-  go : Dec (k < n) → maskAt r k ≤ m
+  go : Dec (k < n) → recordMask r k ≤ m
   go (yes p) = leb-true _ _ (scan-at (λ (j : ℕ). leb (byteAt r j 2) m) n k p b)
   go (no p) = let z = List·getD-eq-default r 0 {n = 4 * k + 2} (omega arith) in omega (arith, z)
 

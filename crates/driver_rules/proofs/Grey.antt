@@ -32,7 +32,7 @@ use Rattle.samples.proofs.Samples.{samples-pass}
 use Rattle.split.specs.Walk.{Leaf}
 use Rattle.driver_rules.specs.Call.{Input, readOk, writtenOk, recordsOk, lentOk, dataCheck, checkOf, check, leavesOf}
 use Rattle.driver_rules.specs.Luma.{lumaResidual, SameLeaves, lumaRecords, lumaResiduals, withoutColour, WithoutColour}
-use Rattle.driver_rules.specs.Records.{byteAt, maskAt, bytesOk, codedY, residualCount, sampleCount, endV, Place, first, advance, passed}
+use Rattle.driver_rules.specs.Records.{byteAt, recordMask, bytesOk, codedY, residualCount, sampleCount, endV, Place, first, advance, passed}
 use Rattle.driver_rules.specs.Steps.{Given}
 use Rattle.driver_rules.proofs.Checks.{Passed, all-passed, written-told}
 use Rattle.driver_rules.proofs.Luma.{same-luma}
@@ -54,7 +54,7 @@ module _ (r : List ℕ) where
         List·getD-eq-default (lumaRecords r) 0 {n = k} (rw (length-tabulate (λ (k : ℕ). pick (eqb (k % 4) 2) (getD r k 0 % 2) (getD r k 0)) (length r)) (omega arith))
         ∙ none (eqb (k % 4) 2) (getD r k 0) (List·getD-eq-default r 0 {n = k} (omega arith))
 
-  mask-luma : (k : ℕ) → maskAt (lumaRecords r) k ≡ maskAt r k % 2
+  mask-luma : (k : ℕ) → recordMask (lumaRecords r) k ≡ recordMask r k % 2
   mask-luma k = number-luma (4 * k + 2) ∙ rw (eq-eqb ((4 * k + 2) % 4) 2 (omega arith))
 
   byte-luma : (k b : ℕ) → b < 4 → (b ≡ 2 → ⊥) → byteAt (lumaRecords r) k b ≡ byteAt r k b
@@ -66,16 +66,16 @@ module _ (r : List ℕ) where
 
   masks-luma : (n : ℕ) → bytesOk (lumaRecords r) n 2 1 ≡ true
   unfolding bytesOk
-  masks-luma n = scan-pass _ n (λ k h. le-leb (maskAt (lumaRecords r) k) 1 (omega (arith, mask-luma k)))
+  masks-luma n = scan-pass _ n (λ k h. le-leb (recordMask (lumaRecords r) k) 1 (omega (arith, mask-luma k)))
 
-  coded-luma : (k : ℕ) → codedY (maskAt (lumaRecords r) k) ≡ codedY (maskAt r k)
+  coded-luma : (k : ℕ) → codedY (recordMask (lumaRecords r) k) ≡ codedY (recordMask r k)
   unfolding flagAt fieldOf
-  coded-luma k = let e : maskAt r k % 2 / 1 % 2 ≡ maskAt r k / 1 % 2 = omega arith in rw (mask-luma k) (ap (λ (n : ℕ). eqb n 1) e)
+  coded-luma k = let e : recordMask r k % 2 / 1 % 2 ≡ recordMask r k / 1 % 2 = omega arith in rw (mask-luma k) (ap (λ (n : ℕ). eqb n 1) e)
 
   -- where the residuals of a leaf end
-  end-luma : (at k side : ℕ) → endV at (maskAt (lumaRecords r) k) side ≡ at + residualCount Luma (codedY (maskAt r k)) side
+  end-luma : (at k side : ℕ) → endV at (recordMask (lumaRecords r) k) side ≡ at + residualCount Luma (codedY (recordMask r k)) side
   end-luma at k side =
-      let e = mask-of-y (maskAt (lumaRecords r) k) (omega (arith, mask-luma k)) in
+      let e = mask-of-y (recordMask (lumaRecords r) k) (omega (arith, mask-luma k)) in
       rw (e .0, e .1, coded-luma k) (omega arith)
 
 -- ---- the residuals
@@ -86,19 +86,19 @@ module _ (g : Given) where
 
   -- those of one leaf
   abbrev own : Leaf → Place → List ℤ
-  own p t = pick (codedY (maskAt r (t .k))) (lumaResidual g (4 * p .side) t) []
+  own p t = pick (codedY (recordMask r (t .k))) (lumaResidual g (4 * p .side) t) []
 
   -- which reach no further than all
   abbrev Inside : List Leaf → Place → Type 0
   Inside l t = passed r l t .at ≤ length (g .residual)
 
-  own-long : (p : Leaf) (t : Place) → endV (t .at) (maskAt r (t .k)) (4 * p .side) ≤ length (g .residual) → length (own p t) ≡ residualCount Luma (codedY (maskAt r (t .k))) (4 * p .side)
-  own-long p t h = go (codedY (maskAt r (t .k))) (omega (arith, h)) where
+  own-long : (p : Leaf) (t : Place) → endV (t .at) (recordMask r (t .k)) (4 * p .side) ≤ length (g .residual) → length (own p t) ≡ residualCount Luma (codedY (recordMask r (t .k))) (4 * p .side)
+  own-long p t h = go (codedY (recordMask r (t .k))) (omega (arith, h)) where
     go : (b : Bool) → t .at + pick b (sampleCount Luma (4 * p .side)) 0 ≤ length (g .residual) → length (pick b (lumaResidual g (4 * p .side) t) []) ≡ pick b (sampleCount Luma (4 * p .side)) 0
     go true q = length-take-le _ (drop (t .at) (g .residual)) (rw (length-drop (t .at) (g .residual)) (omega arith))
     go false q = refl
 
-  first-inside : (p : Leaf) (l : List Leaf) (t : Place) → Inside (p ∷ l) t → endV (t .at) (maskAt r (t .k)) (4 * p .side) ≤ length (g .residual)
+  first-inside : (p : Leaf) (l : List Leaf) (t : Place) → Inside (p ∷ l) t → endV (t .at) (recordMask r (t .k)) (4 * p .side) ≤ length (g .residual)
   unfolding run
   first-inside p l t h = le-trans (passed-more r l (advance r p t) .0) h
 
@@ -112,7 +112,7 @@ module _ (g : Given) where
   luma-ends (p ∷ l) t u e h =
       let now = end-luma r (u .at) (u .k) (4 * p .side) in
       let one = own-long p t (first-inside p l t h) in
-      let k : codedY (maskAt r (u .k)) ≡ codedY (maskAt r (t .k)) = ap (λ (n : ℕ). codedY (maskAt r n)) (sym e) in
+      let k : codedY (recordMask r (u .k)) ≡ codedY (recordMask r (t .k)) = ap (λ (n : ℕ). codedY (recordMask r n)) (sym e) in
       let all = length-append (own p t) (lumaResiduals g l (advance r p t)) in
       let next = luma-ends l (advance r p t) (advance (lumaRecords r) p u) (ap (λ (n : ℕ). n + 1) e) (rest-inside p l t h) in
       next ∙ rw (now, k, all, one) (omega arith)
@@ -124,11 +124,11 @@ module _ (g : Given) where
     byte-same : (t u : Place) (b : ℕ) → b < 4 → (b ≡ 2 → ⊥) → t .k ≡ u .k → byteAt r (t .k) b ≡ byteAt (o .leaves) (u .k) b
     byte-same t u b p q e = ap (λ (n : ℕ). byteAt r n b) e ∙ sym (byte-luma r (u .k) b p q) ∙ ap (λ (m : List ℕ). byteAt m (u .k) b) (sym same)
 
-    coded-same : (t u : Place) → t .k ≡ u .k → codedY (maskAt r (t .k)) ≡ codedY (maskAt (o .leaves) (u .k))
-    coded-same t u e = ap (λ (n : ℕ). codedY (maskAt r n)) e ∙ sym (coded-luma r (u .k)) ∙ ap (λ (m : List ℕ). codedY (maskAt m (u .k))) (sym same)
+    coded-same : (t u : Place) → t .k ≡ u .k → codedY (recordMask r (t .k)) ≡ codedY (recordMask (o .leaves) (u .k))
+    coded-same t u e = ap (λ (n : ℕ). codedY (recordMask r n)) e ∙ sym (coded-luma r (u .k)) ∙ ap (λ (m : List ℕ). codedY (recordMask m (u .k))) (sym same)
 
     -- Y's residual of the first leaf
-    first-same : (p : Leaf) (l : List Leaf) (t u : Place) (pre : List ℤ) → Inside (p ∷ l) t → length pre ≡ u .at → o .residual ≡ pre ++ lumaResiduals g (p ∷ l) t → codedY (maskAt r (t .k)) ≡ true
+    first-same : (p : Leaf) (l : List Leaf) (t u : Place) (pre : List ℤ) → Inside (p ∷ l) t → length pre ≡ u .at → o .residual ≡ pre ++ lumaResiduals g (p ∷ l) t → codedY (recordMask r (t .k)) ≡ true
         → lumaResidual g (4 * p .side) t ≡ lumaResidual o (4 * p .side) u
     unfolding lumaResiduals
     first-same p l t u pre h long is c =
@@ -151,9 +151,9 @@ module _ (g : Given) where
           residual = first-same p l t u pre h long is;
         }
     leaves-same (p ∷ l) t u pre e h long is (suc n) q =
-        let now : endV (u .at) (maskAt (o .leaves) (u .k)) (4 * p .side) ≡ u .at + residualCount Luma (codedY (maskAt r (u .k))) (4 * p .side) =
-        ap (λ (m : List ℕ). endV (u .at) (maskAt m (u .k)) (4 * p .side)) same ∙ end-luma r (u .at) (u .k) (4 * p .side) in
-        let k : codedY (maskAt r (u .k)) ≡ codedY (maskAt r (t .k)) = ap (λ (n : ℕ). codedY (maskAt r n)) (sym e) in
+        let now : endV (u .at) (recordMask (o .leaves) (u .k)) (4 * p .side) ≡ u .at + residualCount Luma (codedY (recordMask r (u .k))) (4 * p .side) =
+        ap (λ (m : List ℕ). endV (u .at) (recordMask m (u .k)) (4 * p .side)) same ∙ end-luma r (u .at) (u .k) (4 * p .side) in
+        let k : codedY (recordMask r (u .k)) ≡ codedY (recordMask r (t .k)) = ap (λ (n : ℕ). codedY (recordMask r n)) (sym e) in
         let one = own-long p t (first-inside p l t h) in
         leaves-same l (advance r p t) (advance (o .leaves) p u) (pre ++ own p t) (ap (λ (n : ℕ). n + 1) e) (rest-inside p l t h)
         (length-append pre (own p t) ∙ rw (long, one, now, k)) (is ∙ sym (append-assoc pre (own p t) (lumaResiduals g l (advance r p t)))) n (omega (arith, q))

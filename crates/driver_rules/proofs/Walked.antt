@@ -21,7 +21,7 @@ use Rattle.split.specs.Picture.{rootLeaves, leavesOf}
 use Rattle.split.specs.Stored.{leafFrom, leavesFrom}
 use Rattle.split.specs.Walk.{Leaf, leaf}
 use Rattle.driver_rules.specs.Asked.{GivenAsked, StateAsked, Reaches, Blocks, Sides, Listed, Stepped}
-use Rattle.driver_rules.specs.Records.{maskAt, endV, Place, past, advance, passed}
+use Rattle.driver_rules.specs.Records.{recordMask, endV, Place, past, advance, passed}
 use Rattle.driver_rules.specs.Steps.{Given, State, stepAt}
 use Rattle.driver_rules.proofs.Places.{run-more, reaches-grows}
 use Rattle.driver_rules.proofs.States.{step-asked, steps-place, stepped-none, stepped-then, stepped-as}
@@ -129,7 +129,7 @@ module _ (r : List ℕ) where
 
   -- past leaf j, from the parts that a loop keeps
   pub past-one : (list : List ℕ) (j : ℕ) (t : Place) (at k at′ k′ : ℕ) → getD list (3 * j + 2) 0 % 4 ≡ 0
-      → record { at = at; k = k } ≡ passed r (leavesFrom list j) t → at′ ≡ endV at (maskAt r k) (getD list (3 * j + 2) 0) → k′ ≡ k + 1
+      → record { at = at; k = k } ≡ passed r (leavesFrom list j) t → at′ ≡ endV at (recordMask r k) (getD list (3 * j + 2) 0) → k′ ≡ k + 1
       → record { at = at′; k = k′ } ≡ passed r (leavesFrom list (j + 1)) t
   past-one list j t at k at′ k′ e p q n = rw (past-leaf list j t e, ← p, q, n)
 

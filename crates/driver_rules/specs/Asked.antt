@@ -19,7 +19,7 @@ use Rattle.samples.specs.Samples.{samplesOk}
 pub use Rattle.split.specs.Accepted.{Accepted}
 use Rattle.split.specs.Picture.{rootLeaves}
 use Rattle.split.specs.Stored.{leavesFrom}
-use Rattle.driver_rules.specs.Records.{Place, maskAt, mostMask}
+use Rattle.driver_rules.specs.Records.{Place, recordMask, mostMask}
 use Rattle.driver_rules.specs.Steps.{Given, State, steps}
 use Rattle.split.specs.Walk.{Leaf}
 
@@ -54,7 +54,7 @@ pub record GivenAsked (g : Given) : Type 0 where
   pub lent-y : LentAsked Luma (g .w) (g .h) (g .pred-y)
   pub lent-u : g .format ≡ Colour → LentAsked Chroma (g .w) (g .h) (g .pred-u)
   pub lent-v : g .format ≡ Colour → LentAsked Chroma (g .w) (g .h) (g .pred-v)
-  pub masks : (k : ℕ) → maskAt (g .leaves) k ≤ mostMask (g .format)
+  pub masks : (k : ℕ) → recordMask (g .leaves) k ≤ mostMask (g .format)
 
 -- the planes and the maps as they stand
 pub record StateAsked (g : Given) (s : State) : Type 0 where

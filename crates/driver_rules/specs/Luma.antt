@@ -15,7 +15,7 @@ use Rattle.def.specs.declared.Component.the-variants.{Luma}
 use Rattle.def.specs.declared.Format.the-variants.{Grey}
 use Rattle.split.specs.Walk.{Leaf, leaf}
 use Rattle.driver_rules.specs.Call.{Input, Outcome, leavesOf, check, outcome}
-use Rattle.driver_rules.specs.Records.{kindAt, recordQp, maskAt, keepAt, codedY, sampleCount, Place, first, advance, passed}
+use Rattle.driver_rules.specs.Records.{kindAt, recordQp, recordMask, keepAt, codedY, sampleCount, Place, first, advance, passed}
 use Rattle.driver_rules.specs.Steps.{Given}
 
 -- ---- a leaf
@@ -29,8 +29,8 @@ pub record SameLeaf (g o : Given) (side : ℕ) (t u : Place) : Type 0 where
   pub kind : kindAt (g .leaves) (t .k) ≡ kindAt (o .leaves) (u .k)
   pub qp : recordQp (g .leaves) (t .k) ≡ recordQp (o .leaves) (u .k)
   pub keep : keepAt (g .leaves) (t .k) ≡ keepAt (o .leaves) (u .k)
-  pub coded : codedY (maskAt (g .leaves) (t .k)) ≡ codedY (maskAt (o .leaves) (u .k))
-  pub residual : codedY (maskAt (g .leaves) (t .k)) ≡ true → lumaResidual g side t ≡ lumaResidual o side u
+  pub coded : codedY (recordMask (g .leaves) (t .k)) ≡ codedY (recordMask (o .leaves) (u .k))
+  pub residual : codedY (recordMask (g .leaves) (t .k)) ≡ true → lumaResidual g side t ≡ lumaResidual o side u
 
 -- each leaf of a list, from these places on
 abbrev pub SameLeaves : (g o : Given) → List Leaf → (t u : Place) → Type 0
@@ -70,7 +70,7 @@ lumaRecords r = tabulate (length r) (λ (k : ℕ). pick (eqb (k % 4) 2) (getD r 
 -- the residuals of Y, of the leaves of a list that stands at place t
 unfoldable pub lumaResiduals : Given → List Leaf → Place → List ℤ
 lumaResiduals g [] t = []
-lumaResiduals g (p ∷ l) t = pick (codedY (maskAt (g .leaves) (t .k))) (lumaResidual g (4 * p .side) t) [] ++ lumaResiduals g l (advance (g .leaves) p t)
+lumaResiduals g (p ∷ l) t = pick (codedY (recordMask (g .leaves) (t .k))) (lumaResidual g (4 * p .side) t) [] ++ lumaResiduals g l (advance (g .leaves) p t)
 
 abbrev pub withoutColour : Input → Input
 withoutColour i =

@@ -28,8 +28,8 @@ kindAt r k = byteAt r k 0
 abbrev pub recordQp : List ℕ → ℕ → ℕ
 recordQp r k = byteAt r k 1
 
-abbrev pub maskAt : List ℕ → ℕ → ℕ
-maskAt r k = byteAt r k 2
+abbrev pub recordMask : List ℕ → ℕ → ℕ
+recordMask r k = byteAt r k 2
 
 -- 1 where deblocking is to leave the block as it is
 abbrev pub keepAt : List ℕ → ℕ → ℕ
@@ -59,7 +59,7 @@ mostMask Colour = 7
 
 -- what the leaf's units are told: intra for a mode, the QP, luma-coded and done; and the mode, 255 for the lent prediction
 abbrev pub wordAt : List ℕ → ℕ → ℕ
-wordAt r k = leafWord (isMode (kindAt r k)) (recordQp r k) (codedY (maskAt r k))
+wordAt r k = leafWord (isMode (kindAt r k)) (recordQp r k) (codedY (recordMask r k))
 
 abbrev pub modeAt : List ℕ → ℕ → ℕ
 modeAt r k = pick (isMode (kindAt r k)) (kindAt r k) 255
@@ -97,7 +97,7 @@ first = placeOf 0 0
 
 -- past a leaf of side `side`
 abbrev pub past : List ℕ → (side : ℕ) → Place → Place
-past r side t = record { at = endV (t .at) (maskAt r (t .k)) side; k = t .k + 1 }
+past r side t = record { at = endV (t .at) (recordMask r (t .k)) side; k = t .k + 1 }
 
 abbrev pub advance : List ℕ → Leaf → Place → Place
 advance r p t = past r (4 * p .side) t

@@ -16,7 +16,7 @@ use Rattle.ipred.specs.Modes.{predicted, blockOf}
 use Rattle.nbr.specs.Gather.{Around, across, column, row, sideOf, runOf}
 use Rattle.recon.specs.Plane as recon
 use Rattle.split.specs.Walk.{Leaf}
-use Rattle.driver_rules.specs.Records.{kindAt, maskAt, wordAt, modeAt, keepAt, isMode, codedY, codedU, codedV, sampleCount, startU, startV, Place, past}
+use Rattle.driver_rules.specs.Records.{kindAt, recordMask, wordAt, modeAt, keepAt, isMode, codedY, codedU, codedV, sampleCount, startU, startV, Place, past}
 
 -- ---- one component of a leaf
 
@@ -89,7 +89,7 @@ stepAt g x y side s =
     let k = s .place .k in
     let at = s .place .at in
     let kind = kindAt (g .leaves) k in
-    let mask = maskAt (g .leaves) k in
+    let mask = recordMask (g .leaves) k in
     record {
       y = componentOf g Luma x y side kind (g .pred-y) (codedY mask) at (s .y) (s .words);
       u = componentOf g Chroma x y side kind (g .pred-u) (codedU mask) (startU at mask side) (s .u) (s .words);

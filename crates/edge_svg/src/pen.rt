@@ -47,14 +47,6 @@ pub(crate) fn words(pen: Pen, out: &mut [u8; 65536], text: &[u8]) -> Pen {
     p
 }
 
-// A number of a list: 0 past its end.
-fn number_at(list: &[usize], i: usize) -> usize {
-    if list.len() <= i {
-        return 0;
-    }
-    list[i]
-}
-
 fn number(pen: Pen, out: &mut [u8; 65536], n: usize) -> Pen {
     let mut digits = [0u8; 20];
     let count = io::decimal(n as u64, &mut digits);
@@ -69,7 +61,7 @@ pub(crate) fn form(pen: Pen, out: &mut [u8; 65536], text: &[u8], numbers: &[usiz
     while i < text.len() {
         let b = text[i];
         if b == b'@' {
-            p = number(p, out, number_at(numbers, met));
+            p = number(p, out, say::number_at(numbers, met));
             met = std::num::wrapping_add_usize(met, 1);
         } else {
             p = byte(p, out, b);

@@ -30,7 +30,7 @@ pub fn counted(text: &[u8], n: usize) {
 // ---- numbers among words
 
 // A number of a list: 0 past its end.
-fn number_at(list: &[usize], i: usize) -> usize {
+pub fn number_at(list: &[usize], i: usize) -> usize {
     if list.len() <= i {
         return 0;
     }

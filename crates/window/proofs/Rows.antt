@@ -1,6 +1,7 @@
 -- Lines that lie side by side, written row by row.
 --     row-none, row-more    a loop that writes a row
 --     rows-copied    four rows, copied one after the other, are their lines
+--     lines-long    lines leave a plane as long as it was
 --     gathered    rows of a plane as lanes
 -- Assumes nothing.
 use Prim.Native.Nat.{ℕ, zero, suc, _+_, _-_, _*_, _≤_, _<_}
@@ -131,7 +132,7 @@ put-long : (w : Bool) (i v : ℕ) (xs : List ℕ) → length (putIf w i v xs) �
 put-long true i v xs = length-set xs i v
 put-long false i v xs = refl
 
-lines-long : (m : Mask) (q : ℕ → Quad) (step next at n : ℕ) (xs : List ℕ) → length (putLines m q step next at n xs) ≡ length xs
+pub lines-long : (m : Mask) (q : ℕ → Quad) (step next at n : ℕ) (xs : List ℕ) → length (putLines m q step next at n xs) ≡ length xs
 unfolding putLines
 lines-long m q step next at zero xs = refl
 lines-long m q step next at (suc n) xs = simp put-long (lines-long m q step next at n xs)

@@ -10,21 +10,22 @@ use Rattle.def.proofs.Sizes.{Sized, sized}
 use Rattle.split.proofs.Roots.{roots-units}
 use Rattle.df_rules.specs.Strength.{Maps}
 use Rattle.df_rules.proofs.LentPlanes.{LentPlanes}
-use Rattle.df.specs.Edges.{passOf}
+use Rattle.edge_filter.specs.Edges.{passOf}
 use Rattle.df.specs.Plan.{Planned}
-use Rattle.df.proofs.Plans.{edge-known, Knowns, plan-known, plan-few}
+use Rattle.df.proofs.Filtered.{luma-by-plan, u-by-plan, v-by-plan}
+use Rattle.df.proofs.Plans.{edge-known, Knowns, plan-known}
 use Rattle.df.proofs.Turns.{Roots, roots-none, roots-more, roots-frame, roots-all, luma-plane, u-plane, v-plane}
 use Rattle.df.proofs.pass.deblock_pass.Statement.{statement}
 use Rattle.df.proofs.pass.deblock_pass.Tie as tie
 
 abbrev Inv-loop : tie.InvT-loop
-Inv-loop format pass halved w h top y₀ u₀ v₀ words splits motion refs keep rows entries size horizontal roots list₀ places₀ marks₀ count₀ i₀ y u v list places marks count i =
+Inv-loop format pass halved w h top y₀ u₀ v₀ words splits motion refs keep rows entries columns horizontal roots list₀ places₀ marks₀ count₀ i₀ y u v list places marks count i =
     (i ≤ roots) × (length y ≡ length y₀) × (length u ≡ length u₀) × (length v ≡ length v₀) × (length list ≡ 512) × (length places ≡ 256) × (length marks ≡ 256)
     × Roots (record { words = words; over = record { motion = motion; refs = refs; keep = keep } }) entries (passOf pass) halved top splits (w / 4) (h / 4) i
     (record { y = y₀; u = u₀; v = v₀ }) (record { y = y; u = u; v = v }) count
 
 abbrev μ-loop : tie.MeasureT-loop
-μ-loop format pass halved w h top y₀ u₀ v₀ words splits motion refs keep rows entries size horizontal roots list₀ places₀ marks₀ count₀ i₀ y u v list places marks count i = roots - i
+μ-loop format pass halved w h top y₀ u₀ v₀ words splits motion refs keep rows entries columns horizontal roots list₀ places₀ marks₀ count₀ i₀ y u v list places marks count i = roots - i
 
 -- what decides
 abbrev maps : tie.Start Inv-loop μ-loop → Maps
@@ -34,9 +35,6 @@ size : (s : tie.Start Inv-loop μ-loop) → Sized (s .args .w) (s .args .h)
 size s = sized _ _ (s .pre .1 .size)
 
 -- numbers of a turn, away from the states: there are few roots, and a root has few edges
-few-fit : {n : ℕ} → n ≤ 1024 → Fits w64 n
-few-fit l = omega arith
-
 next-fits : {i n : ℕ} → n ≤ 4096 → i < n → Fits w64 (i + 1)
 next-fits f l = omega arith
 
@@ -54,9 +52,6 @@ pairs-fit l e = omega arith
 
 all-fit : {n k : ℕ} → n ≤ 256 → k ≡ 256 → n ≤ k
 all-fit l e = omega arith
-
-add-t28 : tie.Need-add-t28 Inv-loop μ-loop
-add-t28 c = few-fit (c .before .before .before .before .before .before .before .before .pre .0 .high)
 
 root-count-requires : tie.Need-root-count-requires Inv-loop μ-loop
 root-count-requires c κs = let z = size (c .before .before .before .before .before .before .before .before .before) in (z .wide, z .high)
@@ -114,41 +109,6 @@ places-long c = c .plan-edges .kept .1 .1 .1 .1 .1 .1 .1 .1 .1 .0 ∙ c .before 
 marks-long : (c : tie.After-plan-edges Inv-loop μ-loop) → length (c .plan-edges .last .1 .1 .1 .1 .1 .1 .1 .1 .1 .1 .0) ≡ 256
 marks-long c = c .plan-edges .kept .1 .1 .1 .1 .1 .1 .1 .1 .1 .1 .0 ∙ c .before .before .before .before .before .before .before .before .loop .inv .6
 
-filter-luma-requires : tie.Need-filter-luma-requires Inv-loop μ-loop
-filter-luma-requires c κs =
-    let turn = c .before .before .before .before .before .before .before .before .before .before .before in
-    let s = turn .before .before .before .before .before .before .before .before .before .before .before .before .before .before in
-    let r = turn .root-edges .ensures in
-    let p = plan-of (c .before .before .before .before .before .before) in (
-      luma-plane (current (turn .before .before .before)),
-      record {
-        long = pairs-fit (r .few) (r .long);
-        fits = all-fit (r .few) (places-long (c .before .before .before .before .before .before));
-        fits-marks = all-fit (r .few) (marks-long (c .before .before .before .before .before .before));
-        units = r .units;
-        few = λ k g. plan-few (maps s) (passOf (s .args .pass)) _ _ _ _ _ p (s .pre .0 .qps) k g;
-      },
-      s .pre .0 .long-entries,
-    )
-
-filter-colour-requires : tie.Need-filter-colour-requires Inv-loop μ-loop
-filter-colour-requires c κs =
-    let turn = c .before .before .before .before .before .before .before .before .before .before .before .before .before .before in
-    let s = turn .before .before .before .before .before .before .before .before .before .before .before .before .before .before .before .before .before .before .before in
-    let r = turn .before .before .before .before .before .root-edges .ensures in
-    let p = plan-of turn in (
-      u-plane (current (turn .before .before .before .before .before .before .before .before)),
-      v-plane (current (turn .before .before .before .before .before .before .before .before)),
-      record {
-        long = pairs-fit (r .few) (r .long);
-        fits = all-fit (r .few) (places-long turn);
-        fits-marks = all-fit (r .few) (marks-long turn);
-        units = r .units;
-        few = λ k g. plan-few (maps s) (passOf (s .args .pass)) _ _ _ _ _ p (s .pre .0 .qps) k g;
-      },
-      s .pre .0 .long-entries,
-    )
-
 add-count : tie.Need-add-count Inv-loop μ-loop
 add-count c =
     let after = c .before .before .before .before .before .before .before .before .before .before .before .before in
@@ -175,10 +135,14 @@ loop-again c =
     let s = top .before .before .before .before .before .before .before .before .before .before .before in
     let l = turn .before .before .before .before .before .before .before .before .before .before .before .before .before .before .before .loop in
     let ky = turn .filter-luma .kept in
-    let k = c .before .before .before .before .filter-colour .kept in
+    let k = c .before .before .before .before .filter-chroma .kept in
     let r = turn .before .before .before .before .before .before .before .before .before .before .before .before .root-edges .ensures in
     let p = plan-of (turn .before .before .before .before .before .before .before) in
-    let f = c .before .before .before .before .filter-colour .ensures in (
+    let f = c .before .before .before .before .filter-chroma .ensures in
+    let d = passOf (s .args .pass) in
+    let high = s .args .top + s .args .h / 4 in
+    let now = current top in
+    let alike = u-plane now .long ∙ sym (v-plane now .long) in (
       one-more (turn .before .before .before .before .before .before .before .before .before .before .before .before .before .before .loop-test .taken),
       ky .1 .1 .0 ∙ l .inv .1,
       k .1 .1 .1 .0 ∙ l .inv .2,
@@ -187,7 +151,9 @@ loop-again c =
       places-long (turn .before .before .before .before .before .before .before),
       marks-long (turn .before .before .before .before .before .before .before),
       roots-more _ _ (passOf (s .args .pass)) _ _ _ _ _ (l .i) _ _ _ _ _ _ _ _ _ _ (r .few) (r .same) (s .pre .0 .marks) p (l .inv .7)
-          (turn .filter-luma .ensures) (f .0) (f .1),
+          (luma-by-plan _ d _ high _ _ _ _ (r .few) (r .units) _ _ (luma-plane now) (turn .filter-luma .ensures))
+          (u-by-plan _ d _ high _ _ _ _ (r .few) (r .units) _ _ _ _ _ alike (u-plane now) (f .0))
+          (v-by-plan _ d _ high _ _ _ _ (r .few) (r .units) _ _ _ _ _ alike (v-plane now) (f .1)),
     )
 
 returns : tie.Need-returns Inv-loop μ-loop
@@ -199,18 +165,10 @@ returns c =
 pub deblock-pass-spec : {M : Type 1} → statement M
 deblock-pass-spec =
     tie.close
-    (tie.spec Inv-loop μ-loop add-t28 (λ c κs. search needs) root-count-requires loop-holds
+    (tie.spec Inv-loop μ-loop (λ c κs. search needs) root-count-requires loop-holds
     (λ c. sym (c .before .before .loop .inv .4))
     root-edges-requires
     (λ c. sym (c .before .before .root-edges .ensures .long))
     (λ c. sym (c .before .before .before .before .before .before .loop .inv .5))
     (λ c. sym (c .before .before .before .before .before .before .before .loop .inv .6))
-    (λ c κs. search needs)
-    (λ c. sym (c .before .before .before .before .before .before .before .before .before .root-edges .ensures .long))
-    (λ c. sym (places-long (c .before .before .before .before .before)))
-    (λ c. sym (marks-long (c .before .before .before .before .before .before)))
-    filter-luma-requires
-    (λ c. sym (c .before .before .before .before .before .before .before .before .before .before .before .before .before .before .before .before .before .root-edges .ensures .long))
-    (λ c. sym (places-long (c .before .before .before .before .before .before .before .before .before .before .before .before .before)))
-    (λ c. sym (marks-long (c .before .before .before .before .before .before .before .before .before .before .before .before .before .before)))
-    filter-colour-requires add-count add-i loop-less loop-again (λ c. c .before .loop .inv .1) (λ c. c .before .loop .inv .2) (λ c. c .before .loop .inv .3) returns)
+    (λ c κs. search needs) (λ c κs. tt) (λ c κs. tt) add-count add-i loop-less loop-again (λ c. c .before .loop .inv .1) (λ c. c .before .loop .inv .2) (λ c. c .before .loop .inv .3) returns)

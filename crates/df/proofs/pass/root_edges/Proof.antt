@@ -1,11 +1,11 @@
 -- `df::pass::root_edges` meets its contract: the walk was accepted, so the call lists the root's edges. Assumes nothing.
-use Prim.Native.Nat.{ℕ, _+_, _*_, _/_, _%_, _<_}
+use Prim.Native.Nat.{ℕ, _*_, _/_, _%_, _<_}
 use mathlib.Core.Path.{sym, subst}
 use native.Mathlib.Omega.{arith}
 use borrow.Author.Needs.{needs}
 use Rattle.def.proofs.Sizes.{Sized, sized}
 use Rattle.split.proofs.Roots.{root-column, root-row}
-use Rattle.df.specs.Edges.{passOf}
+use Rattle.edge_filter.specs.Edges.{passOf}
 use Rattle.df.proofs.Listed.{list-met, listed-root}
 use Rattle.df.proofs.pass.root_edges.Statement.{statement}
 use Rattle.df.proofs.pass.root_edges.Tie as tie
