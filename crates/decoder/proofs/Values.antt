@@ -2,11 +2,15 @@
 --     NAME-once    over the contract as the checker reads it from the source: the arguments determine the answer
 -- Assumes nothing.
 use Prim.Native.Nat.{ℕ}
-use mathlib.Core.Path.{sym, ap, _∙_}
-use mathlib.Core.List.{[], _∷_}
+use mathlib.Core.Bool.{Bool}
+use mathlib.Core.Path.{_≡_, sym, ap, _∙_}
+use mathlib.Core.List.{List, [], _∷_}
 use denote.Ref.{now}
 use lib.IntN.{natAbs}
 use Rattle.chroma_qp_check.proofs.Offsets.{qp-apart}
+use Rattle.line.specs.declared.Mask.{Mask}
+use Rattle.window.specs.declared.Place.{Place}
+use Rattle.window.specs.Window.{windowOf}
 use Rattle.edge_filter.proofs.Passes.{pass-apart}
 use Rattle.unit_maps.specs.Maps.{mapsOf}
 use Rattle.edge_place.specs.Plans.{listsOf}
@@ -234,11 +238,17 @@ pub lanes-by-halves-once : Sole 0 lanes-by-halves-kinds.ps lanes-by-halves-kinds
 lanes-by-halves-once κs a r r′ x x′ p q = p ∙ sym q
 
 -- the lines of an edge: they answer nothing, and the planes are determined
+-- what is left of a plane, by the answer
+window-same : {r r′ : Bool} → r ≡ r′ → (m : Mask) (st : ℕ → ℕ) (p : Place) (n : ℕ) (xs ys ys′ : List ℕ) → ys ≡ windowOf r m st p n xs → ys′ ≡ windowOf r′ m st p n xs → ys ≡ ys′
+window-same e m st p n xs ys ys′ f g = f ∙ (λ i. windowOf (e i) m st p n xs) ∙ sym g
+
 pub window-luma-once : Sole 1 window-luma-kinds.ps window-luma-kinds.r window-luma-reads.Post (λ κs r x. now (x .0))
 window-luma-once κs a r r′ x x′ p q = p ∙ sym q
 
-pub window-luma-two-once : Sole 1 window-luma-two-kinds.ps window-luma-two-kinds.r window-luma-two-reads.Post (λ κs r x. now (x .0))
-window-luma-two-once κs a r r′ x x′ p q = p ∙ sym q
+pub window-luma-two-once : Sole 1 window-luma-two-kinds.ps window-luma-two-kinds.r window-luma-two-reads.Post {O = Bool × List ℕ} (λ κs r x. (r, now (x .0)))
+window-luma-two-once κs a r r′ x x′ p q =
+    let e = p .0 ∙ sym (q .0) in
+    λ i. (e i, window-same e _ _ _ _ _ _ _ (p .1) (q .1) i)
 
 pub window-kept-once : Sole 1 window-kept-kinds.ps window-kept-kinds.r window-kept-reads.Post (λ κs r x. now (x .0))
 window-kept-once κs a r r′ x x′ p q = p ∙ sym q
@@ -246,8 +256,10 @@ window-kept-once κs a r r′ x x′ p q = p ∙ sym q
 pub window-chroma-once : Sole 2 window-chroma-kinds.ps window-chroma-kinds.r window-chroma-reads.Post (λ κs r x. now (x .0) ∷ now (x .1 .0) ∷ [])
 window-chroma-once κs a r r′ x x′ p q = λ i. (p .0 ∙ sym (q .0)) i ∷ (p .1 ∙ sym (q .1)) i ∷ []
 
-pub window-chroma-two-once : Sole 2 window-chroma-two-kinds.ps window-chroma-two-kinds.r window-chroma-two-reads.Post (λ κs r x. now (x .0) ∷ now (x .1 .0) ∷ [])
-window-chroma-two-once κs a r r′ x x′ p q = λ i. (p .0 ∙ sym (q .0)) i ∷ (p .1 ∙ sym (q .1)) i ∷ []
+pub window-chroma-two-once : Sole 2 window-chroma-two-kinds.ps window-chroma-two-kinds.r window-chroma-two-reads.Post {O = Bool × List (List ℕ)} (λ κs r x. (r, now (x .0) ∷ now (x .1 .0) ∷ []))
+window-chroma-two-once κs a r r′ x x′ p q =
+    let e = p .0 ∙ sym (q .0) in
+    λ i. (e i, window-same e _ _ _ _ _ _ _ (p .1) (q .1) i ∷ window-same e _ _ _ _ _ _ _ (p .2) (q .2) i ∷ [])
 
 pub entries-once : Sole 3 entries-kinds.ps entries-kinds.r entries-reads.Post (λ κs r x. r)
 entries-once κs a r r′ x x′ p q = p ∙ sym q

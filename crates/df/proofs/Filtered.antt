@@ -5,11 +5,12 @@
 use Prim.Native.Nat.{ℕ, zero, suc, _+_, _*_, _/_, _≤_, _<_}
 use mathlib.Core.Bool.{Bool, true}
 use mathlib.Core.List.{List}
-use mathlib.Core.Path.{_≡_, refl, ap, _∙_}
+use mathlib.Core.Path.{_≡_, refl, sym, ap, _∙_}
+use native.Mathlib.Decide.{decLt}
 use native.Mathlib.Omega.{arith}
-use borrow.Author.Tests.{eqb-true, eq-eqb, lt-ltb, le-leb}
-use lib.Dec.{eqb}
-use lib.ListN.{length, getD}
+use borrow.Author.Tests.{eqb-true, eq-eqb, lt-ltb, le-ltb, le-leb}
+use lib.Dec.{eqb, ltb}
+use lib.ListN.{length, getD, List·getD-eq-default}
 use Rattle.laws.specs.Index.{pick}
 use Rattle.def.specs.declared.Component.{Component}
 use Rattle.def.specs.declared.Component.the-variants.{Luma, Chroma}
@@ -23,8 +24,8 @@ use Rattle.df_rules.specs.Places.{unitSide}
 use Rattle.df_rules.proofs.Edges.{Spot, spot}
 use Rattle.df_rules.proofs.Windows.{untouched}
 use Rattle.window.specs.Window.{lastOf, inside, lies}
-use Rattle.edge_filter.specs.Edges.{placeOf, crossIn, alongIn, inComponent, placeFrom}
-use Rattle.edge_filter.specs.Filter.{maskBy, strengthIn, quietLuma, quietChroma, edgeOf, filterBy, countLuma, countChroma}
+use Rattle.edge_filter.specs.Edges.{linesPlace, crossIn, alongIn, inComponent, placeFrom}
+use Rattle.edge_filter.specs.Filter.{maskBy, strengthAt, strengthIn, quietLuma, quietChroma, edgeOf, filterBy, countLuma, countChroma}
 use Rattle.df.specs.Plan.{edgeFrom, filterIn, PlaneOf, ColourOf, At}
 use Rattle.df.proofs.Edges.{lie, edge-by}
 use Rattle.df.proofs.Plans.{at-cross, plan-stays, plan-empty}
@@ -54,7 +55,7 @@ module _ (c : Component) (d : Pass) (w h : ℕ) (l : List ℕ) where
       let z = alongIn d l i in
       let s = spot d w h x z (p .wide) (p .high) u in
       let q = placeFrom c d w l i in
-      let e : q ≡ placeOf d (m * w) (m * (x / 4)) (m * (z / 4)) = λ j. placeOf d (m * w) (across-in c s j) (along-in c s j) in
+      let e : q ≡ linesPlace d (m * w) (m * (x / 4)) (m * (z / 4)) = λ j. linesPlace d (m * w) (across-in c s j) (along-in c s j) in
       let g = lie m w h (two-side c) d (x / 4) (z / 4) q e (s .inner) (s .across) (s .along) in
       let within : lastOf q m < length xs = rw (p .long) (g .within) in
       let so : pick (eqb k 0) (lies q m (length xs)) (inside q m (length xs)) ≡ true
@@ -64,7 +65,15 @@ module _ (c : Component) (d : Pass) (w h : ℕ) (l : List ℕ) where
 
 -- ---- a list's edges
 
-module _ (quiet : ℕ → Bool) (t : List ℕ) (first : ℕ) (c : Component) (d : Pass) (w h : ℕ) (l places marks : List ℕ)
+-- an entry is four times what the table has, and there is none past its 624
+strength-by : (t : List ℕ) (k : ℕ) → length t ≡ 624 → strengthAt t k ≡ 4 * getD t k 0
+unfolding strengthAt
+strength-by t k h = go (decLt k 624) where
+  go : Dec (k < 624) → pick (ltb k 624) (4 * getD t k 0) 0 ≡ 4 * getD t k 0
+  go (yes m) = rw (lt-ltb k 624 m) refl
+  go (no m) = rw (le-ltb k 624 (omega arith)) (ap (λ (n : ℕ). 4 * n) (sym (List·getD-eq-default t 0 (omega (arith, h)))))
+
+module _ (quiet : ℕ → Bool) (t : List ℕ) (long : length t ≡ 624) (first : ℕ) (c : Component) (d : Pass) (w h : ℕ) (l places marks : List ℕ)
     (none : (i : ℕ) → quiet i ≡ true → strengthIn t first places i ≡ 0) where
   abbrev planned : ℕ → List ℕ → List ℕ
   planned n xs = filterIn t first c d w l places marks n xs
@@ -75,16 +84,17 @@ module _ (quiet : ℕ → Bool) (t : List ℕ) (first : ℕ) (c : Component) (d 
   by-plan zero xs p u = refl
   by-plan (suc n) xs p u =
       let k = getD marks n 0 in
-      let st = strengthIn t first places n in
+      let e = strength-by t (first + getD places n 0) long in
+      let st = 4 * getD t (first + getD places n 0) 0 in
       let ys = planned n xs in
-      ap (λ (zs : List ℕ). pick (quiet n) zs (edgeOf c k st (placeFrom c d w l n) zs)) (by-plan n xs p (λ j i. u j (omega arith)))
+      (λ j. pick (quiet n) (by-plan n xs p (λ m i. u m (omega arith)) j) (edgeOf c k (e j) (placeFrom c d w l n) (by-plan n xs p (λ m i. u m (omega arith)) j)))
       ∙ test (quiet n)
-      (λ b. rw b (untouched _ st _ _ _ _ ys (none n b)))
+      (λ b. rw b (untouched _ st _ _ _ _ ys (sym e ∙ none n b)))
       (λ b. rw b (edge-in-picture c d w h l n k st ys (plan-stays t first c d w l places marks (unitSide c) h n xs p) (u n (omega arith))))
 
 -- ---- what the calls leave: n edges of a list that has no more than 256
 
-module _ (t : List ℕ) (d : Pass) (w h : ℕ) (l places marks : List ℕ) (n : ℕ) (few : n ≤ 256)
+module _ (t : List ℕ) (long : length t ≡ 624) (d : Pass) (w h : ℕ) (l places marks : List ℕ) (n : ℕ) (few : n ≤ 256)
     (units : (k : ℕ) → k < n → At d w h (getD l (2 * k) 0) (getD l (2 * k + 1) 0)) where
   counted : w ≤ 1024 → countLuma w n ≡ n
   unfolding countLuma
@@ -93,7 +103,7 @@ module _ (t : List ℕ) (d : Pass) (w h : ℕ) (l places marks : List ℕ) (n : 
   pub luma-by-plan : (xs ys : List ℕ) → PlaneOf 4 w h xs → ys ≡ filterBy (quietLuma t places) t 0 Luma d w l places marks (countLuma w n) xs → ys ≡ filterIn t 0 Luma d w l places marks n xs
   luma-by-plan xs ys p e =
       e ∙ ap (λ (k : ℕ). filterBy (quietLuma t places) t 0 Luma d w l places marks k xs) (counted (p .wide))
-      ∙ by-plan (quietLuma t places) t 0 Luma d w h l places marks (λ i b. eqb-true _ _ b) n xs p units
+      ∙ by-plan (quietLuma t places) t long 0 Luma d w h l places marks (λ i b. eqb-true _ _ b) n xs p units
 
   module _ (first : ℕ) (none : (i : ℕ) → quietChroma t places i ≡ true → strengthIn t first places i ≡ 0) where
     chroma-by-plan : (f : Format) (lu lv : ℕ) (xs ys : List ℕ) → lu ≡ lv → ColourOf f w h xs
@@ -103,7 +113,7 @@ module _ (t : List ℕ) (d : Pass) (w h : ℕ) (l places marks : List ℕ) (n : 
     chroma-by-plan Colour lu lv xs ys s p e =
         let one : pick (eqb lu lv) (countLuma w n) 0 ≡ n = rw (eq-eqb lu lv s) (counted (p .wide)) in
         e ∙ ap (λ (k : ℕ). filterBy (quietChroma t places) t first Chroma d w l places marks k xs) one
-        ∙ by-plan (quietChroma t places) t first Chroma d w h l places marks none n xs (record { wide = p .wide; high = p .high; long = p .long; all = p .all }) units
+        ∙ by-plan (quietChroma t places) t long first Chroma d w h l places marks none n xs (record { wide = p .wide; high = p .high; long = p .long; all = p .all }) units
 
   -- U's and V's
   pub u-by-plan : (f : Format) (lu lv : ℕ) (xs ys : List ℕ) → lu ≡ lv → ColourOf f w h xs

@@ -54,7 +54,7 @@ pub(crate) fn band_passes(
     motion: &[i16],
     refs: &[i8],
     keep: &[u8],
-    entries: &[u8],
+    entries: &[u8; 624],
 ) -> Counts
     requires { ⌜ LentPicture format (w / 4) (top + h / 4) (drop (16 * (skip * (w / 4))) (now y)) (drop (inFormat format (4 * (skip * (w / 4)))) (now u)) (drop (inFormat format (4 * (skip * (w / 4)))) (now v)) (drop (skip * (w / 4)) (now words)) (record { motion = drop (4 * (skip * (w / 4))) (now motion); refs = drop (2 * (skip * (w / 4))) (now refs); keep = drop (skip * (w / 4)) (now keep) }) (now entries)
         × Accepted w h (now splits) ⌝ }

@@ -1,15 +1,16 @@
 -- Where the lines of two edges lie, the second's right after the first's.
---     two-beside, two-below    side by side, and below each other: they lie in the plane, all of them and each edge's, and share no place
+--     lines-apart    those that `window` takes of two edges lie in the plane, each edge's, and share no place
 --     next-place    the place of an edge that follows
 -- Assumes nothing.
 use Prim.Native.Nat.{ℕ, _+_, _-_, _*_, _≤_, _<_}
-use mathlib.Core.Bool.{true}
+use mathlib.Core.Bool.{Bool, true, false, _&&_, _||_}
 use mathlib.Core.List.{List}
 use mathlib.Core.Path.{_≡_, refl, sym, ap, _∙_, subst}
-use native.Mathlib.Nat.{add-mul, mul-le-mul-right}
+use native.Mathlib.Nat.{add-mul, mul-one, mul-le-mul-right}
 use native.Mathlib.Omega.{arith}
-use borrow.Author.Tests.{lt-ltb, eq-eqb, le-leb}
-use Rattle.laws.proofs.Bools.{or-true}
+use borrow.Author.Tests.{lt-ltb, eq-eqb, le-leb, leb-true}
+use lib.Dec.{leb}
+use Rattle.laws.proofs.Bools.{both-left, both-right, or-true}
 use Rattle.def.specs.Components.{unitSide}
 use Rattle.def.specs.declared.Component.{Component}
 use Rattle.def.specs.declared.Component.the-variants.{Luma, Chroma}
@@ -18,8 +19,9 @@ use Rattle.df_rules.specs.Lanes.{Apart}
 use Rattle.df_rules.specs.Places.{stepAcross, stepAlong}
 use Rattle.df_rules.proofs.Lanes.{apart-ver, apart-hor}
 use Rattle.window.specs.declared.Place.{Place}
-use Rattle.window.specs.Window.{lastOf, byRows, byHalves, lies}
-use Rattle.edge_filter.specs.Edges.{placeOf, crossIn, alongIn, inComponent, placeFrom}
+use Rattle.window.specs.Window.{lastOf, byRows, byHalves, lies, liesApart}
+use Rattle.window.proofs.Places.{rows-at, halves-at}
+use Rattle.edge_filter.specs.Edges.{linesPlace, crossIn, alongIn, inComponent, placeFrom}
 use Rattle.edge_filter.specs.Turns.{Follows, Two}
 
 -- ---- lines that lie as `window` takes them
@@ -34,34 +36,47 @@ below-lie p n long l e = rw (lt-ltb (lastOf p n) long l, eq-eqb (p .step) 1 e) (
 
 -- ---- those of two edges, m of each
 
-module _ (p : Place) (m long : ℕ) (some : 1 ≤ m) (l : lastOf p (m + m) < long) where
+module _ (p : Place) (m long : ℕ) (some : 1 ≤ m) where
   abbrev second : Place
   second = record { at = p .at + m * p .next; step = p .step; next = p .next }
 
-  first-in : lastOf p m < long
-  first-in = let k : (m - 1) * p .next ≤ (m + m - 1) * p .next = mul-le-mul-right (p .next) (omega arith) in omega arith
+  first-in : lastOf p (m + m) < long → lastOf p m < long
+  first-in l = let k : (m - 1) * p .next ≤ (m + m - 1) * p .next = mul-le-mul-right (p .next) (omega arith) in omega arith
 
-  second-in : lastOf second m < long
-  second-in =
+  second-in : lastOf p (m + m) < long → lastOf second m < long
+  second-in l =
       let e : m + m - 1 ≡ m + (m - 1) = omega arith in
       let k : (m + m - 1) * p .next ≡ m * p .next + (m - 1) * p .next = ap (λ (n : ℕ). n * p .next) e ∙ add-mul m (m - 1) (p .next) in
       omega arith
 
-  pub two-beside : p .next ≡ 1 → m + m ≤ p .step → Two p m long
-  two-beside e h = record {
-    apart = subst (λ (k : ℕ). Apart (p .step) k (m + m)) (sym e) (apart-hor (p .step) (m + m) h);
-    both = beside-lie p (m + m) long l e h;
-    first = beside-lie p m long first-in e (omega arith);
-    second = beside-lie second m long second-in e (omega arith);
-  }
+  beside : byRows p (m + m) long ≡ true → Two p m long
+  beside t =
+      let b = rows-at p (m + m) long (omega arith) t in
+      let e : (m + m - 1) * p .next ≡ m + m - 1 = ap (λ (k : ℕ). (m + m - 1) * k) (b .beside) ∙ mul-one (m + m - 1) in
+      let l : lastOf p (m + m) < long = omega (arith, b .within) in
+      record {
+        apart = subst (λ (k : ℕ). Apart (p .step) k (m + m)) (sym (b .beside)) (apart-hor (p .step) (m + m) (b .room));
+        first = beside-lie p m long (first-in l) (b .beside) (omega (arith, b .room));
+        second = beside-lie second m long (second-in l) (b .beside) (omega (arith, b .room));
+      }
 
-  pub two-below : p .step ≡ 1 → 4 ≤ p .next → Two p m long
-  two-below e h = record {
-    apart = subst (λ (k : ℕ). Apart k (p .next) (m + m)) (sym e) (apart-ver (p .next) (m + m) h);
-    both = below-lie p (m + m) long l e;
-    first = below-lie p m long first-in e;
-    second = below-lie second m long second-in e;
-  }
+  below : (byHalves p (m + m) long && leb 4 (p .next)) ≡ true → Two p m long
+  below t =
+      let b = halves-at p (m + m) long (both-left _ _ t) in
+      let l : lastOf p (m + m) < long = omega (arith, b .within, b .below) in
+      record {
+        apart = subst (λ (k : ℕ). Apart k (p .next) (m + m)) (sym (b .below)) (apart-ver (p .next) (m + m) (leb-true 4 (p .next) (both-right (byHalves p (m + m) long) _ t)));
+        first = below-lie p m long (first-in l) (b .below);
+        second = below-lie second m long (second-in l) (b .below);
+      }
+
+  either : (a b : Bool) → (a ≡ true → Two p m long) → (b ≡ true → Two p m long) → (a || b) ≡ true → Two p m long
+  either true b f g e = f e
+  either false b f g e = g e
+
+  pub lines-apart : liesApart p (m + m) long ≡ true → Two p m long
+  unfolding liesApart
+  lines-apart t = either (byRows p (m + m) long) (byHalves p (m + m) long && leb 4 (p .next)) beside below t
 
 -- ---- the edge that follows
 
@@ -78,6 +93,6 @@ next-place c d w l marks i j g =
     let z = inComponent c (alongIn d l i) in
     let s = stepAlong d wide in
     let e : (z + unitSide c) * s + (x - 2) * stepAcross d wide ≡ z * s + (x - 2) * stepAcross d wide + unitSide c * s = omega (arith, add-mul z (unitSide c) s) in
-    (λ k. placeOf d wide (inComponent c (g .across k)) (inComponent c (g .along k)))
-    ∙ (λ k. placeOf d wide x (side-on c (alongIn d l i) k))
+    (λ k. linesPlace d wide (inComponent c (g .across k)) (inComponent c (g .along k)))
+    ∙ (λ k. linesPlace d wide x (side-on c (alongIn d l i) k))
     ∙ (λ k. record { at = e k; step = stepAcross d wide; next = s })

@@ -2,10 +2,11 @@
 --     edge-bare, edge-kept    an edge by its marks
 --     none-done    before the first turn
 --     turn-quiet, turn-edge, turn-pair    a turn that leaves an edge, that filters one, and that filters two at once
+--     pair-none, pair-tried    two edges that are not tried at once, and that are; pair-left    those that were not filtered
 --     count-wide, .. , count-unlike    how many edges are filtered
 -- Assumes nothing.
 use Prim.Native.Nat.{ℕ, _+_, _*_, _≤_, _<_, min}
-use mathlib.Core.Bool.{Bool, true, false}
+use mathlib.Core.Bool.{Bool, true, false, not, _||_}
 use mathlib.Core.List.{List}
 use mathlib.Core.Path.{_≡_, refl, sym, ap, _∙_, subst}
 use native.Mathlib.Decide.{decLt}
@@ -13,8 +14,10 @@ use native.Mathlib.Numerals.{add-one}
 use native.Mathlib.Omega.{arith}
 use borrow.Author.Tests.{eq-eqb, ne-eqb, le-leb, lt-leb}
 use lib.ListN.{length, getD}
+use Rattle.laws.specs.Index.{pick}
 use Rattle.def.specs.Components.{unitSide}
 use Rattle.def.specs.declared.Component.{Component}
+use Rattle.def.specs.declared.Component.the-variants.{Luma, Chroma}
 use Rattle.def.specs.declared.Format.{Format}
 use Rattle.def.specs.declared.Format.the-variants.{Grey, Colour}
 use Rattle.line.specs.declared.Mask.{Mask}
@@ -22,13 +25,13 @@ use Rattle.line.specs.Line.{maskOf}
 use Rattle.split.specs.Edges.{Pass}
 use Rattle.window.specs.declared.Place.{Place}
 use Rattle.window.specs.Lines.{linesOf}
-use Rattle.window.specs.Window.{inside, lies, twice, windowOf}
+use Rattle.window.specs.Window.{inside, lies, liesApart, twice, windowOf}
 use Rattle.window.proofs.Rows.{lines-long}
 use Rattle.window.proofs.Windows.{two-lines}
 use Rattle.edge_filter.specs.Edges.{alongIn, placeFrom}
 use Rattle.edge_filter.specs.Filter.{maskBy, strengthIn, edgeOf, filterBy, countLuma, countChroma}
-use Rattle.edge_filter.specs.Turns.{Follows, Two, Turned}
-use Rattle.edge_filter.proofs.Places.{next-place}
+use Rattle.edge_filter.specs.Turns.{Follows, Two, Paired, Turned}
+use Rattle.edge_filter.proofs.Places.{lines-apart, next-place}
 
 -- ---- one edge, by its marks
 
@@ -55,25 +58,60 @@ module _ (c : Component) where
   unfolding linesOf
   lines-as-long st p n xs = lines-long (maskOf c false false) _ (p .step) (p .next) (p .at) n xs
 
-  whole : (st : ℕ → ℕ) (p : Place) (n long : ℕ) (xs : List ℕ) → lies p n long ≡ true
-      → windowOf (lies p n long) (maskOf c false false) st p n xs ≡ linesOf (maskOf c false false) st (p .step) (p .next) (p .at) n xs
+  whole : (r : Bool) (st : ℕ → ℕ) (p : Place) (n : ℕ) (xs : List ℕ) → r ≡ true
+      → windowOf r (maskOf c false false) st p n xs ≡ linesOf (maskOf c false false) st (p .step) (p .next) (p .at) n xs
   unfolding windowOf
-  whole st p n long xs t = rw t refl
+  whole r st p n xs t = rw t refl
 
   -- q: the second's place
-  edge-two : (s₀ s₁ : ℕ) (p q : Place) (long : ℕ) (xs ys : List ℕ) → Two p (unitSide c) (length xs) → q ≡ record { at = p .at + unitSide c * p .next; step = p .step; next = p .next }
-      → long ≡ length xs → ys ≡ windowOf (lies p (unitSide c + unitSide c) long) (maskOf c false false) (twice (unitSide c) s₀ s₁) p (unitSide c + unitSide c) xs
+  edge-two : (s₀ s₁ : ℕ) (p q : Place) (r : Bool) (xs ys : List ℕ) → Two p (unitSide c) (length xs) → q ≡ record { at = p .at + unitSide c * p .next; step = p .step; next = p .next }
+      → r ≡ true → ys ≡ windowOf r (maskOf c false false) (twice (unitSide c) s₀ s₁) p (unitSide c + unitSide c) xs
       → ys ≡ edgeOf c 0 s₁ q (edgeOf c 0 s₀ p xs)
-  edge-two s₀ s₁ p q long xs ys g e l w =
+  edge-two s₀ s₁ p q r xs ys g e u w =
       let n = unitSide c in
       let m = maskOf c false false in
       let zs = linesOf m (λ (j : ℕ). s₀) (p .step) (p .next) (p .at) n xs in
-      let r : Place = record { at = p .at + n * p .next; step = p .step; next = p .next } in
-      let t : lies r n (length zs) ≡ true = ap (lies r n) (lines-as-long (λ (j : ℕ). s₀) p n xs) ∙ g .second in
-      w ∙ whole (twice n s₀ s₁) p (n + n) long xs (ap (lies p (n + n)) l ∙ g .both)
+      let o : Place = record { at = p .at + n * p .next; step = p .step; next = p .next } in
+      let t : lies o n (length zs) ≡ true = ap (lies o n) (lines-as-long (λ (j : ℕ). s₀) p n xs) ∙ g .second in
+      w ∙ whole r (twice n s₀ s₁) p (n + n) xs u
       ∙ two-lines m s₀ s₁ (p .step) (p .next) (p .at) n xs (g .apart)
-      ∙ sym (bare-lines s₁ r zs t)
+      ∙ sym (bare-lines s₁ o zs t)
       ∙ sym (λ k. edgeOf c 0 s₁ (e k) (bare-lines s₀ p xs (g .first) k))
+
+-- ---- and tried at once
+
+never : false ≡ true → ⊥
+never t = omega (arith, ap {B = ℕ} (λ (b : Bool). pick b 1 0) t)
+
+pub neither-not : (a b : Bool) → (not a || not b) ≡ false → (a ≡ true) × (b ≡ true)
+neither-not true true e = (refl, refl)
+neither-not true false e = (refl, sym e)
+neither-not false b e = (sym e, cc)
+
+side-some : (c : Component) → 1 ≤ unitSide c
+side-some Luma = omega arith
+side-some Chroma = omega arith
+
+module _ (c : Component) (d : Pass) (l marks : List ℕ) (i j : ℕ) (p : Place) (s₀ s₁ : ℕ) (xs : List ℕ) where
+  pub pair-none : (loud : Bool) → Paired loud c d l marks i j p s₀ s₁ false xs xs
+  unfolding windowOf
+  pair-none loud = record { heard = λ t. cc; next = λ t. absurd (never t); two = λ t. absurd (never t); lines = refl }
+
+  pub pair-tried : (loud : Bool) → loud ≡ true → Follows d l marks i j → (long : ℕ) → long ≡ length xs → (r : Bool) → r ≡ liesApart p (unitSide c + unitSide c) long
+      → (ys : List ℕ) → ys ≡ windowOf r (maskOf c false false) (twice (unitSide c) s₀ s₁) p (unitSide c + unitSide c) xs
+      → Paired loud c d l marks i j p s₀ s₁ r xs ys
+  pair-tried loud h g long z r e ys w = record {
+    heard = λ t. h;
+    next = λ t. g;
+    two = λ t. lines-apart p (unitSide c) (length xs) (side-some c) (ap (liesApart p (unitSide c + unitSide c)) (sym z) ∙ sym e ∙ t);
+    lines = w;
+  }
+
+-- where they were not filtered the plane is as it was, and edge i follows alone
+pub pair-left : {loud : Bool} {c : Component} {d : Pass} {l marks : List ℕ} {i j s₀ s₁ : ℕ} {p : Place} {r : Bool} {xs ys : List ℕ}
+    → r ≡ false → Paired loud c d l marks i j p s₀ s₁ r xs ys → ys ≡ xs
+unfolding windowOf
+pair-left e z = z .lines ∙ rw e refl
 
 -- ---- turns
 
@@ -108,16 +146,18 @@ module _ (quiet : ℕ → Bool) (t : List ℕ) (first : ℕ) (c : Component) (d 
     done = λ zs. more i xs ys zs q (s ∙ (λ k. edgeOf c (getD marks i 0) (e k) (f k) xs));
   }
 
-  pub turn-pair : (n i j s₀ s₁ long : ℕ) (p : Place) (xs ys : List ℕ) → i ≤ j → j ≤ i + 1 → j < n → quiet i ≡ false → quiet j ≡ false
-      → s₀ ≡ strengthIn t first places i → s₁ ≡ strengthIn t first places j → p ≡ placeFrom c d w l i → Follows d l marks i j → Two p (unitSide c) (length xs)
-      → long ≡ length xs → ys ≡ windowOf (lies p (unitSide c + unitSide c) long) (maskOf c false false) (twice (unitSide c) s₀ s₁) p (unitSide c + unitSide c) xs
+  pub turn-pair : (loud : Bool) (n i j s₀ s₁ : ℕ) (p : Place) (r : Bool) (xs ys : List ℕ) → i ≤ j → j ≤ i + 1 → j < n → quiet i ≡ false → (loud ≡ true → quiet j ≡ false)
+      → s₀ ≡ strengthIn t first places i → s₁ ≡ strengthIn t first places j → p ≡ placeFrom c d w l i → r ≡ true → Paired loud c d l marks i j p s₀ s₁ r xs ys
       → Turned quiet t first c d w l places marks n i (j + 1) xs ys
-  turn-pair n i j s₀ s₁ long p xs ys a b h q₀ q₁ e₀ e₁ f g two z s = go (decLt i j) where
+  turn-pair loud n i j s₀ s₁ p r xs ys a b h q₀ q₁ e₀ e₁ f u z = go (decLt i j) where
+    g : Follows d l marks i j
+    g = z .next u
+
     next : placeFrom c d w l j ≡ record { at = p .at + unitSide c * p .next; step = p .step; next = p .next }
     next = next-place c d w l marks i j g ∙ sym (λ k. record { at = f k .at + unitSide c * f k .next; step = f k .step; next = f k .next })
 
     both : ys ≡ own j (own i xs)
-    both = edge-two c s₀ s₁ p (placeFrom c d w l j) long xs ys two next z s
+    both = edge-two c s₀ s₁ p (placeFrom c d w l j) r xs ys (z .two u) next u (z .lines)
         ∙ (λ k. edgeOf c (sym (g .next-unmarked) k) (e₁ k) (placeFrom c d w l j) (edgeOf c (sym (g .unmarked) k) (e₀ k) (f k) xs))
 
     -- edge i does not follow itself
@@ -130,7 +170,7 @@ module _ (quiet : ℕ → Bool) (t : List ℕ) (first : ℕ) (c : Component) (d 
         record {
           on = omega arith;
           within = omega arith;
-          done = λ zs e. more j (own i xs) ys zs q₁ both (subst (λ (k : ℕ). own i xs ≡ by k zs) (sym y) (more i xs (own i xs) zs q₀ refl e));
+          done = λ zs e. more j (own i xs) ys zs (q₁ (z .heard u)) both (subst (λ (k : ℕ). own i xs ≡ by k zs) (sym y) (more i xs (own i xs) zs q₀ refl e));
         }
     go (no m) = absurd (never (omega arith))
 

@@ -18,8 +18,8 @@ abbrev pub passOf : code.Pass → Pass
 passOf Vertical = vertical
 passOf Horizontal = horizontal
 
-abbrev pub placeOf : Pass → (wide c a : ℕ) → Place
-placeOf d wide c a = record { at = lineStart d wide c a; step = stepAcross d wide; next = stepAlong d wide }
+abbrev pub linesPlace : Pass → (wide c a : ℕ) → Place
+linesPlace d wide c a = record { at = lineStart d wide c a; step = stepAcross d wide; next = stepAlong d wide }
 
 -- edge i of a list: where Q's first luma sample lies across the pass's edges, and along them
 abbrev pub crossIn : Pass → (l : List ℕ) → ℕ → ℕ
@@ -35,4 +35,4 @@ inComponent Chroma k = k / 2
 
 -- where its lines lie in a component, in a picture of w columns of units
 abbrev pub placeFrom : Component → Pass → (w : ℕ) → (l : List ℕ) → ℕ → Place
-placeFrom c d w l i = placeOf d (unitSide c * w) (inComponent c (crossIn d l i)) (inComponent c (alongIn d l i))
+placeFrom c d w l i = linesPlace d (unitSide c * w) (inComponent c (crossIn d l i)) (inComponent c (alongIn d l i))

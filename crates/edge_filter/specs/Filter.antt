@@ -3,7 +3,7 @@
 use Prim.Native.Nat.{ℕ, zero, suc, _+_, _*_, _/_, _%_, min}
 use mathlib.Core.Bool.{Bool, _&&_}
 use mathlib.Core.List.{List}
-use lib.Dec.{eqb, leb}
+use lib.Dec.{eqb, leb, ltb}
 use lib.ListN.{length, getD}
 use Rattle.laws.specs.Index.{pick}
 use Rattle.def.specs.Components.{unitSide}
@@ -21,9 +21,13 @@ use Rattle.edge_filter.specs.Edges.{placeFrom}
 abbrev pub maskBy : Component → (marks : ℕ) → Mask
 maskBy c k = maskOf c (eqb (k % 2) 1) (eqb (k / 2) 1)
 
--- the strength of edge i, by the place of it in a plane's entries. first: where these start
+-- the strength at entry k of a table, which has 624: none past them
+unfoldable pub strengthAt : (t : List ℕ) → ℕ → ℕ
+strengthAt t k = pick (ltb k 624) (4 * getD t k 0) 0
+
+-- that of edge i, by the place of it in a plane's entries. first: where these start
 abbrev pub strengthIn : (t : List ℕ) → (first : ℕ) → (places : List ℕ) → ℕ → ℕ
-strengthIn t first places i = 4 * getD t (first + getD places i 0) 0
+strengthIn t first places i = strengthAt t (first + getD places i 0)
 
 -- without one an edge is left: in luma, and in chroma where neither plane has one
 abbrev pub quietLuma : (t places : List ℕ) → ℕ → Bool

@@ -4,11 +4,11 @@
 ghost use mathlib.Core.Path.{_≡_};
 ghost use mathlib.Core.Bool.{true};
 ghost use Prim.Native.Nat.{_+_, _*_, _≤_, _<_};
-ghost use lib.ListN.{length, getD};
+ghost use lib.ListN.{length};
 ghost use Rattle.def.specs.declared.Component.the-variants.{Luma, Chroma};
 ghost use Rattle.edge_filter.specs.Edges.{passOf};
-ghost use Rattle.edge_filter.specs.Filter.{maskBy, quietLuma, quietChroma, edgeOf, filterBy, countLuma, countChroma};
-ghost use Rattle.edge_filter.specs.Turns.{Follows, Two, Turned};
+ghost use Rattle.edge_filter.specs.Filter.{maskBy, strengthAt, quietLuma, quietChroma, edgeOf, filterBy, countLuma, countChroma};
+ghost use Rattle.edge_filter.specs.Turns.{Follows, Paired, Turned};
 use crate::place::along_at;
 use crate::place::chroma_place;
 use crate::place::cross_at;
@@ -35,16 +35,12 @@ fn four_times(x: u8) -> u16
 }
 
 // The strength at a place of a plane's entries, which start at `first`: luma's 208 come first, then U's and V's. Past the entries it is 0.
-fn strength_at(entries: &[u8], first: usize, place: u8) -> u16
+fn strength_at(entries: &[u8; 624], first: usize, place: u8) -> u16
     requires { ⌜ first ≤ 416 ⌝ }
-    ensures { λ r. ⌜ r ≡ 4 * getD (now (entries .entry)) (first + place) 0 ⌝ }
+    ensures { λ r. ⌜ r ≡ strengthAt (now (entries .entry)) (first + place) ⌝ }
 {
     let k = first + place as usize;
-    if k < entries.len() {
-        four_times(entries[k])
-    } else {
-        0
-    }
+    if k < 624 { four_times(entries[k]) } else { 0 }
 }
 
 // What is written of an edge with these marks: P's, and twice Q's.
@@ -102,43 +98,53 @@ fn follows(pass: Pass, list: &[u16; 512], marks: &[u8; 256], i: usize, j: usize)
     bare & same & (along_at(pass, list, j) == along_at(pass, list, i) + 4)
 }
 
-fn wide(x: u32) -> usize
-    ensures { λ r. ⌜ (r ≡ x) × (r ≤ 4294967295) ⌝ }
-{
-    x as usize
-}
-
-// Whether the lines of both, m of each from p on, lie in a plane of `long` samples and share no place.
-fn lie_apart(p: Place, m: usize, long: usize) -> bool
-    requires { ⌜ (1 ≤ m) × (m ≤ 4) ⌝ }
-    ensures { λ r. ⌜ (r ≡ true → Two p m long) ⌝ }
-{
-    let step = wide(p.step);
-    let next = wide(p.next);
-    let beside = (next == 1) & (2 * m <= step);
-    let below = (step == 1) & (4 <= next);
-    let last = wide(p.at) + (2 * m - 1) * next + 3 * step;
-    (last < long) & (beside | below)
-}
-
-// Both: then edge j is filtered with edge i, whose lines start at p. Where edge j is elsewhere, as with leaves of 4, nothing more is tested.
-fn together(
+// Edge i, whose lines start at p, with edge j in luma, where j is the one right after it and `loud`: it has a strength. The answer is whether both were filtered.
+// Where edge j is elsewhere, as with leaves of 4, nothing more is tested.
+fn two_luma(
+    loud: bool,
     pass: Pass,
+    y: &mut [u16],
     list: &[u16; 512],
     marks: &[u8; 256],
     i: usize,
     j: usize,
     p: Place,
-    m: usize,
-    long: usize,
+    s0: u16,
+    s1: u16,
 ) -> bool
-    requires { ⌜ (i < 256) × (j < 256) × (1 ≤ m) × (m ≤ 4) ⌝ }
-    ensures { λ r. ⌜ (r ≡ true → Follows (passOf pass) (now (list .entry)) (now (marks .entry)) i j × Two p m long) ⌝ }
+    requires { ⌜ (i < 256) × (j < 256) ⌝ }
+    ensures { λ r. ⌜ Paired loud Luma (passOf pass) (now (list .entry)) (now (marks .entry)) i j p s0 s1 r (now (y .entry)) (now (y .exit)) ⌝ }
 {
-    if !follows(pass, list, marks, i, j) {
+    if !loud | !follows(pass, list, marks, i, j) {
         return false;
     }
-    lie_apart(p, m, long)
+    window_luma_two(y, p, s0, s1)
+}
+
+// And in both chroma planes.
+fn two_chroma(
+    loud: bool,
+    pass: Pass,
+    u: &mut [u16],
+    v: &mut [u16],
+    list: &[u16; 512],
+    marks: &[u8; 256],
+    i: usize,
+    j: usize,
+    p: Place,
+    u0: u16,
+    u1: u16,
+    v0: u16,
+    v1: u16,
+) -> bool
+    requires { ⌜ (i < 256) × (j < 256) × (length (now u) ≡ length (now v)) ⌝ }
+    ensures { λ r. ⌜ Paired loud Chroma (passOf pass) (now (list .entry)) (now (marks .entry)) i j p u0 u1 r (now (u .entry)) (now (u .exit))
+        × Paired loud Chroma (passOf pass) (now (list .entry)) (now (marks .entry)) i j p v0 v1 r (now (v .entry)) (now (v .exit)) ⌝ }
+{
+    if !loud | !follows(pass, list, marks, i, j) {
+        return false;
+    }
+    window_chroma_two(u, v, p, u0, u1, v0, v1)
 }
 
 // ---- a turn: one edge of a list, or two
@@ -149,7 +155,7 @@ fn turn_luma(
     pass: Pass,
     columns: usize,
     y: &mut [u16],
-    entries: &[u8],
+    entries: &[u8; 624],
     list: &[u16; 512],
     places: &[u8; 256],
     marks: &[u8; 256],
@@ -163,11 +169,10 @@ fn turn_luma(
     if s0 == 0 {
         return i + 1;
     }
+    let p = luma_place(pass, columns, list, i);
     let j = after(n, i);
     let s1 = strength_at(entries, 0, places[j]);
-    let p = luma_place(pass, columns, list, i);
-    if (s1 != 0) & together(pass, list, marks, i, j, p, 4, y.len()) {
-        window_luma_two(y, p, s0, s1);
+    if two_luma(s1 != 0, pass, &mut *y, list, marks, i, j, p, s0, s1) {
         return j + 1;
     }
     edge_luma(y, p, marks[i], s0);
@@ -180,7 +185,7 @@ fn turn_chroma(
     columns: usize,
     u: &mut [u16],
     v: &mut [u16],
-    entries: &[u8],
+    entries: &[u8; 624],
     list: &[u16; 512],
     places: &[u8; 256],
     marks: &[u8; 256],
@@ -197,14 +202,27 @@ fn turn_chroma(
     if (u0 == 0) & (v0 == 0) {
         return i + 1;
     }
+    let p = chroma_place(pass, columns, list, i);
     let j = after(n, i);
     let l = places[j];
     let u1 = strength_at(entries, 208, l);
     let v1 = strength_at(entries, 416, l);
-    let p = chroma_place(pass, columns, list, i);
     let loud = (u1 != 0) | (v1 != 0);
-    if loud & together(pass, list, marks, i, j, p, 2, u.len()) {
-        window_chroma_two(u, v, p, u0, u1, v0, v1);
+    if two_chroma(
+        loud,
+        pass,
+        &mut *u,
+        &mut *v,
+        list,
+        marks,
+        i,
+        j,
+        p,
+        u0,
+        u1,
+        v0,
+        v1,
+    ) {
         return j + 1;
     }
     edge_chroma(u, v, p, marks[i], u0, v0);
@@ -244,7 +262,7 @@ pub fn filter_luma(
     pass: Pass,
     columns: usize,
     y: &mut [u16],
-    entries: &[u8],
+    entries: &[u8; 624],
     list: &[u16; 512],
     places: &[u8; 256],
     marks: &[u8; 256],
@@ -276,7 +294,7 @@ pub fn filter_chroma(
     columns: usize,
     u: &mut [u16],
     v: &mut [u16],
-    entries: &[u8],
+    entries: &[u8; 624],
     list: &[u16; 512],
     places: &[u8; 256],
     marks: &[u8; 256],

@@ -7,7 +7,7 @@ ghost use Rattle.split.specs.Edges as edges;
 ghost use Rattle.split.specs.Rows.{crossOf, alongOf};
 ghost use Rattle.def.specs.declared.Component.the-variants.{Luma, Chroma};
 ghost use Rattle.df_rules.specs.Places.{stepAcross, stepAlong};
-ghost use Rattle.edge_filter.specs.Edges.{passOf, placeOf, crossIn, alongIn, placeFrom};
+ghost use Rattle.edge_filter.specs.Edges.{passOf, linesPlace, crossIn, alongIn, placeFrom};
 use window::Place;
 
 // The vertical pass filters the edges between columns, the horizontal those between rows.
@@ -75,7 +75,7 @@ fn two_before(x: usize) -> usize
 // The lines that start at `along`, two samples before `across`.
 fn place(pass: Pass, wide: usize, across: usize, along: usize) -> Place
     requires { ⌜ (wide ≤ 4096) × (across ≤ 65535) × (along ≤ 65535) ⌝ }
-    ensures { λ r. ⌜ r ≡ placeOf (passOf pass) wide across along ⌝ }
+    ensures { λ r. ⌜ r ≡ linesPlace (passOf pass) wide across along ⌝ }
 {
     let step = step_across(pass, wide);
     let next = step_along(pass, wide);

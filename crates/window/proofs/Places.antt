@@ -3,6 +3,7 @@
 --     last-by    the last sample, by numbers that are the place's
 --     rows-at, halves-at    what the tests of the two ways say; rows-lie, halves-lie    by numbers that are the place's
 --     by-rows, by-halves, by-neither    a call by what these tests answer; kept-in, kept-out    one that makes neither
+--     apart-rows, apart-halves, apart-neither    what a call over two edges answers by them; lines-taken, lines-left    what it leaves
 -- Assumes nothing.
 use Prim.Native.Nat.{ℕ, _+_, _-_, _*_, _≤_, _<_}
 use mathlib.Core.Bool.{Bool, true, false, _&&_}
@@ -16,7 +17,7 @@ use Rattle.laws.proofs.Bools.{both-left, both-right, or-true}
 use Rattle.line.specs.declared.Mask.{Mask}
 use Rattle.window.specs.declared.Place.{Place}
 use Rattle.window.specs.Lines.{linesOf}
-use Rattle.window.specs.Window.{lastOf, inside, byRows, byHalves, lies, windowOf}
+use Rattle.window.specs.Window.{lastOf, inside, byRows, byHalves, lies, liesApart, windowOf}
 
 pub last-small : (n next : ℕ) → n ≤ 8 → next ≤ 4294967295 → (n - 1) * next ≤ 30064771065
 last-small n next h l = mul-le-mul {n₁ = n - 1} {m₁ = next} {n₂ = 7} {m₂ = 4294967295} (omega arith) l
@@ -78,6 +79,33 @@ module _ (p : Place) (n long : ℕ) where
       pub by-neither : r ≡ false → h ≡ false → xs ≡ windowOf (lies p n long) m st p n xs
       unfolding windowOf lies
       by-neither t s = rw (← e, t, ← f, s) refl
+
+  -- ---- and one over two edges
+
+  module _ (r : Bool) (e : r ≡ byRows p n long) where
+    pub apart-rows : r ≡ true → true ≡ liesApart p n long
+    unfolding liesApart
+    apart-rows t = rw (← e, t) refl
+
+    module _ (h : Bool) (f : h ≡ (byHalves p n long && leb 4 (p .next))) where
+      pub apart-halves : h ≡ true → true ≡ liesApart p n long
+      unfolding liesApart
+      apart-halves t = rw (← f, t, or-true (byRows p n long)) refl
+
+      pub apart-neither : r ≡ false → h ≡ false → false ≡ liesApart p n long
+      unfolding liesApart
+      apart-neither t s = rw (← e, t, ← f, s) refl
+
+-- ---- what is left, by the answer
+
+module _ (m : Mask) (st : ℕ → ℕ) (p : Place) (n : ℕ) (xs : List ℕ) where
+  pub lines-taken : (ys : List ℕ) → ys ≡ linesOf m st (p .step) (p .next) (p .at) n xs → ys ≡ windowOf true m st p n xs
+  unfolding windowOf
+  lines-taken ys w = w
+
+  pub lines-left : xs ≡ windowOf false m st p n xs
+  unfolding windowOf
+  lines-left = refl
 
 -- n lines, a number that the call computes
 module _ (p : Place) (n n₁ l long : ℕ) (e : n ≡ n₁) (f : l ≡ lastOf p n) (m : Mask) (st : ℕ → ℕ) (xs : List ℕ) where

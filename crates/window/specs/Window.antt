@@ -29,6 +29,10 @@ byHalves p n long = inside p n long && eqb (p .step) 1
 unfoldable pub lies : Place → (n long : ℕ) → Bool
 lies p n long = byRows p n long || byHalves p n long
 
+-- those of two edges, n in all: the same, and no sample is in two of them
+unfoldable pub liesApart : Place → (n long : ℕ) → Bool
+liesApart p n long = byRows p n long || (byHalves p n long && leb 4 (p .next))
+
 -- the strength of line k: s₀ for the first n, and s₁ for those after them
 abbrev pub twice : (n s₀ s₁ : ℕ) → ℕ → ℕ
 twice n s₀ s₁ k = pick (ltb k n) s₀ s₁

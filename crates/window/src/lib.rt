@@ -3,8 +3,9 @@
 // Every call tests where its lines lie, by one comparison with the plane's length, and writes nothing where they do not.
 // The Rust beside it: df.rs, deblock_scu_hor_luma, deblock_scu_hor_chroma, deblock_scu_ver_luma, deblock_scu_ver_chroma.
 ghost use mathlib.Core.Path.{_≡_};
-ghost use mathlib.Core.Bool.{true, false};
+ghost use mathlib.Core.Bool.{true, false, _&&_};
 ghost use Prim.Native.Nat.{_+_, _-_, _*_, _≤_, _<_, min};
+ghost use lib.Dec.{leb};
 ghost use lib.ListN.{length, getD};
 ghost use Rattle.laws.specs.Plane.{withRow};
 ghost use Rattle.def.specs.Components.{unitSide};
@@ -14,7 +15,7 @@ ghost use Rattle.lanes.specs.Lanes.{laneOf, halves};
 ghost use Rattle.df_rules.specs.Window.{putIf};
 ghost use Rattle.df_rules.specs.Lanes.{samplesAt, putLine, putLines};
 ghost use Rattle.window.specs.Lines.{Inside, Gathered, withRowIf, linesOf};
-ghost use Rattle.window.specs.Window.{lastOf, inside, byRows, byHalves, lies, twice, windowOf};
+ghost use Rattle.window.specs.Window.{lastOf, inside, byRows, byHalves, lies, liesApart, twice, windowOf};
 use def::Component;
 use line::Mask;
 use line::Quad;
@@ -75,6 +76,14 @@ fn by_halves(p: Place, n: usize, long: usize) -> bool
     ensures { λ r. ⌜ r ≡ byHalves p n long ⌝ }
 {
     (last(p, n) < long) & (p.step == 1)
+}
+
+// And no sample is in two of them: a line has four.
+fn by_halves_apart(p: Place, n: usize, long: usize) -> bool
+    requires { ⌜ (1 ≤ n) × (n ≤ 8) ⌝ }
+    ensures { λ r. ⌜ r ≡ (byHalves p n long && leb 4 (p .next)) ⌝ }
+{
+    by_halves(p, n, long) & (4 <= p.next)
 }
 
 // ---- from a plane to lanes
@@ -283,16 +292,20 @@ fn luma_two_halves(y: &mut [u16], p: Place, s0: u16, s1: u16)
     scatter(y, all, &r, 0, 8, 1, next, at);
 }
 
-pub fn window_luma_two(y: &mut [u16], p: Place, s0: u16, s1: u16)
-    ensures { λ _. ⌜ now (y .exit) ≡ windowOf (lies p 8 (length (now (y .entry)))) (maskOf Luma false false) (twice 4 s0 s1) p 8 (now (y .entry)) ⌝ }
+// The answer is whether they lie in the plane and share no sample: they are filtered then. Where they shared one, eight lines at once would not be the four of
+// each edge in turn.
+pub fn window_luma_two(y: &mut [u16], p: Place, s0: u16, s1: u16) -> bool
+    ensures { λ r. ⌜ (r ≡ liesApart p 8 (length (now (y .entry)))) × (now (y .exit) ≡ windowOf r (maskOf Luma false false) (twice 4 s0 s1) p 8 (now (y .entry))) ⌝ }
 {
     if by_rows(p, 8, y.len()) {
         luma_two_rows(y, p, s0, s1);
-        return;
+        return true;
     }
-    if by_halves(p, 8, y.len()) {
+    if by_halves_apart(p, 8, y.len()) {
         luma_two_halves(y, p, s0, s1);
+        return true;
     }
+    false
 }
 
 // ---- a unit's edge in any component, beside a kept unit
@@ -395,16 +408,28 @@ fn chroma_two_halves(u: &mut [u16], v: &mut [u16], p: Place, u0: u16, u1: u16, v
     scatter(v, inner, &r, 4, 4, 1, next, at);
 }
 
-pub fn window_chroma_two(u: &mut [u16], v: &mut [u16], p: Place, u0: u16, u1: u16, v0: u16, v1: u16)
-    ensures { λ _. ⌜ (now (u .exit) ≡ windowOf (lies p 4 (min (length (now (u .entry))) (length (now (v .entry))))) (maskOf Chroma false false) (twice 2 u0 u1) p 4 (now (u .entry)))
-        × (now (v .exit) ≡ windowOf (lies p 4 (min (length (now (u .entry))) (length (now (v .entry))))) (maskOf Chroma false false) (twice 2 v0 v1) p 4 (now (v .entry))) ⌝ }
+// The answer is luma's.
+pub fn window_chroma_two(
+    u: &mut [u16],
+    v: &mut [u16],
+    p: Place,
+    u0: u16,
+    u1: u16,
+    v0: u16,
+    v1: u16,
+) -> bool
+    ensures { λ r. ⌜ (r ≡ liesApart p 4 (min (length (now (u .entry))) (length (now (v .entry)))))
+        × (now (u .exit) ≡ windowOf r (maskOf Chroma false false) (twice 2 u0 u1) p 4 (now (u .entry)))
+        × (now (v .exit) ≡ windowOf r (maskOf Chroma false false) (twice 2 v0 v1) p 4 (now (v .entry))) ⌝ }
 {
     let long = least(u.len(), v.len());
     if by_rows(p, 4, long) {
         chroma_two_rows(u, v, p, u0, u1, v0, v1);
-        return;
+        return true;
     }
-    if by_halves(p, 4, long) {
+    if by_halves_apart(p, 4, long) {
         chroma_two_halves(u, v, p, u0, u1, v0, v1);
+        return true;
     }
+    false
 }

@@ -1,5 +1,5 @@
 -- `df::passes_by` meets its contract: the vertical pass, then the horizontal over what it left; then every unit is done. Assumes nothing.
-use Prim.Native.Nat.{ℕ, _+_, _*_, _/_, _≤_}
+use Prim.Native.Nat.{ℕ, _*_, _/_, _≤_}
 use mathlib.Core.List.{List}
 use mathlib.Core.Path.{_≡_, _∙_}
 use native.Mathlib.Nat.{add-mul, mul-le-mul-right, le-refl}
@@ -31,7 +31,7 @@ few s =
 abbrev begun : tie.After-slice-known10 → tie.Start
 begun c =
     let d = c .before .before .before .before .before .before .before .before .before .before .before .before .before .before .before in
-    d .before .before .before .before .before .before .before .before .before .before .before .before .before .before .before
+    d .before .before .before .before .before .before .before .before .before .before .before .before .before .before
 
 fits : {n : ℕ} → n ≤ 1048576 → Fits w64 n
 fits l = omega arith
@@ -40,12 +40,12 @@ bytes : {n : ℕ} → n ≤ 1048576 → Fits w64 (n * 4)
 bytes l = omega arith
 
 deblock-pass-requires : tie.Need-deblock-pass-requires
-deblock-pass-requires c κs = let p = c .before .before .before .before .before .before .before .before .before .before .before .before .pre in (p .0, p .1, p .2)
+deblock-pass-requires c κs = let p = c .before .before .before .before .before .before .before .before .before .before .before .pre in (p .0, p .1, p .2)
 
 deblock-pass-requires-2 : tie.Need-deblock-pass-requires-2
 deblock-pass-requires-2 c κs =
     let d = c .before .before .before .before .before .before .before .before .before .before in
-    let s = d .before .before .before .before .before .before .before .before .before .before .before .before .before in
+    let s = d .before .before .before .before .before .before .before .before .before .before .before .before in
     (frame-done (d .deblock-pass .ensures) (s .pre .0), s .pre .1, s .pre .2)
 
 -- both passes, with the counts as they are handed back
@@ -65,7 +65,7 @@ returns : tie.Need-returns
 returns c =
     let d = c .before .before .before .before .before .before .before .before .before .before .before in
     let e = d .before .before .before .before .before .before .before .before .before .before .before in
-    let s = e .before .before .before .before .before .before .before .before .before .before .before .before .before in
+    let s = e .before .before .before .before .before .before .before .before .before .before .before .before in
     both-counted (e .deblock-pass .ensures) (d .deblock-pass2 .ensures)
     (end-put (s .args .top * (s .args .w / 4)) (s .args .words .now) allDone _ (c .before .before .before .all-done .ensures)) (c .new .ensures)
 

@@ -22,7 +22,7 @@ abbrev μ-loop : tie.MeasureT-loop
 
 loop-holds : tie.Need-loop-holds Inv-loop μ-loop
 loop-holds c =
-    let a = c .before .before .before .before .args in
+    let a = c .before .before .before .args in
     let q = quietChroma (a .entries .now) (a .places .now) in
     (omega arith, refl, refl, none-done q _ 208 Chroma (passOf (a .pass)) _ _ _ _ _, none-done q _ 416 Chroma (passOf (a .pass)) _ _ _ _ _)
 
@@ -46,7 +46,7 @@ loop-again c =
 
 returns : tie.Need-returns Inv-loop μ-loop
 returns c =
-    let a = c .before .before .before .before .before .before .args in
+    let a = c .before .before .before .before .before .args in
     let l = c .before .loop in
     let r = c .before .before .count-chroma in
     let e : l .i ≡ r .result = omega (arith, l .inv .0, c .loop-test .left) in (

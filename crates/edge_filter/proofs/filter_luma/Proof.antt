@@ -19,7 +19,7 @@ abbrev μ-loop : tie.MeasureT-loop
 μ-loop pass columns y₀ entries list places marks n count i₀ y i = count - i
 
 loop-holds : tie.Need-loop-holds Inv-loop μ-loop
-loop-holds c = let a = c .before .before .before .args in (omega arith, refl, none-done (quietLuma (a .entries .now) (a .places .now)) _ 0 Luma (passOf (a .pass)) _ _ _ _ _)
+loop-holds c = let a = c .before .before .args in (omega arith, refl, none-done (quietLuma (a .entries .now) (a .places .now)) _ 0 Luma (passOf (a .pass)) _ _ _ _ _)
 
 turn-luma-requires : tie.Need-turn-luma-requires Inv-loop μ-loop
 turn-luma-requires c κs = let r = c .before .before .before .count-luma .ensures in (r .2 (omega (arith, c .before .loop-test .taken)), c .before .loop-test .taken, r .1)
@@ -35,7 +35,7 @@ loop-again c =
 
 returns : tie.Need-returns Inv-loop μ-loop
 returns c =
-    let a = c .before .before .before .before .before .args in
+    let a = c .before .before .before .before .args in
     let l = c .before .loop in
     let r = c .before .before .count-luma in
     let e : l .i ≡ r .result = omega (arith, l .inv .0, c .loop-test .left) in

@@ -1,10 +1,13 @@
 -- `window::window_chroma_two` meets its contract: by rows, by halves, or not at all. Assumes nothing.
 use Prim.Native.Nat.{min}
+use mathlib.Core.Bool.{_&&_}
 use mathlib.Core.Path.{_≡_, sym, ap, _∙_}
 use borrow.Author.Needs.{needs}
+use lib.Dec.{leb}
 use lib.ListN.{length}
+use Rattle.laws.proofs.Bools.{both-left}
 use Rattle.window.specs.Window.{byRows, byHalves, twice}
-use Rattle.window.proofs.Places.{by-rows, by-halves, by-neither}
+use Rattle.window.proofs.Places.{apart-rows, apart-halves, apart-neither, lines-taken, lines-left}
 use Rattle.window.proofs.window_chroma_two.Statement.{statement}
 use Rattle.window.proofs.window_chroma_two.Tie as tie
 
@@ -13,9 +16,11 @@ rows-test : (c : tie.After-by-rows) → let a = c .before .before .before .befor
     c .by-rows .result ≡ byRows (a .p) 4 (min (length (a .u .now)) (length (a .v .now)))
 rows-test c = c .by-rows .ensures ∙ ap (byRows (c .before .before .before .before .args .p) 4) (c .before .least .ensures)
 
-halves-test : (c : tie.After-by-halves) → let a = c .before .before .before .before .before .before .args in
-    c .by-halves .result ≡ byHalves (a .p) 4 (min (length (a .u .now)) (length (a .v .now)))
-halves-test c = c .by-halves .ensures ∙ ap (byHalves (c .before .before .before .before .before .before .args .p) 4) (c .before .before .before .least .ensures)
+halves-test : (c : tie.After-by-halves-apart) → let a = c .before .before .before .before .before .before .args in
+    c .by-halves-apart .result ≡ (byHalves (a .p) 4 (min (length (a .u .now)) (length (a .v .now))) && leb 4 (a .p .next))
+halves-test c =
+    let p = c .before .before .before .before .before .before .args .p in
+    c .by-halves-apart .ensures ∙ (λ i. byHalves p 4 (c .before .before .before .least .ensures i) && leb 4 (p .next))
 
 rows-requires : tie.Need-chroma-two-rows-requires
 rows-requires c κs = sym (rows-test (c .before .before .before)) ∙ c .before .before .if1 .taken
@@ -32,10 +37,10 @@ returns c =
     let t = c .before .before .before .before .before .before .before .if1 .taken in
     let w = c .before .before .before .before .chroma-two-rows .ensures in
     let e = rows-test (c .before .before .before .before .before .before .before .before) in
-    (by-rows (a .p) 4 _ _ e _ (twice 2 (a .u0) (a .u1)) (a .u .now) _ t (w .0), by-rows (a .p) 4 _ _ e _ (twice 2 (a .v0) (a .v1)) (a .v .now) _ t (w .1))
+    (apart-rows (a .p) 4 _ _ e t, lines-taken _ (twice 2 (a .u0) (a .u1)) (a .p) 4 (a .u .now) _ (w .0), lines-taken _ (twice 2 (a .v0) (a .v1)) (a .p) 4 (a .v .now) _ (w .1))
 
 halves-requires : tie.Need-chroma-two-halves-requires
-halves-requires c κs = sym (halves-test (c .before .before .before)) ∙ c .before .before .if2 .taken
+halves-requires c κs = both-left _ _ (sym (halves-test (c .before .before .before)) ∙ c .before .before .if2 .taken)
 
 same-u-2 : tie.Need-same-length-3
 same-u-2 c = c .before .before .before .before .chroma-two-halves .kept .0
@@ -50,7 +55,7 @@ returns-2 c =
     let w = c .before .before .before .before .chroma-two-halves .ensures in
     let e = rows-test (c .before .before .before .before .before .before .before .before .before .before) in
     let f = halves-test (c .before .before .before .before .before .before .before .before) in
-    (by-halves (a .p) 4 _ _ e _ (twice 2 (a .u0) (a .u1)) (a .u .now) _ f _ t (w .0), by-halves (a .p) 4 _ _ e _ (twice 2 (a .v0) (a .v1)) (a .v .now) _ f _ t (w .1))
+    (apart-halves (a .p) 4 _ _ e _ f t, lines-taken _ (twice 2 (a .u0) (a .u1)) (a .p) 4 (a .u .now) _ (w .0), lines-taken _ (twice 2 (a .v0) (a .v1)) (a .p) 4 (a .v .now) _ (w .1))
 
 returns-3 : tie.Need-returns-3
 returns-3 c =
@@ -59,7 +64,7 @@ returns-3 c =
     let t = c .if2 .left in
     let e = rows-test (c .before .before .before) in
     let f = halves-test (c .before) in
-    (by-neither (a .p) 4 _ _ e _ (twice 2 (a .u0) (a .u1)) (a .u .now) _ f s t, by-neither (a .p) 4 _ _ e _ (twice 2 (a .v0) (a .v1)) (a .v .now) _ f s t)
+    (apart-neither (a .p) 4 _ _ e _ f s t, lines-left _ (twice 2 (a .u0) (a .u1)) (a .p) 4 (a .u .now), lines-left _ (twice 2 (a .v0) (a .v1)) (a .p) 4 (a .v .now))
 
 pub window-chroma-two-spec : {M : Type 1} → statement M
 window-chroma-two-spec =

@@ -87,7 +87,7 @@ module _ (f : Format) (w n k : ℕ) (e : k ≡ inFormat f (4 * n)) (y u v words 
       }
 
 abbrev start : tie.After-passes-by → tie.Start
-start d = d .before .before .before .before .before .before .before .before .before .before .before .before .before .before .before .before .before
+start d = d .before .before .before .before .before .before .before .before .before .before .before .before .before .before .before .before
 
 -- no map of edge rows is lent
 no-rows : (w : ℕ) (words : List ℕ) (motion refs : List ℤ) → RowsLent w words motion refs []
@@ -95,7 +95,7 @@ no-rows w words motion refs k l = absurd (not-suc-le-zero l)
 
 passes-by-requires : tie.Need-passes-by-requires
 passes-by-requires c κs =
-    let s = c .before .before .before .before .before .before .before .before .before .before .before .before .before .before .before .before in
+    let s = c .before .before .before .before .before .before .before .before .before .before .before .before .before .before .before in
     let a = s .args in
     let k = c .before .before .before .before .before .before .before .before .in-format in (
       lent-picture (a .format) (a .w / 4) (a .skip * (a .w / 4)) (k .result) (k .ensures) (a .y .now) (a .u .now) (a .v .now) (a .words .now)
@@ -167,37 +167,37 @@ pub band-passes-spec : {M : Type 1} → statement M
 band-passes-spec =
     tie.close
     (tie.spec
-    (λ c. fits (few (c .before .before .before .before .before .before .before)))
-    (λ c. fits-16 (few (c .before .before .before .before .before .before .before)))
-    (λ c. fits-4 (few (c .before .before .before .before .before .before .before)))
+    (λ c. fits (few (c .before .before .before .before .before .before)))
+    (λ c. fits-16 (few (c .before .before .before .before .before .before)))
+    (λ c. fits-4 (few (c .before .before .before .before .before .before)))
     (λ c κs. tt)
-    (λ c. fits-4 (few (c .before .before .before .before .before .before .before .before)))
-    (λ c. fits-2 (few (c .before .before .before .before .before .before .before .before)))
-    (λ c. bytes-2 (few (c .before .before .before .before .before .before .before .before)))
-    (λ c. c .before .before .before .before .before .before .before .before .pre .1 .0)
-    (λ c. c .before .before .before .before .before .before .before .before .pre .1 .0)
+    (λ c. fits-4 (few (c .before .before .before .before .before .before .before)))
+    (λ c. fits-2 (few (c .before .before .before .before .before .before .before)))
+    (λ c. bytes-2 (few (c .before .before .before .before .before .before .before)))
+    (λ c. c .before .before .before .before .before .before .before .pre .1 .0)
+    (λ c. c .before .before .before .before .before .before .before .pre .1 .0)
     (λ c. le-refl _)
-    (λ c. let s = c .before .before .before .before .before .before .before .before .before in colour-2 (few s) (s .args .format) (c .before .in-format .ensures))
-    (λ c. before-end (c .before .in-format .ensures) (c .before .before .before .before .before .before .before .before .before .pre .1 .1))
-    (λ c. before-end (c .before .in-format .ensures) (c .before .before .before .before .before .before .before .before .before .pre .1 .1))
+    (λ c. let s = c .before .before .before .before .before .before .before .before in colour-2 (few s) (s .args .format) (c .before .in-format .ensures))
+    (λ c. before-end (c .before .in-format .ensures) (c .before .before .before .before .before .before .before .before .pre .1 .1))
+    (λ c. before-end (c .before .in-format .ensures) (c .before .before .before .before .before .before .before .before .pre .1 .1))
     (λ c. le-refl _)
-    (λ c. let s = c .before .before .before .before .before .before .before .before .before .before in colour-2 (few s) (s .args .format) (c .before .before .in-format .ensures))
-    (λ c. before-end (c .before .before .in-format .ensures) (c .before .before .before .before .before .before .before .before .before .before .pre .1 .2))
-    (λ c. before-end (c .before .before .in-format .ensures) (c .before .before .before .before .before .before .before .before .before .before .pre .1 .2))
+    (λ c. let s = c .before .before .before .before .before .before .before .before .before in colour-2 (few s) (s .args .format) (c .before .before .in-format .ensures))
+    (λ c. before-end (c .before .before .in-format .ensures) (c .before .before .before .before .before .before .before .before .before .pre .1 .2))
+    (λ c. before-end (c .before .before .in-format .ensures) (c .before .before .before .before .before .before .before .before .before .pre .1 .2))
     (λ c. le-refl _)
-    (λ c. bytes-4 (few (c .before .before .before .before .before .before .before .before .before .before .before)))
-    (λ c. c .before .before .before .before .before .before .before .before .before .before .before .pre .1 .3)
-    (λ c. c .before .before .before .before .before .before .before .before .before .before .before .pre .1 .3)
+    (λ c. bytes-4 (few (c .before .before .before .before .before .before .before .before .before .before)))
+    (λ c. c .before .before .before .before .before .before .before .before .before .before .pre .1 .3)
+    (λ c. c .before .before .before .before .before .before .before .before .before .before .pre .1 .3)
     (λ c. le-refl _)
-    (λ c. motion-2 (few (c .before .before .before .before .before .before .before .before .before .before .before .before)))
-    (λ c. c .before .before .before .before .before .before .before .before .before .before .before .before .pre .1 .4)
-    (λ c. c .before .before .before .before .before .before .before .before .before .before .before .before .pre .1 .4)
+    (λ c. motion-2 (few (c .before .before .before .before .before .before .before .before .before .before .before)))
+    (λ c. c .before .before .before .before .before .before .before .before .before .before .before .pre .1 .4)
+    (λ c. c .before .before .before .before .before .before .before .before .before .before .before .pre .1 .4)
     (λ c. le-refl _)
-    (λ c. c .before .before .before .before .before .before .before .before .before .before .before .before .before .pre .1 .5)
-    (λ c. c .before .before .before .before .before .before .before .before .before .before .before .before .before .pre .1 .5)
+    (λ c. c .before .before .before .before .before .before .before .before .before .before .before .before .pre .1 .5)
+    (λ c. c .before .before .before .before .before .before .before .before .before .before .before .before .pre .1 .5)
     (λ c. le-refl _)
-    (λ c. c .before .before .before .before .before .before .before .before .before .before .before .before .before .before .pre .1 .6)
-    (λ c. c .before .before .before .before .before .before .before .before .before .before .before .before .before .before .pre .1 .6)
+    (λ c. c .before .before .before .before .before .before .before .before .before .before .before .before .before .pre .1 .6)
+    (λ c. c .before .before .before .before .before .before .before .before .before .before .before .before .before .pre .1 .6)
     (λ c. le-refl _)
     (λ c. refl)
     passes-by-requires

@@ -79,7 +79,6 @@ deblock-by-rows-spec =
     returns
     (λ c. search)
     (λ c κs. tt)
-    (λ c. sym (ap length (c .before .before .before .before .before .before .entries-by .ensures) ∙ entries-long _ _ _ _ _ _))
     passes-by-requires
     (λ c κs. tt)
     (λ c. c .before .before .before .before .before .before .before .before .before .passes-by .kept .1 .1 .1 .1 .1 .0)

@@ -54,29 +54,29 @@ all-fit : {n k : ℕ} → n ≤ 256 → k ≡ 256 → n ≤ k
 all-fit l e = omega arith
 
 root-count-requires : tie.Need-root-count-requires Inv-loop μ-loop
-root-count-requires c κs = let z = size (c .before .before .before .before .before .before .before .before .before) in (z .wide, z .high)
+root-count-requires c κs = let z = size (c .before .before .before .before .before .before .before .before) in (z .wide, z .high)
 
 loop-holds : tie.Need-loop-holds Inv-loop μ-loop
 loop-holds c =
-    (omega arith, refl, refl, refl, refl, refl, refl, roots-none _ _ (passOf (c .before .before .before .before .before .before .before .before .before .before .args .pass)) _ _ _ _ _ _)
+    (omega arith, refl, refl, refl, refl, refl, refl, roots-none _ _ (passOf (c .before .before .before .before .before .before .before .before .before .args .pass)) _ _ _ _ _ _)
 
 root-edges-requires : tie.Need-root-edges-requires Inv-loop μ-loop
 root-edges-requires c κs = (
-  c .before .before .before .before .before .before .before .before .before .before .before .before .before .pre .1,
+  c .before .before .before .before .before .before .before .before .before .before .before .before .pre .1,
   subst (λ (n : ℕ). c .before .before .loop .i < n) (c .before .before .before .root-count .ensures .0) (c .before .loop-test .taken),
   c .before .before .loop .inv .4,
-  c .before .before .before .before .before .before .before .before .before .before .before .before .before .pre .0 .high,
+  c .before .before .before .before .before .before .before .before .before .before .before .before .pre .0 .high,
 )
 
 -- the units of a root's edges lie in the maps
 knowns : (c : tie.After-plan-edges Inv-loop μ-loop) → let turn = c .before .before .before .before .before in
-    let a = turn .before .before .before .before .before .before .before .before .before .before .before .before .before .before .args in
+    let a = turn .before .before .before .before .before .before .before .before .before .before .before .before .before .args in
     let l = turn .before .before .before .loop in
     Knowns (passOf (a .pass)) (a .w / 4) (a .words .now) (record { motion = a .motion .now; refs = a .refs .now; keep = a .keep .now }) (a .rows .now)
     (turn .root-edges .last .1 .1 .1 .1 .1 .1 .1 .0) (turn .root-edges .result) (l .places) (l .marks)
 knowns c =
     let turn = c .before .before .before .before .before in
-    let s = turn .before .before .before .before .before .before .before .before .before .before .before .before .before .before in
+    let s = turn .before .before .before .before .before .before .before .before .before .before .before .before .before in
     let r = turn .root-edges .ensures in
     let l = turn .before .before .before .loop in
     record {
@@ -90,16 +90,16 @@ knowns c =
 
 -- so its plan is the one by the maps
 plan-of : (c : tie.After-plan-edges Inv-loop μ-loop) → let turn = c .before .before .before .before .before in
-    let s = turn .before .before .before .before .before .before .before .before .before .before .before .before .before .before in
+    let s = turn .before .before .before .before .before .before .before .before .before .before .before .before .before in
     Planned (maps s) (passOf (s .args .pass)) (s .args .w / 4) (turn .root-edges .last .1 .1 .1 .1 .1 .1 .1 .0) (turn .root-edges .result)
     (c .plan-edges .last .1 .1 .1 .1 .1 .1 .1 .1 .1 .0) (c .plan-edges .last .1 .1 .1 .1 .1 .1 .1 .1 .1 .1 .0)
 plan-of c = plan-known _ _ _ _ _ (knowns c) (c .before .before .before .before .before .before .before .before .before .before .is-horizontal .ensures) (c .plan-edges .ensures)
 
 -- the picture, at a turn
-current : (c : tie.At-loop Inv-loop μ-loop) → let a = c .before .before .before .before .before .before .before .before .before .before .before .args in
+current : (c : tie.At-loop Inv-loop μ-loop) → let a = c .before .before .before .before .before .before .before .before .before .before .args in
     LentPlanes (a .format) (a .w / 4) (a .top + a .h / 4) (record { motion = a .motion .now; refs = a .refs .now; keep = a .keep .now }) (a .entries .now)
     (record { y = c .loop .y; u = c .loop .u; v = c .loop .v }) (a .words .now)
-current c = let s = c .before .before .before .before .before .before .before .before .before .before .before in
+current c = let s = c .before .before .before .before .before .before .before .before .before .before in
     roots-frame (maps s) _ (passOf (s .args .pass)) _ _ _ _ _ (c .loop .i) _ _ _ (c .loop .inv .7) (s .pre .0)
 
 -- a root's plan has the room that it had before the turn
@@ -132,7 +132,7 @@ loop-again : tie.Need-loop-again Inv-loop μ-loop
 loop-again c =
     let turn = c .before .before .before .before .before .before .before .before .before .before .before .before in
     let top = turn .before .before .before .before .before .before .before .before .before .before .before .before .before .before .before in
-    let s = top .before .before .before .before .before .before .before .before .before .before .before in
+    let s = top .before .before .before .before .before .before .before .before .before .before in
     let l = turn .before .before .before .before .before .before .before .before .before .before .before .before .before .before .before .loop in
     let ky = turn .filter-luma .kept in
     let k = c .before .before .before .before .filter-chroma .kept in
@@ -151,14 +151,14 @@ loop-again c =
       places-long (turn .before .before .before .before .before .before .before),
       marks-long (turn .before .before .before .before .before .before .before),
       roots-more _ _ (passOf (s .args .pass)) _ _ _ _ _ (l .i) _ _ _ _ _ _ _ _ _ _ (r .few) (r .same) (s .pre .0 .marks) p (l .inv .7)
-          (luma-by-plan _ d _ high _ _ _ _ (r .few) (r .units) _ _ (luma-plane now) (turn .filter-luma .ensures))
-          (u-by-plan _ d _ high _ _ _ _ (r .few) (r .units) _ _ _ _ _ alike (u-plane now) (f .0))
-          (v-by-plan _ d _ high _ _ _ _ (r .few) (r .units) _ _ _ _ _ alike (v-plane now) (f .1)),
+          (luma-by-plan _ (s .pre .0 .long-entries) d _ high _ _ _ _ (r .few) (r .units) _ _ (luma-plane now) (turn .filter-luma .ensures))
+          (u-by-plan _ (s .pre .0 .long-entries) d _ high _ _ _ _ (r .few) (r .units) _ _ _ _ _ alike (u-plane now) (f .0))
+          (v-by-plan _ (s .pre .0 .long-entries) d _ high _ _ _ _ (r .few) (r .units) _ _ _ _ _ alike (v-plane now) (f .1)),
     )
 
 returns : tie.Need-returns Inv-loop μ-loop
 returns c =
-    let s = c .before .before .before .before .before .before .before .before .before .before .before .before in
+    let s = c .before .before .before .before .before .before .before .before .before .before .before in
     let l = c .before .loop in
     roots-all _ _ (passOf (s .args .pass)) _ _ _ _ _ (l .i) _ _ _ (omega (arith, l .inv .0, c .loop-test .left, roots-units (size s), c .before .before .root-count .ensures .0)) (l .inv .7)
 

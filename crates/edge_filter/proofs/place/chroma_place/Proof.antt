@@ -3,7 +3,7 @@ use Prim.Native.Nat.{_*_, _/_}
 use mathlib.Core.Path.{_∙_}
 use native.Mathlib.Omega.{arith}
 use borrow.Author.Needs.{needs}
-use Rattle.edge_filter.specs.Edges.{passOf, placeOf}
+use Rattle.edge_filter.specs.Edges.{passOf, linesPlace}
 use Rattle.edge_filter.proofs.place.chroma_place.Statement.{statement}
 use Rattle.edge_filter.proofs.place.chroma_place.Tie as tie
 
@@ -15,7 +15,7 @@ returns c =
     let a = c .before .before .before .args in
     let x = c .before .before .cross-at .ensures .0 in
     let z = c .before .along-at .ensures .0 in
-    c .place .ensures ∙ (λ k. placeOf (passOf (a .pass)) (2 * a .columns) (x k / 2) (z k / 2))
+    c .place .ensures ∙ (λ k. linesPlace (passOf (a .pass)) (2 * a .columns) (x k / 2) (z k / 2))
 
 pub chroma-place-spec : {M : Type 1} → statement M
 chroma-place-spec =

@@ -3,7 +3,7 @@ use Prim.Native.Nat.{_*_}
 use mathlib.Core.Path.{_∙_}
 use native.Mathlib.Omega.{arith}
 use borrow.Author.Needs.{needs}
-use Rattle.edge_filter.specs.Edges.{passOf, placeOf}
+use Rattle.edge_filter.specs.Edges.{passOf, linesPlace}
 use Rattle.edge_filter.proofs.place.luma_place.Statement.{statement}
 use Rattle.edge_filter.proofs.place.luma_place.Tie as tie
 
@@ -15,7 +15,7 @@ returns c =
     let a = c .before .before .before .args in
     let x = c .before .before .cross-at .ensures .0 in
     let z = c .before .along-at .ensures .0 in
-    c .place .ensures ∙ (λ k. placeOf (passOf (a .pass)) (4 * a .columns) (x k) (z k))
+    c .place .ensures ∙ (λ k. linesPlace (passOf (a .pass)) (4 * a .columns) (x k) (z k))
 
 pub luma-place-spec : {M : Type 1} → statement M
 luma-place-spec =

@@ -1,7 +1,7 @@
 -- `df::band::Bands::deblock_checked` meets its contract: the checks found nothing, and both passes over the band follow.
 -- Assumes nothing.
 use Prim.Native.Nat.{ℕ, zero, suc, _+_, _-_, _*_, _/_, _≤_}
-use mathlib.Core.Path.{_≡_, refl, sym, ap, _∙_}
+use mathlib.Core.Path.{_≡_, refl, ap, _∙_}
 use native.Mathlib.Omega.{arith}
 use mir.Syntax.{w64}
 use mir.Val.{Fits}
@@ -117,7 +117,6 @@ deblock-checked-spec =
     (λ c κs. tt)
     (λ c. sixteenth (c .rows-above .result))
     (λ c. own-fits _ _ (c .before .band-rows .ensures))
-    (λ c. sym (long (c .before .before .before .before .before .before .before .before)))
     band-passes-requires
     add-after
     (λ c. c .before .before .before .before .before .before .before .before .before .band-passes .kept .1 .1 .1 .1 .1 .1 .0)
