@@ -378,18 +378,15 @@ fn put_few(plane: &[u16], words: &[u32], border: Border, constrained: bool, run:
     ensures { λ _. ⌜ now (run .exit) ≡ borderIn border constrained (now (plane .entry)) (now (words .entry)) (now (run .entry)) ⌝ }
 {
     let n = border.n;
-    let left = border.left;
-    let corner = border.corner;
-    let up = border.up;
     if n == 4 {
-        put_units(plane, words, left, 2, 4, constrained, &mut *run, 0);
-        put_units(plane, words, corner, 1, 1, constrained, &mut *run, 8);
-        put_units(plane, words, up, 2, 4, constrained, run, 9);
+        put_units(plane, words, border.left, 2, 4, constrained, &mut *run, 0);
+        put_units(plane, words, border.corner, 1, 1, constrained, &mut *run, 8);
+        put_units(plane, words, border.up, 2, 4, constrained, run, 9);
         return;
     }
-    put_units(plane, words, left, 2, 2, constrained, &mut *run, 0);
-    put_units(plane, words, corner, 1, 1, constrained, &mut *run, 4);
-    put_units(plane, words, up, 2, 2, constrained, run, 5);
+    put_units(plane, words, border.left, 2, 2, constrained, &mut *run, 0);
+    put_units(plane, words, border.corner, 1, 1, constrained, &mut *run, 4);
+    put_units(plane, words, border.up, 2, 2, constrained, run, 5);
 }
 
 // ---- the call
@@ -507,8 +504,8 @@ pub fn get_nbr(
         y,
         side,
     };
-    match checked(block, plane.len(), words.len(), run.len()) {
-        Answer::Refused(r) => Answer::Refused(r),
-        Answer::Done => gather(plane, words, block, constrained, run),
+    if let Answer::Refused(r) = checked(block, plane.len(), words.len(), run.len()) {
+        return Answer::Refused(r);
     }
+    gather(plane, words, block, constrained, run)
 }

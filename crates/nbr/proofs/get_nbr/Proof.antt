@@ -51,8 +51,8 @@ get-nbr-spec =
     (tie.spec
     (λ c κs. search needs)
     (λ c. search needs)
+    returns
     (λ c. search needs)
     gather-requires
-    returns
     (λ c. search needs)
     returns-2)

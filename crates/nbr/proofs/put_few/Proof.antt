@@ -21,10 +21,10 @@ module _ (s : tie.Start) (m : ℕ) (e : s .args .border .n ≡ m) where
 
 -- where each branch comes from
 abbrev of-four : (c : tie.Then1) → tie.Start
-of-four c = c .before .before .before .before .before .before .before
+of-four c = c .before .before .before .before
 
 abbrev of-two : (c : tie.Else1) → tie.Start
-of-two c = c .before .before .before .before .before .before .before
+of-two c = c .before .before .before .before
 
 -- not 4
 two : (c : tie.Else1) → of-two c .args .border .n ≡ 2
