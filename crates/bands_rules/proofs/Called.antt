@@ -25,7 +25,7 @@ use Rattle.df_rules.specs.Strength.{Over, Maps}
 use Rattle.df_rules.proofs.Alikes.{Alikes, alikes-at, strength-alike}
 use Rattle.df_rules.proofs.Planes.{run-same, finished-long, finished-small, finished-none}
 use Rattle.bands_rules.specs.Bands.{edgeDown, bandBytes, listFrom, bandList, mapsPart, placesOf, inPart, called, calledAll, joined}
-use Rattle.df_check.specs.Rows.{bandRows, rowsAbove, rowsBefore}
+use Rattle.band_rows.specs.Rows.{bandRows, rowsAbove, rowsBefore}
 use Rattle.bands_rules.proofs.Down.{band}
 use Rattle.bands_rules.proofs.Joined.{lastTwo, banded, bands-joined, bands-finished, bands-final, bands-below}
 use Rattle.bands_rules.proofs.Lists.{BandDone, Lies, list-in}

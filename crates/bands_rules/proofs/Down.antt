@@ -22,7 +22,7 @@ use Rattle.split.specs.Walk.{Leaf, leaf, Walk, met, nothing, onward, andThen, i
 use Rattle.split.proofs.Induct.{test}
 use Rattle.split.specs.RootCall.{leafDown}
 use Rattle.bands_rules.specs.Bands.{walkDown, bandBytes}
-use Rattle.df_check.specs.Rows.{bandRows}
+use Rattle.band_rows.specs.Rows.{bandRows}
 
 pub map-append : {A B : Type 0} (f : A → B) (l m : List A) → map f (l ++ m) ≡ map f l ++ map f m
 map-append f [] m = refl

@@ -27,7 +27,7 @@ use Rattle.df_rules.specs.Strength.{Maps}
 use Rattle.df_rules.proofs.Edges.{inside}
 use Rattle.df_rules.proofs.Local.{Same, Local, Keyed, commute, window-local}
 use Rattle.bands_rules.specs.Bands.{bandList, joined, placesOf}
-use Rattle.df_check.specs.Rows.{bandRows}
+use Rattle.band_rows.specs.Rows.{bandRows}
 use Rattle.bands_rules.proofs.Down.{band}
 use Rattle.bands_rules.proofs.Lists.{BandDone, Lies, lists-joined, band-in, joined-in}
 

@@ -31,7 +31,7 @@ use Rattle.split.proofs.Walks.{each-done, turn-done}
 use Rattle.split.specs.RootCall.{leafDown}
 use Rattle.df_rules.specs.Moves.{Once}
 use Rattle.bands_rules.specs.Bands.{walkDown, bandBytes, listFrom, bandList, joined}
-use Rattle.df_check.specs.Rows.{bandRows}
+use Rattle.band_rows.specs.Rows.{bandRows}
 use Rattle.bands_rules.proofs.Down.{Band, band, root-down, band-leaves}
 
 -- ---- the lists

@@ -11,7 +11,7 @@ use Rattle.split.specs.Edges.{Pass, vertical, horizontal, Edge, edge, edgesOf, 
 use Rattle.split.specs.Picture.{across, allLeaves}
 use Rattle.split.specs.RootCall.{leafDown}
 use Rattle.split.specs.Walk.{Walk, met}
-use Rattle.df_check.specs.Rows.{bandRows, rowsAbove, rowsBefore}
+use Rattle.band_rows.specs.Rows.{bandRows, rowsAbove, rowsBefore}
 use Rattle.df_rules.specs.Filter.{Planes, filterAll, finished}
 use Rattle.df_rules.specs.Places.{unitSide}
 use Rattle.df_rules.specs.Strength.{Maps}

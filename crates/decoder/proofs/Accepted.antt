@@ -33,7 +33,7 @@ use Rattle.recon.specs.Recon as recon
 use Rattle.rank.specs.RankCall as rank
 use Rattle.df_check.specs.BandCheck as band-checks
 use Rattle.df_check.specs.Checks as checks
-use Rattle.df_check.specs.Rows.{bandRows}
+use Rattle.band_rows.specs.Rows.{bandRows, bandOk}
 use Rattle.df.specs.Band as band
 use Rattle.df.specs.Deblock as deblock
 use Rattle.df_laws.specs.Luma.{withoutColour}
@@ -185,7 +185,7 @@ unfolding derived.outcome points-check.check points-check.lengthsOk points-check
     gather.nearAt predict.outcome predict.lengthsOk recon.outcome recon.blockCheck recon.lengthsOk plane.outcome plane.planeCheck plane.blockLengthsOk leaves.outcome leaves.checkOf
     leaves.lengthsOk leaves.rootOk check.outcome check.check rank.outcome rank.check list.outcome list.checkOf list.lengthsOk list.limitOk root-list.outcome root-list.checkOf
     mend.outcome mend.check mend.lengthsOk checks.checkOf checks.fromLengths checks.lengthsOk checks.settingsOk checks.offsetOk checks.qpsOk checks.planesOk
-    deblock.outcome band-checks.checkOf band-checks.bandOk bandRows band.outcome sizeOk blockOk blockSideOk componentSideOk unitOk samplesOk flagAt
+    deblock.outcome band-checks.checkOf bandOk bandRows band.outcome sizeOk blockOk blockSideOk componentSideOk unitOk samplesOk flagAt
     fieldOf allBelow walk byByte inTurn onward leafWalk checks.keepOk
 accepted = refl
 

@@ -85,7 +85,7 @@ use Rattle.pack_rules.specs.GetCall as get-map
 use Rattle.pack_rules.specs.PutCall as put-map
 use Rattle.pack_rules.specs.TakeCall as take-map
 use Rattle.df_check.specs.Checks as checks
-use Rattle.df_check.specs.Rows.{bandRows}
+use Rattle.band_rows.specs.Rows.{bandRows, bandOk}
 use Rattle.df.specs.Band as band
 use Rattle.by_rows_check.specs.Checks as rows-checks
 use Rattle.df.specs.ByRows as by-rows
@@ -1001,7 +1001,7 @@ pub band-format-numbers : map (λ i. band.outcome (banding i 0) .reading .number
     (formatted Grey 4 [] (pos 0) ∷ formatted Grey 0 chroma-table (pos 0) ∷ formatted Colour 0 chroma-table (pos 0) ∷ formatted Grey 0 [] (pos 1)
     ∷ formatted Colour 4 chroma-table (pos 1) ∷ formatted Grey 0 [] (pos 0) ∷ [])
     ≡ 2 ∷ 2 ∷ 2 ∷ 3 ∷ 0 ∷ 0 ∷ []
-unfolding band.outcome band-checks.checkOf band-checks.bandOk bandRows checks.fromLengths checks.lengthsOk checks.settingsOk checks.offsetOk checks.keepOk checks.qpsOk
+unfolding band.outcome band-checks.checkOf bandOk bandRows checks.fromLengths checks.lengthsOk checks.settingsOk checks.offsetOk checks.keepOk checks.qpsOk
     checks.planesOk list.limitOk sizeOk walk byByte inTurn onward leafWalk samplesOk allBelow fieldOf
 band-format-numbers = refl
 
@@ -1012,11 +1012,11 @@ band-stops : (i : band-checks.Input) → Stops by-band (band-checks.checkOf i)
 unfolding band-checks.checkOf
 band-stops i =
     rung (sizeOk (i .lent .w) (i .lent .h)) Size _
-    (rung (band-checks.bandOk (i .next) (i .band) (i .lent .h)) Band _
+    (rung (bandOk (i .next) (i .band) (i .lent .h)) Band _
     (rest-stops _ _ _ (i .lent)))
 
 pub deblock-band-refusals : Refuses band.outcome (λ o. o .reading .number) by-band
-unfolding band.outcome band-checks.checkOf band-checks.bandOk bandRows checks.fromLengths checks.lengthsOk checks.settingsOk checks.offsetOk checks.keepOk checks.qpsOk
+unfolding band.outcome band-checks.checkOf bandOk bandRows checks.fromLengths checks.lengthsOk checks.settingsOk checks.offsetOk checks.keepOk checks.qpsOk
     checks.planesOk list.limitOk sizeOk walk byByte inTurn onward leafWalk samplesOk allBelow fieldOf
 deblock-band-refusals =
     record {
@@ -1026,7 +1026,7 @@ deblock-band-refusals =
     }
 
 pub checked-band-refusals : Refuses band-checks.checkOf answerNumber by-band
-unfolding band-checks.checkOf band-checks.bandOk bandRows checks.fromLengths checks.lengthsOk checks.settingsOk checks.offsetOk checks.keepOk checks.qpsOk checks.planesOk
+unfolding band-checks.checkOf bandOk bandRows checks.fromLengths checks.lengthsOk checks.settingsOk checks.offsetOk checks.keepOk checks.qpsOk checks.planesOk
     list.limitOk sizeOk walk byByte inTurn onward leafWalk samplesOk allBelow fieldOf
 checked-band-refusals = record { only = λ i. band-stops i .by; shown = map band.checked bandings; given = refl }
 

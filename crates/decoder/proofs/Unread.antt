@@ -19,6 +19,7 @@ use Rattle.split.specs.Walk.{Leaf, Walk}
 use Rattle.reach_rules.specs.Reached.{pictureReached, AgreeAt, SameTree}
 use Rattle.reach_rules.proofs.Calls.{after-same}
 use Rattle.reach_rules.proofs.Reached.{same-tree}
+use Rattle.band_rows.specs.Rows.{bandOk}
 use Rattle.df_check.specs.BandCheck as band-checks
 use Rattle.df_check.specs.Checks as checks
 use Rattle.df_check.proofs.Passed.{passed, rest-passed}
@@ -118,7 +119,7 @@ module _ (i : band.Input) (t : List ℕ) (n : length t ≡ length (i .splits)) (
   band-walked : band.check i ≡ Done → pictureWalk (i .splits) (band.wide i) (band.rows i) .answer ≡ Done
   unfolding band-checks.checkOf
   band-walked e =
-      let rest = passes (band-checks.bandOk (i .next) (i .band) (i .h)) Band _ (passes (sizeOk (i .w) (i .h)) Size _ e .rest) .rest in
+      let rest = passes (bandOk (i .next) (i .band) (i .h)) Band _ (passes (sizeOk (i .w) (i .h)) Size _ e .rest) .rest in
       rw units at (rest-passed (4 * (band.top i + band.rows i)) (4 * band.rows i) (4 * (band.top i - 1)) (band.checked i .lent) rest .walk)
 
   pub deblock-band-same : band.outcome band-other ≡ band.outcome i

@@ -91,6 +91,10 @@ use Rattle.decoder.proofs.roots_along.Kinds as roots-along-kinds
 use Rattle.decoder.proofs.roots_along.Reads as roots-along-reads
 use Rattle.decoder.proofs.rows_above.Kinds as rows-above-kinds
 use Rattle.decoder.proofs.rows_above.Reads as rows-above-reads
+use Rattle.decoder.proofs.band_ok.Kinds as band-ok-kinds
+use Rattle.decoder.proofs.band_ok.Reads as band-ok-reads
+use Rattle.decoder.proofs.lent_rows.Kinds as lent-rows-kinds
+use Rattle.decoder.proofs.lent_rows.Reads as lent-rows-reads
 use Rattle.decoder.proofs.mask_of.Kinds as mask-of-kinds
 use Rattle.decoder.proofs.mask_of.Reads as mask-of-reads
 use Rattle.decoder.proofs.line.Kinds as line-kinds
@@ -224,6 +228,12 @@ roots-along-once κs a r r′ x x′ p q = p ∙ sym q
 
 pub rows-above-once : Sole 0 rows-above-kinds.ps rows-above-kinds.r rows-above-reads.Post (λ κs r x. r)
 rows-above-once κs a r r′ x x′ p q = p ∙ sym q
+
+pub band-ok-once : Sole 0 band-ok-kinds.ps band-ok-kinds.r band-ok-reads.Post (λ κs r x. r)
+band-ok-once κs a r r′ x x′ p q = p ∙ sym q
+
+pub lent-rows-once : Sole 0 lent-rows-kinds.ps lent-rows-kinds.r lent-rows-reads.Post (λ κs r x. r)
+lent-rows-once κs a r r′ x x′ p q = p ∙ sym q
 
 pub mask-of-once : Sole 0 mask-of-kinds.ps mask-of-kinds.r mask-of-reads.Post (λ κs r x. r)
 mask-of-once κs a r r′ x x′ p q = p ∙ sym q

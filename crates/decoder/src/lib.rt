@@ -9,9 +9,9 @@
 //     6 residual        recon, recon_plane
 //     7 driver          reconstruct; checked_leaves, coded_y, coded_u, coded_v, mode_of, word_of, clear_words, tell_units
 //     8 walk            leaves, check, visiting_rank, list_edges; root_leaves, root_list, list_marks, take_marks, mark_place, mark_byte, root_count
-//       deblocking      deblock; Bands::first, deblock_band; checked, checked_band, band_rows, rows_above, entries, mask_of, line, lanes,
-//                       lanes_by_halves, window_luma, window_luma_two, window_kept, window_chroma, window_chroma_two, motion_row, plan_edges,
-//                       is_horizontal, filter_luma, filter_chroma
+//       deblocking      deblock; Bands::first, deblock_band; checked, checked_band, band_rows, rows_above, band_ok, lent_rows, entries, mask_of,
+//                       line, lanes, lanes_by_halves, window_luma, window_luma_two, window_kept, window_chroma, window_chroma_two, motion_row,
+//                       plan_edges, is_horizontal, filter_luma, filter_chroma
 //       edge rows       fill_rows, set_motion, set_flag, deblock_by_rows; row_at, rows_at, rows_right, checked_maps, checked_by_rows
 //     the sheet         read, listing
 //     the compact map   put_map, get_map; take_map; write_to, write_map, read_from, read_map; get_bit, put_bit, bits_in
@@ -19,12 +19,18 @@
 //     streams           read_header, write_header, read_frame, write_frame, import_frame
 // Inside are those that a caller needs none of. They are public because another crate calls them, and total like the rest: checked_points, start_qp, delta_in,
 // delta_out, checked_leaves, coded_y, coded_u, coded_v, mode_of, word_of, clear_words, tell_units, roots_along, root_leaves, root_list, list_marks, take_marks,
-// mark_place, mark_byte, root_count, checked, checked_band, entries, mask_of, line, lanes, lanes_by_halves, window_luma, window_luma_two, window_kept, window_chroma,
-// window_chroma_two, motion_row, plan_edges, is_horizontal, filter_luma, filter_chroma, rows_at, checked_maps, checked_by_rows, bits_in, read.
+// mark_place, mark_byte, root_count, checked, checked_band, band_ok, lent_rows, entries, mask_of, line, lanes, lanes_by_halves, window_luma, window_luma_two,
+// window_kept, window_chroma, window_chroma_two, motion_row, plan_edges, is_horizontal, filter_luma, filter_chroma, rows_at, checked_maps, checked_by_rows,
+// bits_in, read.
 pub use avail::Avail;
 pub use avail::Neighbours;
 pub use avail::get_avail_inter;
 pub use avail::get_avail_intra;
+pub use band_rows::LentRows;
+pub use band_rows::band_ok;
+pub use band_rows::band_rows;
+pub use band_rows::lent_rows;
+pub use band_rows::rows_above;
 pub use bits::get_bit;
 pub use bits::put_bit;
 pub use by_rows_check::checked_by_rows;
@@ -63,10 +69,8 @@ pub use df::Deblocked;
 pub use df::deblock;
 pub use df::deblock_by_rows;
 pub use df_check::Settings;
-pub use df_check::band_rows;
 pub use df_check::checked;
 pub use df_check::checked_band;
-pub use df_check::rows_above;
 pub use driver::reconstruct;
 pub use driver_check::checked_leaves;
 pub use edge_filter::Pass;

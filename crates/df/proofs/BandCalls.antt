@@ -24,7 +24,7 @@ use Rattle.samples.specs.Samples.{samplesOk}
 use Rattle.samples.proofs.Samples.{sample-any}
 use Rattle.split.specs.Edges.{Pass, vertical, horizontal, Edge}
 use Rattle.split.specs.Picture.{pictureWalk}
-use Rattle.df_check.proofs.Bands.{band-size, few-above, few-rows}
+use Rattle.band_rows.proofs.Bands.{band-size, few-above, few-rows}
 use Rattle.df_check.proofs.Passed.{word-any, mark-any}
 use Rattle.df_rules.specs.Filter.{Planes, finished}
 use Rattle.df_rules.specs.Lent.{LentPicture}
@@ -34,7 +34,7 @@ use Rattle.df_rules.specs.Visit.{allDone}
 use Rattle.df_rules.specs.Strength.{Maps}
 use Rattle.df_rules.proofs.Planes.{no-samples, finished-none}
 use Rattle.bands_rules.specs.Bands.{edgeDown, listFrom, mapPart, mapsPart, placesOf, doneFrom, BothPassesFrom}
-use Rattle.df_check.specs.Rows.{rowsAbove}
+use Rattle.band_rows.specs.Rows.{rowsAbove}
 use Rattle.bands_rules.proofs.Lists.{Lies, list-in}
 use Rattle.bands_rules.proofs.Parts.{Keeps, finished-part, list-down}
 use Rattle.df.specs.Band as band

@@ -13,8 +13,8 @@ use borrow.Author.Tests.{eqb-true, ltb-true}
 use lib.Dec.{eqb}
 use lib.ListN.{length, drop, length-drop}
 use Rattle.def.proofs.Sizes.{sized}
+use Rattle.band_rows.specs.Rows.{bandOk}
 use Rattle.df_check.specs.BandCheck as band-check
-use Rattle.df_check.specs.BandCheck.{bandOk}
 use Rattle.df_check.proofs.Passed.{rest-passed}
 use Rattle.def.specs.declared.Component.{Component}
 use Rattle.def.specs.declared.Component.the-variants.{Luma, Chroma}

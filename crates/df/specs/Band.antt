@@ -22,7 +22,7 @@ use Rattle.df_rules.specs.Strength.{Maps}
 use Rattle.df.specs.declared.band.Banded.{Banded}
 use Rattle.df.specs.declared.band.Banded.the-variants.{Done, Refused}
 use Rattle.bands_rules.specs.Bands.{listFrom, doneFrom, placesOf}
-use Rattle.df_check.specs.Rows.{bandRows, rowsAbove}
+use Rattle.band_rows.specs.Rows.{bandRows, rowsAbove}
 
 pub record Input : Type 0 where
   pub next : ℕ

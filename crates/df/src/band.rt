@@ -13,14 +13,14 @@ ghost use Rattle.df.specs.Band as Band;
 use crate::Counts;
 use crate::entries_by;
 use crate::passes_by;
+use band_rows::band_rows;
+use band_rows::rows_above;
 use def::Answer;
 use def::Format;
 use def::Refusal;
 use def::in_format;
 use df_check::Settings;
-use df_check::band_rows;
 use df_check::checked_band;
-use df_check::rows_above;
 
 // A position in a picture that is done by bands: the band that comes next.
 pub struct Bands {

@@ -2,4 +2,3 @@ pub mod Formats
 pub mod Passed
 pub mod Walked
 pub mod Fronts
-pub mod Bands

@@ -3,9 +3,7 @@
 mod check; // check.rt: a picture's
 mod band; // band.rt: a band's
 
-pub use band::band_rows;
 pub use band::checked_band;
-pub use band::rows_above;
 pub use check::checked;
 use def::Format;
 

@@ -31,7 +31,7 @@ use Rattle.df_rules.specs.Visit.{allDone}
 use Rattle.df_rules.proofs.Finished.{demand-3}
 use Rattle.df_rules.proofs.Alikes.{Alikes, alikes-at}
 use Rattle.bands_rules.specs.Bands.{mapPart, edgeDown, bandList, doneFrom, placesOf, called, calledAll, joined as joined-lists}
-use Rattle.df_check.specs.Rows.{bandRows, rowsAbove, rowsBefore}
+use Rattle.band_rows.specs.Rows.{bandRows, rowsAbove, rowsBefore}
 use Rattle.bands_rules.proofs.Called.{Held, above-before, list-at, calls-long, calls-below, calls-finished, calls-final, finished-alike, part-alikes}
 use Rattle.bands_rules.proofs.Down.{band}
 use Rattle.bands_rules.proofs.Lists.{BandDone, lists-joined, walks-joined}

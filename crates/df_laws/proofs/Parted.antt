@@ -28,10 +28,9 @@ use Rattle.samples.specs.Samples.{samplesOk}
 use Rattle.samples.proofs.Samples.{sample-any, samples-pass}
 use Rattle.split.specs.Picture.{across, pictureWalk}
 use Rattle.df_check.specs.BandCheck as band-check
-use Rattle.df_check.specs.BandCheck.{bandOk}
 use Rattle.df_check.specs.Checks as checks
 use Rattle.df_check.specs.Checks.{colourLength, lengthsOk, keepOk, qpsOk, planesOk}
-use Rattle.df_check.specs.Rows.{bandRows, rowsAbove, rowsBefore}
+use Rattle.band_rows.specs.Rows.{bandRows, rowsAbove, rowsBefore, bandOk}
 use Rattle.df_check.proofs.Formats.{none-before}
 use Rattle.df_check.proofs.Passed.{lengths-told, Rest, rest-passed, word-any, mark-any}
 use Rattle.df_rules.specs.Window.{Samples}

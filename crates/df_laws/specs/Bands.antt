@@ -12,7 +12,7 @@ use Rattle.split.specs.Picture.{across}
 use Rattle.df_rules.specs.Demand3.{Demand3}
 use Rattle.df_rules.specs.Places.{unitSide}
 use Rattle.bands_rules.specs.Bands.{bandBytes, mapPart, placesOf, bandList, joined, edgeDown}
-use Rattle.df_check.specs.Rows.{bandRows, rowsAbove, rowsBefore}
+use Rattle.band_rows.specs.Rows.{bandRows, rowsAbove, rowsBefore}
 use Rattle.df.specs.Band as band
 use Rattle.df.specs.Deblock.{Input, Outcome, passEdges, qpY, qpU, qpV, outcome}
 

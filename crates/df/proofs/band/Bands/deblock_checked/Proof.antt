@@ -9,8 +9,8 @@ use denote.Ref.{now}
 use lib.ListN.{length}
 use Rattle.def.specs.declared.Answer.the-variants.{Done}
 use Rattle.def.proofs.Sizes.{sized}
-use Rattle.df_check.specs.Rows.{bandRows, rowsAbove}
-use Rattle.df_check.proofs.Bands.{few-rows}
+use Rattle.band_rows.specs.Rows.{bandRows, rowsAbove}
+use Rattle.band_rows.proofs.Bands.{few-rows}
 use Rattle.split.proofs.Roots.{some-wide}
 use Rattle.df.specs.Band.{Input, check, wide}
 use Rattle.df.proofs.BandCalls.{near, asked, done-by}

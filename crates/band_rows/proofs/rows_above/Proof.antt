@@ -1,10 +1,10 @@
--- `df_check::band::rows_above` meets its contract: band 0 has none above it. Assumes nothing.
+-- `band_rows::rows_above` meets its contract: band 0 has none above it. Assumes nothing.
 use Prim.Native.Nat.{ℕ, zero, suc}
 use mathlib.Core.Path.{_≡_, refl, sym, ap}
 use native.Mathlib.Omega.{arith}
-use Rattle.df_check.specs.Rows.{rowsAbove}
-use Rattle.df_check.proofs.band.rows_above.Statement.{statement}
-use Rattle.df_check.proofs.band.rows_above.Tie as tie
+use Rattle.band_rows.specs.Rows.{rowsAbove}
+use Rattle.band_rows.proofs.rows_above.Statement.{statement}
+use Rattle.band_rows.proofs.rows_above.Tie as tie
 
 none : (k : ℕ) → k ≡ 0 → 0 ≡ rowsAbove k
 none k e = ap rowsAbove (sym e)

@@ -1,8 +1,8 @@
--- `df_check::band::band_rows` meets its contract: by which band it is. Assumes nothing.
+-- `band_rows::band_rows` meets its contract: by which band it is. Assumes nothing.
 use native.Mathlib.Omega.{arith}
-use Rattle.df_check.proofs.Bands.{rows-full, rows-last, rows-none}
-use Rattle.df_check.proofs.band.band_rows.Statement.{statement}
-use Rattle.df_check.proofs.band.band_rows.Tie as tie
+use Rattle.band_rows.proofs.Bands.{rows-full, rows-last, rows-none}
+use Rattle.band_rows.proofs.band_rows.Statement.{statement}
+use Rattle.band_rows.proofs.band_rows.Tie as tie
 
 returns : tie.Need-returns
 returns c = rows-full _ _ (c .if1 .taken)

@@ -13,8 +13,7 @@ use lib.Dec.{leb, eqb, ltb}
 use Rattle.laws.proofs.Bools.{both-left, both-right}
 use Rattle.def.specs.Picture.{sizeOk, rootsAlong}
 use Rattle.def.proofs.Sizes.{Sized, sized}
-use Rattle.df_check.specs.BandCheck.{bandOk}
-use Rattle.df_check.specs.Rows.{bandRows, rowsAbove}
+use Rattle.band_rows.specs.Rows.{bandRows, rowsAbove, bandOk}
 
 module _ (h k : ℕ) where
   pub rows-full : k < h / 16 → 16 ≡ bandRows h k
