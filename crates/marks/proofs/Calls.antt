@@ -9,7 +9,7 @@ use native.Mathlib.Omega.{arith}
 use borrow.Author.Tests.{eqb-true, ltb-true}
 use lib.Dec.{eqb, ltb}
 use lib.ListN.{length, take, drop, length-map, drop-of-length-le}
-use lib.Seq.{sets}
+use lib.Seq.{sets, length-sets}
 use Rattle.bits.specs.Bits.{bitsFrom}
 use Rattle.def.specs.Answers.{afterChecks}
 use Rattle.def.specs.Picture.{rootsAlong, rootCount}
@@ -61,6 +61,11 @@ module _ {w h : ℕ} (z : Sized w h) (i : ℕ) where
   pub root-grown : {x y : ℕ} (ds : List ℕ) → x ≡ column → y ≡ row → rootDescent (w / 4) (h / 4) i ds ≡ descend (w / 4) (h / 4) 4 (x / 4) (y / 4) ds
   root-grown ds e f = rw (e, f, column-is, row-is)
 
+-- as many digits as lie from one place up to another
+pub grew-between : (w h i from to : ℕ) (s : List ℕ) {n : ℕ} {list₀ list : List ℕ} {r : Marked} → n ≡ to - from
+    → Grew (rootDescent w h i (bitsFrom s from n)) (bitsFrom s from n) list₀ 0 list r → Grew (rootDescent w h i (bitsFrom s from (to - from))) (bitsFrom s from (to - from)) list₀ 0 list r
+grew-between w h i from to s {n} {list₀} {list} {r} e d = subst (λ (k : ℕ). Grew (rootDescent w h i (bitsFrom s from k)) (bitsFrom s from k) list₀ 0 list r) e d
+
 -- ---- list_marks
 
 module _ (i : list-call.Input) where
@@ -87,24 +92,22 @@ module _ (i : take-call.Input) where
   take-refused r e = rw (sym e)
 
   -- the marks are in a list of the call's own, of which the first n are copied
-  abbrev By : ℕ → List ℕ → List ℕ → Marked → Type 0
-  By count list₀ list r =
-      let ds = bitsFrom (i .src) (i .from) count in
-      Grew (rootDescent (i .w / 4) (i .h / 4) (i .root) ds) ds list₀ 0 list r
-
-  module _ {count : ℕ} {list₀ list : List ℕ} {r : Marked} (is : count ≡ i .to - i .from) (d′ : By count list₀ list r) where
-    d : By (i .to - i .from) list₀ list r
-    d = subst (λ (n : ℕ). By n list₀ list r) is d′
-
+  module _ {list₀ list : List ℕ} {r : Marked} (d : Grew (take-call.descent i) (bitsFrom (i .src) (i .from) (i .to - i .from)) list₀ 0 list r) where
     pub taken-few : (n : ℕ) → r ≡ Counted n → n ≤ 85
     unfolding blocksIn
     taken-few n e =
         let k = counted-done n _ (take-call.descent i .walk .answer) (sym e ∙ d .answer) in
         omega (arith, few-grown (i .w / 4) (i .h / 4) 4 (rootX (i .w / 4) (i .root)) (rootY (i .w / 4) (i .root)) (bitsFrom (i .src) (i .from) (i .to - i .from)))
 
+    -- the list is as long as it was
+    pub taken-long : (n : ℕ) → r ≡ Counted n → length list ≡ length list₀
+    taken-long n e = let k = counted-done n _ (take-call.descent i .walk .answer) (sym e ∙ d .answer) in ap length (d .stored (k .0)) ∙ length-sets list₀ 0 (numbers (take-call.descent i .marks))
+
     pub take-stopped : (q : Refusal) → r ≡ NotCounted q → take-call.descent i .walk .answer ≡ take-call.check i
-        → record { reading = list-call.readingOf (NotCounted q); out = i .out } ≡ take-call.outcome i
-    take-stopped q e f = take-refused q (sym (counted-refused q _ (take-call.descent i .walk .answer) (sym e ∙ d .answer)) ∙ f)
+        → record { reading = list-call.readingOf r; out = i .out } ≡ take-call.outcome i
+    take-stopped q e f =
+        ap (λ (m : Marked). record { reading = list-call.readingOf m; out = i .out }) e
+        ∙ take-refused q (sym (counted-refused q _ (take-call.descent i .walk .answer) (sym e ∙ d .answer)) ∙ f)
 
     pub take-done : (n : ℕ) (o : List ℕ) → length list₀ ≡ 85 → r ≡ Counted n → take-call.descent i .walk .answer ≡ take-call.check i
         → o ≡ sets (i .out) 0 (take n list) → record { reading = list-call.readingOf (Counted n); out = o } ≡ take-call.outcome i

@@ -25,9 +25,7 @@ use Rattle.marks_rules.proofs.Descents.{partOf, descend-x, descend-y, descend-n
 use Rattle.marks_rules.proofs.Descents.{Quiet, unit-quiet, all-quiet, few-grown, few-descents}
 use Rattle.marks_rules.specs.Descent.{Descent, grown, descendThen, descents, runOut, after, descend}
 use Rattle.marks_rules.specs.Marks.{Mark, mark, blocksIn}
-use Rattle.marks.specs.Stored.{numbers, one, counted, Listed, Grew, Divided, Began, began, partDescents}
-use Rattle.marks.specs.declared.Digit.{Digit}
-use Rattle.marks.specs.declared.Digit.the-variants.{Whole, Cut, Refused as Stopped}
+use Rattle.marks.specs.Stored.{numbers, one, counted, Listed, Grew, Divided, Began, partDescents}
 use Rattle.marks.specs.declared.Marked.{Marked}
 use Rattle.marks.specs.declared.Marked.the-variants.{Done as Counted, Refused as NotCounted}
 use Rattle.marks.proofs.Blocks.{Halved, halved}
@@ -49,8 +47,8 @@ module _ {ds : List ℕ} where
   pub grew-as : {g k : Descent} {out out₁ : List ℕ} {n : ℕ} {r : Marked} → g ≡ k → Grew k ds out n out₁ r → Grew g ds out n out₁ r
   grew-as {out = out} {out₁ = out₁} {n = n} {r = r} e h = subst (λ (z : Descent). Grew z ds out n out₁ r) (sym e) h
 
-  pub grew-count : {g : Descent} {out out₁ : List ℕ} {n m : ℕ} → Grew g ds out n out₁ (Counted m) → m ≡ n + length (g .marks)
-  grew-count {g} {m = m} d = counted-done m _ (g .walk .answer) (d .answer) .1
+  pub grew-count : {g : Descent} {out out₁ : List ℕ} {n m : ℕ} {r : Marked} → r ≡ Counted m → Grew g ds out n out₁ r → m ≡ n + length (g .marks)
+  grew-count {g} {m = m} e d = counted-done m _ (g .walk .answer) (sym e ∙ d .answer) .1
 
   pub grew-quiet : {g : Descent} (out : List ℕ) (n : ℕ) → Quiet g (drop n ds) → Grew g ds out n out (Counted n)
   grew-quiet {g} out n q =
@@ -151,8 +149,10 @@ module _ (ds : List ℕ) (n : ℕ) {w h x y side level : ℕ} (b : Block w h x y
 
       -- its own mark is listed, and its parts' are to follow
       pub divided : {out out₁ : List ℕ} {m : ℕ} → Listed (one p byte) out n out₁ m → byte ≡ 1
-          → Divided here (partDescents (w / 4) (h / 4) k (x / 4) (y / 4)) (place k (x / 4) (y / 4)) ds out n out₁ m
+          → Divided here (partDescents (w / 4) (h / 4) k (x / 4) (y / 4)) (place k (x / 4) (y / 4)) ds out n out₁ (Counted m)
       divided {out} {out₁} {m} l e = record {
+        count = m;
+        answer = refl;
         own = subst (λ (q : ℕ). Listed (one q 1) out n out₁ m) there (subst (λ (v : ℕ). Listed (one p v) out n out₁ m) e l);
         rest = cut m (l .count) e ∙ ap₂ (λ (i j : ℕ). after (mark i j) (descents (partOf (w / 4) (h / 4) k (x / 4) (y / 4)) 4 (drop m ds))) there e;
       }
@@ -181,47 +181,16 @@ grew-leaf {ds} {v} {p} {b} {out} {out₁} {n} {m} {r} l e =
 
 -- ---- what a digit comes to
 
-abbrev way : Digit → ℕ
-way (Whole m) = 0
-way (Cut m) = 1
-way (Stopped r) = 2
+module _ {g : Descent} {parts : List ℕ → Descent} {p : ℕ} {ds out : List ℕ} {n : ℕ} {out₁ : List ℕ} {r : Marked} where
+  pub began-whole : Grew g ds out n out₁ r → Began g parts p ds out n out₁ r false
+  began-whole h = record { whole = λ e. h; divided = λ e. absurd (let z : _≡_ {A = ℕ} 0 1 = cc in omega arith) }
 
-apart : {P : Type 0} {a b : Digit} → a ≡ b → (way a ≡ way b → ⊥) → P
-apart e n = absurd (n (ap way e))
-
-module _ {g : Descent} {parts : List ℕ → Descent} {p : ℕ} {ds out : List ℕ} {n : ℕ} {out₁ : List ℕ} where
-  pub began-whole : (m : ℕ) → Grew g ds out n out₁ (Counted m) → Began g parts p ds out n out₁ (Whole m)
-  began-whole m h = record {
-    whole = λ k e. let z : m ≡ k = cc in subst (λ (i : ℕ). Grew g ds out n out₁ (Counted i)) z h;
-    cut = λ k e. apart e (λ z. omega arith);
-    stopped = λ q e. apart e (λ z. omega arith);
-  }
-
-  pub began-cut : (m : ℕ) → Divided g parts p ds out n out₁ m → Began g parts p ds out n out₁ (Cut m)
-  began-cut m h = record {
-    whole = λ k e. apart e (λ z. omega arith);
-    cut = λ k e. let z : m ≡ k = cc in subst (Divided g parts p ds out n out₁) z h;
-    stopped = λ q e. apart e (λ z. omega arith);
-  }
-
-  pub began-stopped : (r : Refusal) → Grew g ds out n out₁ (NotCounted r) → Began g parts p ds out n out₁ (Stopped r)
-  began-stopped r h = record {
-    whole = λ k e. apart e (λ z. omega arith);
-    cut = λ k e. apart e (λ z. omega arith);
-    stopped = λ q e. let z : r ≡ q = cc in subst (λ (i : Refusal). Grew g ds out n out₁ (NotCounted i)) z h;
-  }
-
-  -- a leaf's, by its walk's answer
-  began-by : (m : ℕ) (a : Answer) → Grew g ds out n out₁ (counted m a) → Began g parts p ds out n out₁ (began m a)
-  began-by m Done h = began-whole m h
-  began-by m (Refused r) h = began-stopped r h
-
-  pub began-leaf : {d : Digit} (m : ℕ) (a : Answer) → d ≡ began m a → Grew g ds out n out₁ (counted m a) → Began g parts p ds out n out₁ d
-  began-leaf m a e h = subst (Began g parts p ds out n out₁) (sym e) (began-by m a h)
+  pub began-cut : Divided g parts p ds out n out₁ r → Began g parts p ds out n out₁ r true
+  began-cut h = record { whole = λ e. absurd (let z : _≡_ {A = ℕ} 0 1 = cc in omega arith); divided = λ e. h }
 
 -- a block's own mark, and then its parts'
-pub divided-then : {g : Descent} {parts : List ℕ → Descent} {p : ℕ} {ds out out₁ out₂ : List ℕ} {n m : ℕ} {r : Marked}
-    → Divided g parts p ds out n out₁ m → Grew (parts (drop m ds)) ds out₁ m out₂ r → Grew g ds out n out₂ r
+pub divided-then : {g : Descent} {parts : List ℕ → Descent} {p : ℕ} {ds out out₁ out₂ : List ℕ} {n : ℕ} {q r : Marked} (d : Divided g parts p ds out n out₁ q)
+    → Grew (parts (drop (d .count) ds)) ds out₁ (d .count) out₂ r → Grew g ds out n out₂ r
 divided-then d h = grew-as (d .rest) (grew-after (d .own) h)
 
 -- ---- the loop: i parts are taken
@@ -233,31 +202,40 @@ module _ (ds : List ℕ) {w h x y side level : ℕ} (b : Block w h x y side leve
   pub few-taken : (i n : ℕ) → length (taken i n .marks) ≤ i * blocksIn (3 - level)
   few-taken i n = few-descents (partOf (w / 4) (h / 4) (3 - level) (x / 4) (y / 4)) (blocksIn (3 - level)) (λ j l. few-grown _ _ (3 - level) _ _ l) i (drop n ds)
 
-  pub no-part : (out : List ℕ) (n : ℕ) → Grew (taken 0 n) ds out n out (Counted n)
-  no-part out n = grew-quiet out n (rw (descents-none (partOf (w / 4) (h / 4) (3 - level) (x / 4) (y / 4)) (drop n ds)) (record { done = refl; none = refl; left = refl }))
+  pub no-part : (out : List ℕ) (n : ℕ) {r : Marked} → r ≡ Counted n → Grew (taken 0 n) ds out n out r
+  no-part out n e =
+      subst (Grew (taken 0 n) ds out n out) (sym e)
+      (grew-quiet out n (rw (descents-none (partOf (w / 4) (h / 4) (3 - level) (x / 4) (y / 4)) (drop n ds)) (record { done = refl; none = refl; left = refl })))
 
-  module _ (deep : level < 4) (i : ℕ) {out₀ : List ℕ} {n : ℕ} {out : List ℕ} {count : ℕ} (d : Grew (taken i n) ds out₀ n out (Counted count)) where
-    module _ {px py : ℕ} {r : Marked} {out₁ : List ℕ} (e : px ≡ x + i % 2 * (side / 2)) (e′ : py ≡ y + i / 2 * (side / 2))
-        (g : Grew (descend (w / 4) (h / 4) (4 - (level + 1)) (px / 4) (py / 4) (drop count ds)) ds out count out₁ r) where
-      one-more : Grew (taken (suc i) n) ds out₀ n out₁ r
-      one-more =
-          let z = halved b deep in
-          let q = rw (e, e′, z .next, z .column i, z .row i) at g in
-          grew-as (descents-more (partOf (w / 4) (h / 4) (3 - level) (x / 4) (y / 4)) i (drop n ds)) (grew-then (partOf (w / 4) (h / 4) (3 - level) (x / 4) (y / 4) i) d q)
+  module _ (deep : level < 4) (i : ℕ) {out₀ : List ℕ} {n : ℕ} {out : List ℕ} {r : Marked} (d : Grew (taken i n) ds out₀ n out r) where
+    pub part-more : {count px py : ℕ} {r₁ : Marked} {out₁ : List ℕ} → r ≡ Counted count → px ≡ x + i % 2 * (side / 2) → py ≡ y + i / 2 * (side / 2)
+        → Grew (descend (w / 4) (h / 4) (4 - (level + 1)) (px / 4) (py / 4) (drop count ds)) ds out count out₁ r₁ → Grew (taken (i + 1) n) ds out₀ n out₁ r₁
+    part-more q e e′ g =
+        let z = halved b deep in
+        let f = rw (e, e′, z .next, z .column i, z .row i) at g in
+        let before = subst (Grew (taken i n) ds out₀ n out) q d in
+        rw (add-one i)
+        (grew-as (descents-more (partOf (w / 4) (h / 4) (3 - level) (x / 4) (y / 4)) i (drop n ds)) (grew-then (partOf (w / 4) (h / 4) (3 - level) (x / 4) (y / 4) i) before f))
 
-      pub part-more : (m : ℕ) → r ≡ Counted m → Grew (taken (i + 1) n) ds out₀ n out₁ (Counted m)
-      part-more m q = rw (add-one i) (subst (Grew (taken (suc i) n) ds out₀ n out₁) q one-more)
+    -- a part that is refused ends the block
+    pub part-refused : (q : Refusal) → i < 4 → r ≡ NotCounted q → Grew (taken 4 n) ds out₀ n out r
+    part-refused q l s =
+        let j : i + (4 - i) ≡ 4 = omega arith in
+        let a = counted-refused q _ (taken i n .walk .answer) (sym s ∙ d .answer) in
+        let t = descents-stop (partOf (w / 4) (h / 4) (3 - level) (x / 4) (y / 4)) i (4 - i) q (drop n ds) a in
+        grew-as (ap (λ (k : ℕ). taken k n) (sym j) ∙ t) d
 
-      -- a part that is refused ends the block
-      pub part-refused : (q : Refusal) → i < 4 → r ≡ NotCounted q → Grew (taken 4 n) ds out₀ n out₁ (NotCounted q)
-      part-refused q l s =
-          let j : suc i + (3 - i) ≡ 4 = omega arith in
-          let a = counted-refused q _ (taken (suc i) n .walk .answer) (sym s ∙ one-more .answer) in
-          let t = descents-stop (partOf (w / 4) (h / 4) (3 - level) (x / 4) (y / 4)) (suc i) (3 - i) q (drop n ds) a in
-          grew-as (ap (λ (k : ℕ). taken k n) (sym j) ∙ t) (subst (Grew (taken (suc i) n) ds out₀ n out₁) s one-more)
+    pub part-all : 4 ≤ i → i ≤ 4 → Grew (taken 4 n) ds out₀ n out r
+    part-all u v = let e : i ≡ 4 = omega arith in subst (λ (k : ℕ). Grew (taken k n) ds out₀ n out r) e d
 
-    pub part-all : 4 ≤ i → i ≤ 4 → Grew (taken 4 n) ds out₀ n out (Counted count)
-    part-all u v = let e : i ≡ 4 = omega arith in subst (λ (k : ℕ). Grew (taken k n) ds out₀ n out (Counted count)) e d
+  -- a block of side 8 has its own digit alone
+  pub began-eight : {n p : ℕ} {out out₁ : List ℕ} {r : Marked} (cut : Bool) → level ≡ 3
+      → Began (descend (w / 4) (h / 4) (4 - level) (x / 4) (y / 4) (drop n ds)) (partDescents (w / 4) (h / 4) (3 - level) (x / 4) (y / 4)) p ds out n out₁ r cut
+      → Grew (descend (w / 4) (h / 4) (4 - level) (x / 4) (y / 4) (drop n ds)) ds out n out₁ r
+  began-eight false e o = o .whole refl
+  began-eight {n} true e o =
+      let d = o .divided refl in
+      subst (Grew (descend (w / 4) (h / 4) (4 - level) (x / 4) (y / 4) (drop n ds)) ds _ n _) (sym (d .answer)) (divided-then d (grew-quiet _ _ (last ds n b e _)))
 
 -- ---- the digits
 

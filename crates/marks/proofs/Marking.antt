@@ -1,5 +1,5 @@
 -- The marks of a block from split bytes: each way through the code, and the loop over its four parts.
---     opened-none, opened-whole, opened-cut    its own mark is listed
+--     opened-none, opened    its own mark is listed
 --     open-whole, open-cut, open-eight    its marks, by those of its parts
 -- Assumes nothing.
 use mathlib.Core.Bool.{Bool, true, false, _||_}
@@ -10,7 +10,7 @@ use native.Mathlib.Nat.{suc-mul, mul-le-mul-right}
 use native.Mathlib.Numerals.{add-one}
 use native.Mathlib.Omega.{arith}
 use borrow.Author.Tests.{leb-true, leb-false}
-use lib.Dec.{leb}
+use lib.Dec.{leb, eqb}
 use lib.ListN.{length, getD, take, drop, length-append, take-append-drop}
 use Rattle.laws.specs.Index.{pick}
 use Rattle.split.specs.Stored.{Block}
@@ -105,11 +105,12 @@ module _ (s : List ℕ) {w h x y side level : ℕ} (b : Block w h x y side level
 
     -- its own mark, listed: the first of its marks, and its parts' are the others
     module _ {out out₁ : List ℕ} {n r : ℕ} (l : Listed (one p byte) out n out₁ r) where
-      pub opened-whole : byte ≡ 0 → Opened here (four partMarks) out n out₁ r false
-      opened-whole e = subst (λ (k : List Mark). Opened k (four partMarks) out n out₁ r false) (sym (whole e)) (record { own = l; rest = refl })
-
-      pub opened-cut : (byte ≡ 0 → ⊥) → Opened here (four partMarks) out n out₁ r true
-      opened-cut q = subst (λ (k : List Mark). Opened k (four partMarks) out n out₁ r true) (sym (cut q)) (record { own = l; rest = refl })
+      pub opened : byte < 2 → Opened here (four partMarks) out n out₁ r (eqb byte 1)
+      opened small = by byte refl small where
+        by : (b : ℕ) → byte ≡ b → b < 2 → Opened here (four partMarks) out n out₁ r (eqb b 1)
+        by zero e q = subst (λ (k : List Mark). Opened k (four partMarks) out n out₁ r false) (sym (whole e)) (record { own = l; rest = refl })
+        by (suc zero) e q = subst (λ (k : List Mark). Opened k (four partMarks) out n out₁ r true) (sym (cut (λ z. omega arith))) (record { own = l; rest = refl })
+        by (suc (suc b)) e q = absurd (omega arith)
 
   pub opened-none : (leb w x || leb h y) ≡ true → (out : List ℕ) (n : ℕ) → Opened here (four partMarks) out n out n false
   opened-none p out n = subst (λ (k : List Mark). Opened k (four partMarks) out n out n false) (sym (skip p)) (record { own = listed-none out n; rest = refl })

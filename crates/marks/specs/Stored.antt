@@ -1,6 +1,6 @@
 -- What the functions that list marks leave behind. A mark is listed as one number.
 -- Assumes nothing: these are definitions.
-use mathlib.Core.Bool.{Bool}
+use mathlib.Core.Bool.{Bool, true, false}
 use mathlib.Core.List.{List, [], _∷_, map}
 use mathlib.Core.Path.{_≡_}
 use Prim.Native.Nat.{ℕ, _+_, _*_, _/_, _%_, _^_, _<_}
@@ -8,13 +8,10 @@ use lib.ListN.{length, getD, take, drop}
 use lib.Seq.{sets}
 use Rattle.def.specs.declared.Answer.{Answer}
 use Rattle.def.specs.declared.Answer.the-variants.{Done, Refused}
-use Rattle.def.specs.declared.Refusal.{Refusal}
 use Rattle.laws.specs.Index.{pick}
 use Rattle.marks_rules.specs.Descent.{Descent, descents, partBy, after, descend}
 use Rattle.marks_rules.specs.Marks.{Mark, mark, four}
 use Rattle.marks_rules.specs.Mended.{mendMarks}
-use Rattle.marks.specs.declared.Digit.{Digit}
-use Rattle.marks.specs.declared.Digit.the-variants.{Whole, Cut, Refused as Stopped}
 use Rattle.marks.specs.declared.Marked.{Marked}
 use Rattle.marks.specs.declared.Marked.the-variants.{Done as Counted, Refused as NotCounted}
 
@@ -61,20 +58,16 @@ abbrev pub partDescents : (w h k x y : ℕ) → List ℕ → Descent
 partDescents w h k x y = descents (partBy (descend w h k) (2 ^ k) x y) 4
 
 -- the mark with place p is listed, and its parts' are to follow by the digits that are left
-pub record Divided (g : Descent) (parts : List ℕ → Descent) (p : ℕ) (ds out : List ℕ) (n : ℕ) (out′ : List ℕ) (r : ℕ) : Type 0 where
-  pub own : Listed (one p 1) out n out′ r
-  pub rest : g ≡ after (mark p 1) (parts (drop r ds))
+pub record Divided (g : Descent) (parts : List ℕ → Descent) (p : ℕ) (ds out : List ℕ) (n : ℕ) (out′ : List ℕ) (r : Marked) : Type 0 where
+  pub count : ℕ
+  pub answer : r ≡ Counted count
+  pub own : Listed (one p 1) out n out′ count
+  pub rest : g ≡ after (mark p 1) (parts (drop count ds))
 
--- what a block's own digit comes to
-pub record Began (g : Descent) (parts : List ℕ → Descent) (p : ℕ) (ds out : List ℕ) (n : ℕ) (out′ : List ℕ) (r : Digit) : Type 0 where
-  pub whole : (m : ℕ) → r ≡ Whole m → Grew g ds out n out′ (Counted m)
-  pub cut : (m : ℕ) → r ≡ Cut m → Divided g parts p ds out n out′ m
-  pub stopped : (q : Refusal) → r ≡ Stopped q → Grew g ds out n out′ (NotCounted q)
-
--- that of a leaf, by its walk's answer
-abbrev pub began : ℕ → Answer → Digit
-began n Done = Whole n
-began n (Refused r) = Stopped r
+-- what a block's own digit comes to: all that there is of it, or its parts' are to follow
+pub record Began (g : Descent) (parts : List ℕ → Descent) (p : ℕ) (ds out : List ℕ) (n : ℕ) (out′ : List ℕ) (r : Marked) (cut : Bool) : Type 0 where
+  pub whole : cut ≡ false → Grew g ds out n out′ r
+  pub divided : cut ≡ true → Divided g parts p ds out n out′ r
 
 -- ---- a list, read back
 

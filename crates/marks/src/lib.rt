@@ -17,7 +17,7 @@ ghost use Rattle.split.specs.Stored.{Block};
 ghost use Rattle.split.specs.Walk.{leafWalk, place};
 ghost use Rattle.marks.specs.ListCall as ListCall;
 ghost use Rattle.marks.specs.TakeCall as TakeCall;
-ghost use Rattle.marks.specs.Stored.{Listed, Opened, partMarks, Grew, Began, began, partDescents, one, markFrom};
+ghost use Rattle.marks.specs.Stored.{Listed, Opened, partMarks, counted, Grew, Began, partDescents, one, markFrom};
 use bits::get_bit;
 use def::Pel;
 use def::Refusal;
@@ -144,24 +144,14 @@ fn own_mark(
     }
     let place = byte_place(at.x, at.y, side, level);
     let byte = mended(bytes[place], w, h, at.x, at.y, side, level);
-    let count = put_mark(out, n, place, byte);
-    if byte == 0 {
-        return Own { count, cut: false };
+    Own {
+        count: put_mark(out, n, place, byte),
+        cut: byte == 1,
     }
-    Own { count, cut: true }
 }
 
-// The mark of the block of side 8 at a place, listed after n that are: its parts are units, which have none.
+// The marks of the block of side 16 at a place, listed after n that are. Its parts of side 8 have their own mark alone: their parts are units, which have none.
 // A function a side, and none that calls itself: the compiler makes one loop in another of them, and a call a block would cost more than its mark.
-fn mark_eight(bytes: &[u8], w: usize, h: usize, at: Place, out: &mut [u16], n: usize) -> usize
-    requires { ⌜ Block w h (at .x .0) (at .y .0) 8 3 × (length (now bytes) ≡ 1024) × (n + blocksIn (4 - 3) ≤ length (now out)) ⌝ }
-    ensures { λ r. ⌜ Listed (mendMarks (now (bytes .entry)) (w / 4) (h / 4) (4 - 3) (at .x .0 / 4) (at .y .0 / 4)) (now (out .entry)) n (now (out .exit)) r ⌝ }
-{
-    let own = own_mark(bytes, w, h, at, 8, 3, out, n);
-    own.count
-}
-
-// The marks of the block of side 16.
 fn mark_sixteen(bytes: &[u8], w: usize, h: usize, at: Place, out: &mut [u16], n: usize) -> usize
     requires { ⌜ Block w h (at .x .0) (at .y .0) 16 2 × (length (now bytes) ≡ 1024) × (n + blocksIn (4 - 2) ≤ length (now out)) ⌝ }
     ensures { λ r. ⌜ Listed (mendMarks (now (bytes .entry)) (w / 4) (h / 4) (4 - 2) (at .x .0 / 4) (at .y .0 / 4)) (now (out .entry)) n (now (out .exit)) r ⌝ }
@@ -174,7 +164,8 @@ fn mark_sixteen(bytes: &[u8], w: usize, h: usize, at: Place, out: &mut [u16], n:
     let mut part = 0;
     while part < 4 {
         let place = part_of(at, 8, part);
-        count = mark_eight(bytes, w, h, place, out, count);
+        let eight = own_mark(bytes, w, h, place, 8, 3, out, count);
+        count = eight.count;
         part += 1;
     }
     count
@@ -268,25 +259,24 @@ pub fn list_marks(w: usize, h: usize, splits: &[u8], root: usize, out: &mut [u16
 
 // ---- marks from digits
 
-// What a block's own digit comes to: the block is done with and n marks are listed, or it is cut and its parts' are to follow.
-enum Digit {
-    Whole(usize),
-    Cut(usize),
-    Refused(Refusal),
+// What a block's own digit comes to: how many marks are listed, or why it is refused, and whether the block is cut, so that its parts' follow.
+struct Digit {
+    marked: Marked,
+    cut: bool,
 }
 
 // A leaf, once its digit was taken: it lies inside the picture.
-fn leaf(w: usize, h: usize, x: Pel, y: Pel, side: usize, level: usize, n: usize) -> Digit
+fn leaf(w: usize, h: usize, x: Pel, y: Pel, side: usize, level: usize, n: usize) -> Marked
     requires { ⌜ Block w h (x .0) (y .0) side level ⌝ }
-    ensures { λ r. ⌜ r ≡ began n (leafWalk (w / 4) (h / 4) (2 ^ (4 - level)) (x .0 / 4) (y .0 / 4) .answer) ⌝ }
+    ensures { λ r. ⌜ r ≡ counted n (leafWalk (w / 4) (h / 4) (2 ^ (4 - level)) (x .0 / 4) (y .0 / 4) .answer) ⌝ }
 {
     if w < x.0 + side {
-        return Digit::Refused(Refusal::Leaf);
+        return Marked::Refused(Refusal::Leaf);
     }
     if h < y.0 + side {
-        return Digit::Refused(Refusal::Leaf);
+        return Marked::Refused(Refusal::Leaf);
     }
-    Digit::Whole(n)
+    Marked::Done(n)
 }
 
 // The own digit of a block of side 8 or more, of `count` bits from `from` on of which n are taken. A digit makes a mark, so n marks are listed.
@@ -299,49 +289,40 @@ fn own_digit(
     at: Place,
     side: usize,
     level: usize,
-    out: &mut [u16],
+    out: &mut [u16; 85],
     n: usize,
 ) -> Digit
-    requires { ⌜ Block w h (at .x .0) (at .y .0) side level × (level < 4) × (from + count < 2 ^ 64) × (n < length (now out)) ⌝ }
-    ensures { λ r. ⌜ Began (descend (w / 4) (h / 4) (4 - level) (at .x .0 / 4) (at .y .0 / 4) (drop n (bitsFrom (now (src .entry)) from count))) (partDescents (w / 4) (h / 4) (3 - level) (at .x .0 / 4) (at .y .0 / 4)) (place (3 - level) (at .x .0 / 4) (at .y .0 / 4)) (bitsFrom (now (src .entry)) from count) (now (out .entry)) n (now (out .exit)) r ⌝ }
+    requires { ⌜ Block w h (at .x .0) (at .y .0) side level × (level < 4) × (from + count < 2 ^ 64) × (n < 85) ⌝ }
+    ensures { λ r. ⌜ Began (descend (w / 4) (h / 4) (4 - level) (at .x .0 / 4) (at .y .0 / 4) (drop n (bitsFrom (now (src .entry)) from count))) (partDescents (w / 4) (h / 4) (3 - level) (at .x .0 / 4) (at .y .0 / 4)) (place (3 - level) (at .x .0 / 4) (at .y .0 / 4)) (bitsFrom (now (src .entry)) from count) (now (out .entry)) n (now (out .exit)) (r .marked) (r .cut) ⌝ }
 {
     if (w <= at.x.0) | (h <= at.y.0) {
-        return Digit::Whole(n);
+        return Digit {
+            marked: Marked::Done(n),
+            cut: false,
+        };
     }
     if count <= n {
-        return Digit::Refused(Refusal::Bits);
+        return Digit {
+            marked: Marked::Refused(Refusal::Bits),
+            cut: false,
+        };
     }
     let byte = get_bit(src, from + n);
     let place = byte_place(at.x, at.y, side, level);
     let next = put_mark(out, n, place, byte);
     if byte == 0 {
-        return leaf(w, h, at.x, at.y, side, level, next);
+        return Digit {
+            marked: leaf(w, h, at.x, at.y, side, level, next),
+            cut: false,
+        };
     }
-    Digit::Cut(next)
-}
-
-// The mark of the block of side 8 at a place, by its digit, if it lies in the picture: its parts are units, which have none.
-fn grow_eight(
-    src: &[u8],
-    from: usize,
-    count: usize,
-    w: usize,
-    h: usize,
-    at: Place,
-    out: &mut [u16],
-    n: usize,
-) -> Marked
-    requires { ⌜ Block w h (at .x .0) (at .y .0) 8 3 × (from + count < 2 ^ 64) × (n + blocksIn (4 - 3) ≤ length (now out)) ⌝ }
-    ensures { λ r. ⌜ Grew (descend (w / 4) (h / 4) (4 - 3) (at .x .0 / 4) (at .y .0 / 4) (drop n (bitsFrom (now (src .entry)) from count))) (bitsFrom (now (src .entry)) from count) (now (out .entry)) n (now (out .exit)) r ⌝ }
-{
-    match own_digit(src, from, count, w, h, at, 8, 3, out, n) {
-        Digit::Whole(next) => Marked::Done(next),
-        Digit::Cut(next) => Marked::Done(next),
-        Digit::Refused(r) => Marked::Refused(r),
+    Digit {
+        marked: Marked::Done(next),
+        cut: true,
     }
 }
 
-// The marks of the block of side 16, by its digits.
+// The marks of the block of side 16 at a place, by its digits. A part that is refused ends it.
 fn grow_sixteen(
     src: &[u8],
     from: usize,
@@ -349,36 +330,28 @@ fn grow_sixteen(
     w: usize,
     h: usize,
     at: Place,
-    out: &mut [u16],
+    out: &mut [u16; 85],
     n: usize,
 ) -> Marked
-    requires { ⌜ Block w h (at .x .0) (at .y .0) 16 2 × (from + count < 2 ^ 64) × (n + blocksIn (4 - 2) ≤ length (now out)) ⌝ }
+    requires { ⌜ Block w h (at .x .0) (at .y .0) 16 2 × (from + count < 2 ^ 64) × (n + blocksIn (4 - 2) ≤ 85) ⌝ }
     ensures { λ r. ⌜ Grew (descend (w / 4) (h / 4) (4 - 2) (at .x .0 / 4) (at .y .0 / 4) (drop n (bitsFrom (now (src .entry)) from count))) (bitsFrom (now (src .entry)) from count) (now (out .entry)) n (now (out .exit)) r ⌝ }
 {
-    let first = match own_digit(src, from, count, w, h, at, 16, 2, out, n) {
-        Digit::Whole(next) => {
-            return Marked::Done(next);
-        }
-        Digit::Refused(r) => {
-            return Marked::Refused(r);
-        }
-        Digit::Cut(next) => next,
-    };
-    let mut next = first;
+    let own = own_digit(src, from, count, w, h, at, 16, 2, out, n);
+    let mut marked = own.marked;
+    if !own.cut {
+        return marked;
+    }
     let mut part = 0;
     while part < 4 {
+        let Marked::Done(next) = marked else {
+            return marked;
+        };
         let place = part_of(at, 8, part);
-        match grow_eight(src, from, count, w, h, place, out, next) {
-            Marked::Done(taken) => {
-                next = taken;
-            }
-            Marked::Refused(r) => {
-                return Marked::Refused(r);
-            }
-        }
+        let eight = own_digit(src, from, count, w, h, place, 8, 3, out, next);
+        marked = eight.marked;
         part += 1;
     }
-    Marked::Done(next)
+    marked
 }
 
 // Of side 32.
@@ -389,36 +362,27 @@ fn grow_thirty_two(
     w: usize,
     h: usize,
     at: Place,
-    out: &mut [u16],
+    out: &mut [u16; 85],
     n: usize,
 ) -> Marked
-    requires { ⌜ Block w h (at .x .0) (at .y .0) 32 1 × (from + count < 2 ^ 64) × (n + blocksIn (4 - 1) ≤ length (now out)) ⌝ }
+    requires { ⌜ Block w h (at .x .0) (at .y .0) 32 1 × (from + count < 2 ^ 64) × (n + blocksIn (4 - 1) ≤ 85) ⌝ }
     ensures { λ r. ⌜ Grew (descend (w / 4) (h / 4) (4 - 1) (at .x .0 / 4) (at .y .0 / 4) (drop n (bitsFrom (now (src .entry)) from count))) (bitsFrom (now (src .entry)) from count) (now (out .entry)) n (now (out .exit)) r ⌝ }
 {
-    let first = match own_digit(src, from, count, w, h, at, 32, 1, out, n) {
-        Digit::Whole(next) => {
-            return Marked::Done(next);
-        }
-        Digit::Refused(r) => {
-            return Marked::Refused(r);
-        }
-        Digit::Cut(next) => next,
-    };
-    let mut next = first;
+    let own = own_digit(src, from, count, w, h, at, 32, 1, out, n);
+    let mut marked = own.marked;
+    if !own.cut {
+        return marked;
+    }
     let mut part = 0;
     while part < 4 {
+        let Marked::Done(next) = marked else {
+            return marked;
+        };
         let place = part_of(at, 16, part);
-        match grow_sixteen(src, from, count, w, h, place, out, next) {
-            Marked::Done(taken) => {
-                next = taken;
-            }
-            Marked::Refused(r) => {
-                return Marked::Refused(r);
-            }
-        }
+        marked = grow_sixteen(src, from, count, w, h, place, out, next);
         part += 1;
     }
-    Marked::Done(next)
+    marked
 }
 
 // Of side 64: a root.
@@ -429,51 +393,43 @@ fn grow_sixty_four(
     w: usize,
     h: usize,
     at: Place,
-    out: &mut [u16],
+    out: &mut [u16; 85],
     n: usize,
 ) -> Marked
-    requires { ⌜ Block w h (at .x .0) (at .y .0) 64 0 × (from + count < 2 ^ 64) × (n + blocksIn (4 - 0) ≤ length (now out)) ⌝ }
+    requires { ⌜ Block w h (at .x .0) (at .y .0) 64 0 × (from + count < 2 ^ 64) × (n + blocksIn (4 - 0) ≤ 85) ⌝ }
     ensures { λ r. ⌜ Grew (descend (w / 4) (h / 4) (4 - 0) (at .x .0 / 4) (at .y .0 / 4) (drop n (bitsFrom (now (src .entry)) from count))) (bitsFrom (now (src .entry)) from count) (now (out .entry)) n (now (out .exit)) r ⌝ }
 {
-    let first = match own_digit(src, from, count, w, h, at, 64, 0, out, n) {
-        Digit::Whole(next) => {
-            return Marked::Done(next);
-        }
-        Digit::Refused(r) => {
-            return Marked::Refused(r);
-        }
-        Digit::Cut(next) => next,
-    };
-    let mut next = first;
+    let own = own_digit(src, from, count, w, h, at, 64, 0, out, n);
+    let mut marked = own.marked;
+    if !own.cut {
+        return marked;
+    }
     let mut part = 0;
     while part < 4 {
+        let Marked::Done(next) = marked else {
+            return marked;
+        };
         let place = part_of(at, 32, part);
-        match grow_thirty_two(src, from, count, w, h, place, out, next) {
-            Marked::Done(taken) => {
-                next = taken;
-            }
-            Marked::Refused(r) => {
-                return Marked::Refused(r);
-            }
-        }
+        marked = grow_thirty_two(src, from, count, w, h, place, out, next);
         part += 1;
     }
-    Marked::Done(next)
+    marked
 }
 
-// The digits of root i, listed as marks into a list of the caller's own.
+// The digits of root i, the bits from `from` up to `to`, listed as marks into a list of the caller's own.
 fn root_grown(
     w: usize,
     h: usize,
     src: &[u8],
     from: usize,
-    count: usize,
+    to: usize,
     i: usize,
-    list: &mut [u16],
+    list: &mut [u16; 85],
 ) -> Marked
-    requires { ⌜ Sized w h × (from + count < 2 ^ 64) × (i < rootCount w h) × (length (now list) ≡ 85) ⌝ }
-    ensures { λ r. ⌜ Grew (rootDescent (w / 4) (h / 4) i (bitsFrom (now (src .entry)) from count)) (bitsFrom (now (src .entry)) from count) (now (list .entry)) 0 (now (list .exit)) r ⌝ }
+    requires { ⌜ Sized w h × (i < rootCount w h) ⌝ }
+    ensures { λ r. ⌜ Grew (rootDescent (w / 4) (h / 4) i (bitsFrom (now (src .entry)) from (to - from))) (bitsFrom (now (src .entry)) from (to - from)) (now (list .entry)) 0 (now (list .exit)) r ⌝ }
 {
+    let count = if from < to { to - from } else { 0 };
     let at = root_place(w, i);
     grow_sixty_four(src, from, count, w, h, at, list, 0)
 }
@@ -513,13 +469,10 @@ pub fn take_marks(
     if roots_in(w, h) <= root {
         return Marked::Refused(Refusal::Block);
     }
-    let count = if from < to { to - from } else { 0 };
     let mut list = [0u16; 85];
-    match root_grown(w, h, src, from, count, root, &mut list) {
-        Marked::Refused(r) => Marked::Refused(r),
-        Marked::Done(n) => {
-            copy(&list, n, out);
-            Marked::Done(n)
-        }
+    let marked = root_grown(w, h, src, from, to, root, &mut list);
+    if let Marked::Done(n) = marked {
+        copy(&list, n, out);
     }
+    marked
 }

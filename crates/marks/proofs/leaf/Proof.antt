@@ -3,18 +3,18 @@ use mathlib.Core.Path.{_≡_, sym, ap}
 use borrow.Author.Needs.{needs}
 use Rattle.split.proofs.Blocks.{past-x, past-y, inside}
 use Rattle.split.specs.Walk.{Walk}
-use Rattle.marks.specs.Stored.{began}
+use Rattle.marks.specs.Stored.{counted}
 use Rattle.marks.proofs.leaf.Statement.{statement}
 use Rattle.marks.proofs.leaf.Tie as tie
 
 returns : tie.Need-returns
-returns c = ap (λ (v : Walk). began (c .before .before .args .n) (v .answer)) (sym (past-x (c .before .before .pre) (c .if1 .taken)))
+returns c = ap (λ (v : Walk). counted (c .before .before .args .n) (v .answer)) (sym (past-x (c .before .before .pre) (c .if1 .taken)))
 
 returns-2 : tie.Need-returns-2
-returns-2 c = ap (λ (v : Walk). began (c .before .before .before .before .args .n) (v .answer)) (sym (past-y (c .before .before .before .before .pre) (c .before .before .if1 .left) (c .if2 .taken)))
+returns-2 c = ap (λ (v : Walk). counted (c .before .before .before .before .args .n) (v .answer)) (sym (past-y (c .before .before .before .before .pre) (c .before .before .if1 .left) (c .if2 .taken)))
 
 returns-3 : tie.Need-returns-3
-returns-3 c = ap (λ (v : Walk). began (c .before .before .before .before .args .n) (v .answer)) (sym (inside (c .before .before .before .before .pre) (c .before .before .if1 .left) (c .if2 .left)))
+returns-3 c = ap (λ (v : Walk). counted (c .before .before .before .before .args .n) (v .answer)) (sym (inside (c .before .before .before .before .pre) (c .before .before .if1 .left) (c .if2 .left)))
 
 pub leaf-spec : {M : Type 1} → statement M
 leaf-spec = tie.close (tie.spec (λ c. search needs) returns (λ c. search needs) returns-2 returns-3)

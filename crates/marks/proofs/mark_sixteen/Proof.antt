@@ -11,8 +11,7 @@ use Rattle.marks_rules.specs.Pictures.{joined}
 use Rattle.split.proofs.Blocks.{counted, within, fewer}
 use Rattle.marks.specs.Stored.{Listed}
 use Rattle.marks.proofs.Blocks.{halved}
-use Rattle.marks.proofs.Lists.{listed-long}
-use Rattle.marks.proofs.Marking.{room-one, next-room, open-count, open-whole, open-cut, few-parts, no-part, part-more, part-all, part-block}
+use Rattle.marks.proofs.Marking.{room-one, next-room, open-count, open-whole, open-cut, open-eight, few-parts, no-part, part-more, part-all, part-block}
 use Rattle.marks.proofs.mark_sixteen.Statement.{statement}
 use Rattle.marks.proofs.mark_sixteen.Tie as tie
 
@@ -44,8 +43,8 @@ loop-holds c = let a = c .before .before .before .before .before .before .before
 part-of-requires : tie.Need-part-of-requires Inv-loop μ-loop
 part-of-requires c κs = let z = halved (c .before .before .before .before .before .before .before .before .before .before .pre .0) (omega arith) in (z .right, z .bottom, c .loop-test .taken)
 
-mark-eight-requires : tie.Need-mark-eight-requires Inv-loop μ-loop
-mark-eight-requires c κs =
+own-mark-requires-2 : tie.Need-own-mark-requires-2 Inv-loop μ-loop
+own-mark-requires-2 c κs =
     let a = c .before .before .before .before .before .before .before .before .before .before .before .before in
     let p = a .pre in
     let z = halved (p .0) (omega arith) in
@@ -55,7 +54,9 @@ mark-eight-requires c κs =
     let m = c .before .before .before .before .before .before .before .before .own-mark in
     let k = open-count (a .args .bytes .now) (p .0) (m .ensures) in
     let r = m .kept .1 .1 .1 .1 .1 .1 .0 in
-    (part-block z _ _ _ l (q .0) (q .1), p .1, next-room _ _ _ _ _ _ l (few-parts (a .args .bytes .now) (p .0) _) (v .2 .count) (omega (arith, v .1, r, k, z .room, p .2)))
+    let b = part-block z _ _ _ l (q .0) (q .1) in
+    let f = few-parts (a .args .bytes .now) (p .0) (c .before .before .before .loop .part) in
+    (b, omega arith, p .1, room-one (halved b (omega arith)) _ _ (next-room _ _ _ _ _ _ l f (v .2 .count) (omega (arith, v .1, r, k, z .room, p .2))))
 
 add-part : tie.Need-add-part Inv-loop μ-loop
 add-part c = record { fits = counted _ (c .before .before .before .before .before .loop-test .taken) }
@@ -67,9 +68,14 @@ loop-again : tie.Need-loop-again Inv-loop μ-loop
 loop-again c =
     let a = c .before .before .before .before .before .before .before .before .before .before .before .before .before .before .before in
     let v = c .before .before .before .before .before .before .loop .inv in
+    let l = c .before .before .before .before .before .loop-test .taken in
     let q = c .before .before .before .before .part-of .ensures in
-    let m = c .before .before .mark-eight .ensures in
-    (within _ (c .before .before .before .before .before .loop-test .taken), listed-long m ∙ v .1, part-more (a .args .bytes .now) (a .pre .0) (omega arith) _ (v .2) (q .0) (q .1) m)
+    let m = c .before .before .own-mark2 in
+    let b = part-block (halved (a .pre .0) (omega arith)) _ _ _ l (q .0) (q .1) in (
+      within _ l,
+      m .kept .1 .1 .1 .1 .1 .1 .0 ∙ v .1,
+      part-more (a .args .bytes .now) (a .pre .0) (omega arith) _ (v .2) (q .0) (q .1) (open-eight (a .args .bytes .now) b (m .ensures) refl),
+    )
 
 -- all four
 same-length-2 : tie.Need-same-length-2 Inv-loop μ-loop
@@ -85,4 +91,4 @@ returns-2 c =
 pub mark-sixteen-spec : {M : Type 1} → statement M
 mark-sixteen-spec =
     tie.close
-    (tie.spec Inv-loop μ-loop own-mark-requires same-length returns loop-holds part-of-requires mark-eight-requires add-part loop-less loop-again same-length-2 returns-2)
+    (tie.spec Inv-loop μ-loop own-mark-requires same-length returns loop-holds part-of-requires own-mark-requires-2 add-part loop-less loop-again same-length-2 returns-2)

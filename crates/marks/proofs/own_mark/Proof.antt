@@ -3,7 +3,7 @@ use Prim.Native.Nat.{_<_}
 use native.Mathlib.Omega.{arith}
 use borrow.Author.Needs.{needs}
 use Rattle.split.proofs.Blocks.{started}
-use Rattle.marks.proofs.Marking.{opened-none, opened-whole, opened-cut}
+use Rattle.marks.proofs.Marking.{opened-none, opened}
 use Rattle.marks.proofs.own_mark.Statement.{statement}
 use Rattle.marks.proofs.own_mark.Tie as tie
 
@@ -16,19 +16,10 @@ inside c = started _ _ _ _ (c .if1 .left)
 
 returns-2 : tie.Need-returns-2
 returns-2 c =
-    let a = c .before .before .before .before .before .before .before .before .before .before .before .before .before in
-    let i = inside (c .before .before .before .before .before .before .before .before) in
-    let p = c .before .before .before .before .before .before .before .byte-place .ensures .0 in
-    let m = c .before .before .before .before .before .mended .ensures .0 in
-    opened-whole (a .args .bytes .now) (a .pre .0) (a .pre .1) (i .0) (i .1) _ _ p m (c .before .before .before .put-mark .ensures) (c .if2 .taken)
-
-returns-3 : tie.Need-returns-3
-returns-3 c =
-    let a = c .before .before .before .before .before .before .before .before .before .before .before .before .before in
-    let i = inside (c .before .before .before .before .before .before .before .before) in
-    let p = c .before .before .before .before .before .before .before .byte-place .ensures .0 in
-    let m = c .before .before .before .before .before .mended .ensures .0 in
-    opened-cut (a .args .bytes .now) (a .pre .0) (a .pre .1) (i .0) (i .1) _ _ p m (c .before .before .before .put-mark .ensures) (c .if2 .left)
+    let a = c .before .before .before .before .before .before .before .before .before .before .before .before in
+    let i = inside (c .before .before .before .before .before .before .before) in
+    let m = c .before .before .before .before .mended .ensures in
+    opened (a .args .bytes .now) (a .pre .0) (a .pre .1) (i .0) (i .1) _ _ (c .before .before .before .before .before .before .byte-place .ensures .0) (m .0) (c .before .before .put-mark .ensures) (m .1)
 
 pub own-mark-spec : {M : Type 1} → statement M
 own-mark-spec =
@@ -40,6 +31,4 @@ own-mark-spec =
     (λ c κs. search needs)
     (λ c κs. search needs)
     (λ c. search needs)
-    returns-2
-    (λ c. search needs)
-    returns-3)
+    returns-2)
