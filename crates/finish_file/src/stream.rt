@@ -1,190 +1,7 @@
-// Every frame of the stream: read, finished and written.
-use crate::Job;
-use crate::asked;
-use crate::frame;
-use crate::frame::Counts;
-use crate::moved;
-use crate::moved::Moved;
-
-// What the frames came to so far. The counts are those of one frame: each has the same tree.
-pub(crate) struct Sum {
-    pub(crate) frames: usize,
-    // where the next one starts in the stream
-    place: usize,
-    pub(crate) counts: Counts,
-    pub(crate) moved: Moved,
-}
-
-// The same after one frame more; or the stream has ended, with an exit status.
-pub(crate) struct Turn {
-    pub(crate) more: bool,
-    pub(crate) status: u8,
-    pub(crate) sum: Sum,
-}
-
-fn nothing(place: usize) -> Sum {
-    Sum {
-        frames: 0,
-        place,
-        counts: frame::refused(0),
-        moved: moved::none(),
-    }
-}
-
-fn ended(status: u8, sum: Sum) -> Turn {
-    Turn {
-        more: false,
-        status,
-        sum,
-    }
-}
-
-// ---- where it ends
-
-// The stream is refused, at a byte.
-fn refused(job: Job, number: u8, place: usize, sum: Sum) -> Turn {
-    asked::name(job.asked.stream);
-    y4m_file::refused(number, place);
-    ended(1, sum)
-}
-
-// No frame was read.
-fn unread(job: Job, t: y4m_file::Turn, sum: Sum) -> Turn {
-    if t.failed {
-        words::unreadable(job.asked.stream, job.file);
-        return ended(2, sum);
-    }
-    if t.number == 0 {
-        return ended(0, sum);
-    }
-    refused(
-        job,
-        t.number,
-        std::num::wrapping_add_usize(sum.place, t.at),
-        sum,
-    )
-}
-
-// What writing the frame from a place on came to.
-fn written(job: Job, t: y4m_file::Turn, place: usize, sum: Sum) -> Turn {
-    if t.failed {
-        os::fail(b"finish: standard output");
-        return ended(2, sum);
-    }
-    if !t.more {
-        return refused(job, t.number, place, sum);
-    }
-    Turn {
-        more: true,
-        status: 0,
-        sum,
-    }
-}
-
-// ---- a frame
-
-// The sum with a finished frame, whose bytes are still those that were read.
-fn with(job: Job, s: Sum, counts: Counts, bytes: &[u8], y: &[u16], u: &[u16], v: &[u16]) -> Sum {
-    let before = s.moved;
-    Sum {
-        frames: std::num::wrapping_add_usize(s.frames, 1),
-        place: std::num::wrapping_add_usize(s.place, bytes.len()),
-        counts,
-        moved: if job.asked.moved {
-            moved::frame(before, bytes, y, u, v)
-        } else {
-            before
-        },
-    }
-}
-
-// A finished frame is written.
-fn put(
-    job: Job,
-    sum: Sum,
-    counts: Counts,
-    bytes: &mut [u8],
-    y: &[u16],
-    u: &[u16],
-    v: &[u16],
-) -> Turn {
-    let s = with(job, sum, counts, &*bytes, y, u, v);
-    let t = y4m_file::put_frame(job.w, job.h, y, u, v, bytes);
-    written(job, t, sum.place, s)
-}
-
-// A frame that was read is finished and written.
-fn put_finished(
-    job: Job,
-    sum: Sum,
-    bytes: &mut [u8],
-    y: &mut [u16],
-    u: &mut [u16],
-    v: &mut [u16],
-    words: &mut [u32],
-    map: &[u8],
-    motion: &[i16],
-    refs: &[i8],
-    keep: &[u8],
-    table: &[i8],
-    entries: &[u8; 208],
-) -> Turn {
-    let n = frame::coloured(job, table.len());
-    let c = frame::finished(
-        job,
-        y,
-        u,
-        v,
-        words,
-        map,
-        motion,
-        refs,
-        keep,
-        &table[..n],
-        entries,
-    );
-    if c.number != 0 {
-        return refused(job, c.number, sum.place, sum);
-    }
-    put(job, sum, c, bytes, y, u, v)
-}
-
-// The next frame.
-fn one_frame(
-    job: Job,
-    sum: Sum,
-    bytes: &mut [u8],
-    y: &mut [u16],
-    u: &mut [u16],
-    v: &mut [u16],
-    words: &mut [u32],
-    map: &[u8],
-    motion: &[i16],
-    refs: &[i8],
-    keep: &[u8],
-    table: &[i8; 70],
-    entries: &[u8; 208],
-) -> Turn {
-    let t = y4m_file::next_frame(job.file, job.w, job.h, bytes, y, u, v);
-    if !t.more {
-        return unread(job, t, sum);
-    }
-    put_finished(
-        job,
-        sum,
-        bytes,
-        y,
-        u,
-        v,
-        words,
-        map,
-        motion,
-        refs,
-        keep,
-        table,
-        entries,
-    )
-}
+// Every frame of the stream, and what they came to.
+use finish_asked::Job;
+use finish_frame::Moved;
+use finish_frame::Turn;
 
 // Every frame. A proved loop has to end, and nothing says that a stream does: it counts frames up to a number that no run uses up.
 pub(crate) fn every(
@@ -201,9 +18,9 @@ pub(crate) fn every(
     table: &[i8; 70],
     entries: &[u8; 208],
 ) -> Turn {
-    let mut sum = nothing(job.next);
+    let mut sum = finish_frame::nothing(job.next);
     for frames in 0..1000000000000 {
-        let t = one_frame(
+        let t = finish_frame::one_frame(
             job,
             sum,
             bytes,
@@ -224,5 +41,35 @@ pub(crate) fn every(
         y4m_file::progress(frames);
         sum = t.sum;
     }
-    ended(2, sum)
+    finish_frame::ended(2, sum)
+}
+
+// ---- what is told
+
+fn wide(n: u16) -> usize {
+    n as usize
+}
+
+// How far samples moved. The bound is request 7's, over the largest entry that is lent; beside it, over the entry of the QP.
+fn tell_moved(qp: u8, m: Moved, entries: &[u8; 208]) {
+    let bound = 8 * finish_asked::largest(entries);
+    let qp_bound = 8 * finish_asked::entry(entries, qp);
+    say::form(
+        b"moved=@ most=@ bound=@ qp_bound=@\n",
+        &[m.count, wide(m.most), bound, qp_bound],
+    );
+}
+
+// What the frames came to, however the stream ended. Answers the exit status.
+pub(crate) fn told(job: Job, t: Turn, entries: &[u8; 208]) -> u8 {
+    let sum = t.sum;
+    let counts = sum.counts;
+    say::form(
+        b"frames=@ vertical=@ horizontal=@\n",
+        &[sum.frames, counts.vertical, counts.horizontal],
+    );
+    if job.asked.moved {
+        tell_moved(job.asked.qp, sum.moved, entries);
+    }
+    t.status
 }

@@ -9,7 +9,7 @@ use borrow.Fn.PlainCycle.{Measures, is, falls, and}
 use Rattle.laws.specs.Index.{pick}
 use Rattle.decoder.proofs.root_count.Reads as root-count-reads
 use Rattle.say.proofs.line.Reads as line-reads
-use Rattle.finish_file.proofs.frame.units.Reads as units-reads
+use Rattle.finish_frame.proofs.units.Reads as units-reads
 use Rattle.finish_file.proofs.rooms.finished.Reads as finished
 use Rattle.finish_file.proofs.rooms.finished.Kinds as finished-kinds
 use Rattle.finish_file.proofs.rooms.+finished.Lts-finished as finished-lts
