@@ -52,23 +52,23 @@ two-samples Chroma = omega arith
 
 module _ (c : Component) (w : ℕ) where
   -- sample j of line k
-  abbrev placeOf : Pass → Edge → (k j : ℕ) → ℕ
-  placeOf d e k j = let m = unitSide c in lineStart d (m * w) (m * crossOf d e) (m * alongOf d e) + k * stepAlong d (m * w) + j * stepAcross d (m * w)
+  abbrev samplePlace : Pass → Edge → (k j : ℕ) → ℕ
+  samplePlace d e k j = let m = unitSide c in lineStart d (m * w) (m * crossOf d e) (m * alongOf d e) + k * stepAlong d (m * w) + j * stepAcross d (m * w)
 
   -- above row r of units
-  high : (d : Pass) (r : ℕ) (e : Edge) → 0 < crossOf d e → e .x < w → e .y < r → (k j : ℕ) → k < unitSide c → j < 4 → placeOf d e k j < placesOf c w r
+  high : (d : Pass) (r : ℕ) (e : Edge) → 0 < crossOf d e → e .x < w → e .y < r → (k j : ℕ) → k < unitSide c → j < 4 → samplePlace d e k j < placesOf c w r
   high d r e o x y k j hk hj =
       let m = unitSide c in
       let p = mul-le-mul-right {m = k} {n = m - 1} (stepAlong d (m * w)) (omega arith) in
       let q = mul-le-mul-right {m = j} {n = 3} (stepAcross d (m * w)) (omega arith) in
       go d o p q where
         go : (d : Pass) → 0 < crossOf d e → k * stepAlong d (unitSide c * w) ≤ (unitSide c - 1) * stepAlong d (unitSide c * w)
-            → j * stepAcross d (unitSide c * w) ≤ 3 * stepAcross d (unitSide c * w) → placeOf d e k j < placesOf c w r
+            → j * stepAcross d (unitSide c * w) ≤ 3 * stepAcross d (unitSide c * w) → samplePlace d e k j < placesOf c w r
         go vertical o p q = omega (arith, inside (unitSide c) w r (two-samples c) vertical (e .x) (e .y) o x y)
         go horizontal o p q = omega (arith, inside (unitSide c) w r (two-samples c) horizontal (e .y) (e .x) o y x)
 
   -- an upright edge, from row r of units on
-  low : (r : ℕ) (e : Edge) → r ≤ e .y → (k j : ℕ) → placesOf c w r ≤ placeOf vertical e k j
+  low : (r : ℕ) (e : Edge) → r ≤ e .y → (k j : ℕ) → placesOf c w r ≤ samplePlace vertical e k j
   low r e y k j =
       let m = unitSide c in
       omega (arith, mul-le-mul-right {m = m * r} {n = m * e .y} (m * w) (mul-le-mul-left {m = r} {n = e .y} m y))
@@ -77,7 +77,7 @@ module _ (c : Component) (w : ℕ) where
   abbrev pub lastTwo : ℕ → ℕ
   lastTwo r = (unitSide c * r - 2) * (unitSide c * w)
 
-  near : (r : ℕ) (e : Edge) → r ≤ e .y → (k j : ℕ) → lastTwo r ≤ placeOf horizontal e k j
+  near : (r : ℕ) (e : Edge) → r ≤ e .y → (k j : ℕ) → lastTwo r ≤ samplePlace horizontal e k j
   near r e y k j =
       let m = unitSide c in
       let l = mul-le-mul-left {m = r} {n = e .y} m y in

@@ -9,32 +9,32 @@ use lib.ListN.{length, set, take, drop}
 use lib.Seq.{length-take-le, take-at, drop-at}
 use Rattle.laws.proofs.Tabulate.{length-tabulate}
 use Rattle.laws.proofs.Fill.{Upto, upto-none, upto-more, upto-all}
-use Rattle.cases.specs.Numbers.{numberAt, placeOf, Filled, Took}
+use Rattle.cases.specs.Numbers.{numberAt, placeAfter, Filled, Took}
 use Rattle.cases.specs.declared.Written.{Written}
 
 module _ {A : Type 0} (d : A) (f : Written → A) (s : List ℕ) (at : ℕ) where
   pub record Filling (out₀ out : List A) (i place : ℕ) : Type 0 where
-    pub upto : Upto d (λ (k : ℕ). f (numberAt s (placeOf s at k))) out₀ out i
-    pub here : place ≡ placeOf s at i
+    pub upto : Upto d (λ (k : ℕ). f (numberAt s (placeAfter s at k))) out₀ out i
+    pub here : place ≡ placeAfter s at i
 
   pub filling-none : (out : List A) → Filling out out 0 at
-  unfolding placeOf
+  unfolding placeAfter
   filling-none out = record { upto = upto-none d _ out; here = refl }
 
   pub filling-more : (out₀ out : List A) (i place : ℕ) (n : Written) (v : A) → i < length out₀ → n ≡ numberAt s place → v ≡ f n
       → Filling out₀ out i place → Filling out₀ (set out i v) (i + 1) (n .next)
-  unfolding placeOf
+  unfolding placeAfter
   filling-more out₀ out i place n v h e q u =
-      let r : n ≡ numberAt s (placeOf s at i) = e ∙ ap (numberAt s) (u .here) in
+      let r : n ≡ numberAt s (placeAfter s at i) = e ∙ ap (numberAt s) (u .here) in
       record {
         upto = upto-more d _ out₀ out i v h (q ∙ ap f r) (u .upto);
-        here = ap (λ (m : Written). m .next) r ∙ ap (placeOf s at) (sym (add-one i));
+        here = ap (λ (m : Written). m .next) r ∙ ap (placeAfter s at) (sym (add-one i));
       }
 
   pub filling-all : (out₀ out : List A) (i place : ℕ) → length out₀ ≤ i → Filling out₀ out i place → Filled f s at out₀ out place
   filling-all out₀ out i place h u =
       let e : i ≡ length out₀ = omega (arith, u .upto .within) in
-      record { next = u .here ∙ ap (placeOf s at) e; filled = upto-all d _ out₀ out i h (u .upto) }
+      record { next = u .here ∙ ap (placeAfter s at) e; filled = upto-all d _ out₀ out i h (u .upto) }
 
 -- the front of a room filled, and the rest of it after that
 module _ {A : Type 0} (f : Written → A) (s : List ℕ) (at : ℕ) (room front : List A) (n : Written) (len next : ℕ) where

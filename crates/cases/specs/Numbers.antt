@@ -43,9 +43,9 @@ numberAt s i =
     (let start = first true s (length s - i) i in between s start (first false s (length s - start) start))
 
 -- the place of the k-th number after place i
-unfoldable pub placeOf : List ℕ → ℕ → ℕ → ℕ
-placeOf s i zero = i
-placeOf s i (suc k) = numberAt s (placeOf s i k) .next
+unfoldable pub placeAfter : List ℕ → ℕ → ℕ → ℕ
+placeAfter s i zero = i
+placeAfter s i (suc k) = numberAt s (placeAfter s i k) .next
 
 -- a number with its sign, of those down to -m and below m
 unfoldable pub signedOf : ℕ → Written → ℤ
@@ -53,8 +53,8 @@ signedOf m n = pick (n .negative) (sg true (n .size % (m + 1))) (sg false (n .si
 
 -- out is filled with the numbers from place i on, each read by f, and r is the place after them
 pub record Filled {A : Type 0} (f : Written → A) (s : List ℕ) (i : ℕ) (out out′ : List A) (r : ℕ) : Type 0 where
-  pub next : r ≡ placeOf s i (length out)
-  pub filled : out′ ≡ tabulate (length out) (λ (k : ℕ). f (numberAt s (placeOf s i k)))
+  pub next : r ≡ placeAfter s i (length out)
+  pub filled : out′ ≡ tabulate (length out) (λ (k : ℕ). f (numberAt s (placeAfter s i k)))
 
 -- a slice of a case, its length first, was taken into the front of room, as far as room goes
 pub record Took {A : Type 0} (f : Written → A) (s : List ℕ) (i : ℕ) (room room′ : List A) (p : Part) : Type 0 where

@@ -25,15 +25,15 @@ use Rattle.df_rules.proofs.Windows.{untouched}
 use Rattle.window.specs.declared.Place.{Place}
 use Rattle.window.specs.Window.{lastOf, byRows, byHalves, lies, windowOf}
 use Rattle.window.proofs.Windows.{one-window}
-use Rattle.edge_filter.specs.Edges.{placeOf}
+use Rattle.edge_filter.specs.Edges.{linesPlace}
 
 -- ---- where lines lie: m samples a unit's side, the edge at unit x across and z along
 
 -- the way that a call takes them
-way : (d : Pass) (m w h c a n long : ℕ) → n ≤ m * unitsAlong d w h → lastOf (placeOf d (m * w) c a) n < long → lies (placeOf d (m * w) c a) n long ≡ true
+way : (d : Pass) (m w h c a n long : ℕ) → n ≤ m * unitsAlong d w h → lastOf (linesPlace d (m * w) c a) n < long → lies (linesPlace d (m * w) c a) n long ≡ true
 unfolding lies byRows byHalves
-way vertical m w h c a n long r l = rw (lt-ltb (lastOf (placeOf vertical (m * w) c a) n) long l) (or-true (eqb (m * w) 1 && leb n 1))
-way horizontal m w h c a n long r l = rw (lt-ltb (lastOf (placeOf horizontal (m * w) c a) n) long l, le-leb n (m * w) r)
+way vertical m w h c a n long r l = rw (lt-ltb (lastOf (linesPlace vertical (m * w) c a) n) long l) (or-true (eqb (m * w) 1 && leb n 1))
+way horizontal m w h c a n long r l = rw (lt-ltb (lastOf (linesPlace horizontal (m * w) c a) n) long l, le-leb n (m * w) r)
 
 -- n lines at p lie in planes of so many samples, and no two share a place
 pub record Lie (p : Place) (n long : ℕ) : Type 0 where
@@ -41,7 +41,7 @@ pub record Lie (p : Place) (n long : ℕ) : Type 0 where
   pub apart : Apart (p .step) (p .next) n
   pub so : (l : ℕ) → lastOf p n < l → lies p n l ≡ true
 
-pub lie : (m w h : ℕ) → 2 ≤ m → (d : Pass) (x z : ℕ) (p : Place) → p ≡ placeOf d (m * w) (m * x) (m * z)
+pub lie : (m w h : ℕ) → 2 ≤ m → (d : Pass) (x z : ℕ) (p : Place) → p ≡ linesPlace d (m * w) (m * x) (m * z)
     → 1 ≤ x → x < unitsAcross d w h → z < unitsAlong d w h → Lie p m (m * h * (m * w))
 lie m w h two d x z p e inner across along = subst (λ (q : Place). Lie q m (m * h * (m * w))) (sym e) (record {
   within = inside m w h two d x z inner across along;
@@ -52,7 +52,7 @@ lie m w h two d x z p e inner across along = subst (λ (q : Place). Lie q m (m *
 -- ---- their windows
 
 edge-at : (k : Component) (d : Pass) (w c a st st₁ : ℕ) (m m₁ : Mask) (p : Place) (xs xs₁ : List ℕ)
-    → p ≡ placeOf d (unitSide k * w) (unitSide k * c) (unitSide k * a) → st ≡ st₁ → m ≡ m₁
+    → p ≡ linesPlace d (unitSide k * w) (unitSide k * c) (unitSide k * a) → st ≡ st₁ → m ≡ m₁
     → xs₁ ≡ windowAt m st (p .step) (p .next) (p .at) (unitSide k) xs → xs₁ ≡ window m₁ d k w st₁ (edgeAt d c a) xs
 edge-at k d w c a st st₁ m m₁ p xs xs₁ e s f g =
     let n = unitSide k in
@@ -62,9 +62,9 @@ edge-at k d w c a st st₁ m m₁ p xs xs₁ e s f g =
 -- a strength of 0
 pub edge-quiet : (k : Component) (d : Pass) (w c a st st₁ : ℕ) (m : Mask) (xs : List ℕ) → st ≡ st₁ → st ≡ 0 → xs ≡ window m d k w st₁ (edgeAt d c a) xs
 edge-quiet k d w c a st st₁ m xs e z =
-    edge-at k d w c a st st₁ m m (placeOf d (unitSide k * w) (unitSide k * c) (unitSide k * a)) xs xs refl e refl (untouched _ _ _ _ _ _ xs z)
+    edge-at k d w c a st st₁ m m (linesPlace d (unitSide k * w) (unitSide k * c) (unitSide k * a)) xs xs refl e refl (untouched _ _ _ _ _ _ xs z)
 
-module _ (k : Component) (d : Pass) (w c a : ℕ) (p : Place) (e : p ≡ placeOf d (unitSide k * w) (unitSide k * c) (unitSide k * a))
+module _ (k : Component) (d : Pass) (w c a : ℕ) (p : Place) (e : p ≡ linesPlace d (unitSide k * w) (unitSide k * c) (unitSide k * a))
     (so : Bool) (t : so ≡ true) (xs xs₁ : List ℕ) (all : Samples xs) where
   pub edge-by : (st st₁ : ℕ) (m m₁ : Mask) → st ≡ st₁ → m ≡ m₁ → Apart (p .step) (p .next) (unitSide k)
       → xs₁ ≡ windowOf so m (λ j. st) p (unitSide k) xs → xs₁ ≡ window m₁ d k w st₁ (edgeAt d c a) xs

@@ -1,7 +1,7 @@
 -- The plan of a list of edges: of each edge the place of its strength and its keep marks, by the maps of a picture. Maps and lists may have any lengths, and the
 -- list any numbers.
 -- Assumes nothing: these are definitions.
-use Prim.Native.Nat.{ℕ, _+_, _*_, _/_}
+use Prim.Native.Nat.{ℕ, _+_, _*_, _/_, min}
 use mathlib.Core.Bool.{Bool, _&&_}
 use mathlib.Core.List.{List}
 use lib.Dec.{leb, ltb}
@@ -33,17 +33,13 @@ pub record Lists : Type 0 where
 abbrev pub listsOf : (places marks : List ℕ) → Lists
 listsOf places marks = record { places = places; marks = marks }
 
--- the smaller of two numbers
-unfoldable pub lesserOf : ℕ → ℕ → ℕ
-lesserOf a b = pick (ltb a b) a b
-
 -- how many units there are in all of the maps, by their lengths
 unfoldable pub unitsIn : (words motion refs keep : ℕ) → ℕ
-unitsIn words motion refs keep = lesserOf (lesserOf words (motion / 4)) (lesserOf (refs / 2) keep)
+unitsIn words motion refs keep = min (min words (motion / 4)) (min (refs / 2) keep)
 
 -- how many edges are planned, by the lengths of the list and of what is written: n, or as many as there are numbers and room for; none of a row over 65,535 units
 unfoldable pub edgesIn : (columns list n places marks : ℕ) → ℕ
-edgesIn columns list n places marks = pick (leb columns 65535) (lesserOf (lesserOf n (list / 2)) (lesserOf places marks)) 0
+edgesIn columns list n places marks = pick (leb columns 65535) (min (min n (list / 2)) (min places marks)) 0
 
 -- edge k of a list: its two numbers are Q's first luma sample
 abbrev pub edgeFrom : List ℕ → ℕ → Edge
@@ -59,13 +55,13 @@ told i k =
     hasUnits (stepAcross (i .pass) (i .columns)) (unitsIn (length (i .words)) (length (i .motion)) (length (i .refs)) (length (i .keep))) (unitQ (i .columns) (edgeFrom (i .list) k))
 
 -- its place and its marks, by Q and P; 0 where it has no such units
-unfoldable pub placeOf : Input → ℕ → ℕ
-placeOf i k =
+unfoldable pub plannedPlace : Input → ℕ → ℕ
+plannedPlace i k =
     let e = edgeFrom (i .list) k in
     pick (told i k) (placeIn (i .pass) (i .words) (i .motion) (i .refs) (i .rows) (unitQ (i .columns) e) (unitP (i .pass) (i .columns) e)) 0
 
-unfoldable pub marksOf : Input → ℕ → ℕ
-marksOf i k =
+unfoldable pub plannedMarks : Input → ℕ → ℕ
+plannedMarks i k =
     let e = edgeFrom (i .list) k in
     pick (told i k) (marksIn (i .keep) (unitQ (i .columns) e) (unitP (i .pass) (i .columns) e)) 0
 
@@ -73,4 +69,4 @@ marksOf i k =
 unfoldable pub planned : Input → Lists → Lists
 planned i p =
     let m = edgesIn (i .columns) (length (i .list)) (i .n) (length (p .places)) (length (p .marks)) in
-    listsOf (withRow 0 0 m (placeOf i) (p .places)) (withRow 0 0 m (marksOf i) (p .marks))
+    listsOf (withRow 0 0 m (plannedPlace i) (p .places)) (withRow 0 0 m (plannedMarks i) (p .marks))

@@ -2,14 +2,14 @@
 // once; where they are not in the maps, its place and its marks are 0.
 // The Rust beside it: df.rs, evc_get_tbl_qp_to_st.
 ghost use mathlib.Core.Path.{_≡_};
-ghost use Prim.Native.Nat.{_/_, _≤_, _<_};
+ghost use Prim.Native.Nat.{_/_, _≤_, _<_, min};
 ghost use lib.ListN.{length};
 ghost use Rattle.laws.specs.Bits.{fieldOf};
 ghost use Rattle.split.specs.Edges.{edge, passOf};
 ghost use Rattle.df_rules.specs.Places.{stepAcross, unitQ};
 ghost use Rattle.rows_rules.specs.Rule.{firstBit};
 ghost use Rattle.edge_place.specs.Places.{lentRow, placeIn, marksIn};
-ghost use Rattle.edge_place.specs.Plans.{listsOf, lesserOf, unitsIn, edgesIn, hasUnits, planned};
+ghost use Rattle.edge_place.specs.Plans.{listsOf, unitsIn, edgesIn, hasUnits, planned};
 use def::get_qp;
 use row::row_at;
 
@@ -70,7 +70,7 @@ fn marks_at(keep: &[u8], q: usize, p: usize) -> u8
 // ---- where an edge's units are
 
 fn lesser(a: usize, b: usize) -> usize
-    ensures { λ r. ⌜ r ≡ lesserOf a b ⌝ }
+    ensures { λ r. ⌜ r ≡ min a b ⌝ }
 {
     if a < b { a } else { b }
 }

@@ -37,7 +37,7 @@ use Rattle.split.specs.CheckCall as check-call
 use Rattle.split.specs.Picture.{across, roots, rootBytes, rootX, rootY, rootWalk, pictureWalk}
 use Rattle.split.specs.Walk.{walk}
 use Rattle.mend.specs.Changes.{Change, rootMarks, mendRoot, mendMap, rootChanges, changesOf, allChanges}
-use Rattle.mend.specs.Kept.{placeOf, putEach, Real, Kept, asItWas, Mends}
+use Rattle.mend.specs.Kept.{changePlace, putEach, Real, Kept, asItWas, Mends}
 use Rattle.mend.specs.MendCall as mend-call
 use Rattle.mend.proofs.Calls.{few-changes, lengths-told}
 use Rattle.mend.proofs.Torn.{walked, judge-all, no-change, inRoot, putIn, newOf, oldOf, place-back, of-mark, One, new-put, new-else, length-new, old-put}
@@ -125,7 +125,7 @@ module _ (s : List ℕ) (w h : ℕ) (long : length s ≡ 1024 * roots w h) where
   new-first (suc n) l =
       let f = mendRoot s w h in
       let t = drop (1024 * suc n) s in
-      run-append (λ (c : Change) (t : List ℕ). set t (placeOf c) (c .new)) (changesOf s w h n) (rootChanges s w h n) s
+      run-append (λ (c : Change) (t : List ℕ). set t (changePlace c) (c .new)) (changesOf s w h n) (rootChanges s w h n) s
       ∙ ap (putEach newOf (rootChanges s w h n))
       (new-first n (omega arith)
       ∙ ap (λ (z : List ℕ). joined f n ++ z)
@@ -144,7 +144,7 @@ module _ (s : List ℕ) (w h : ℕ) (long : length s ≡ 1024 * roots w h) where
   old-first zero l t = refl
   old-first (suc n) l t =
       let f = mendRoot s w h in
-      run-append (λ (c : Change) (t : List ℕ). set t (placeOf c) (c .old)) (changesOf s w h n) (rootChanges s w h n) ((joined f n ++ f n) ++ t)
+      run-append (λ (c : Change) (t : List ℕ). set t (changePlace c) (c .old)) (changesOf s w h n) (rootChanges s w h n) ((joined f n ++ f n) ++ t)
       ∙ ap (putEach oldOf (rootChanges s w h n)) (ap (putEach oldOf (changesOf s w h n)) (append-assoc (joined f n) (f n) t) ∙ old-first n (omega arith) (f n ++ t))
       ∙ put-own oldOf n (rootChanges s w h n) (take (1024 * n) s) (f n) t (length-take-le (1024 * n) s (omega (arith, long))) (mended-long n l) (own n)
       ∙ ap (λ (z : List ℕ). take (1024 * n) s ++ (z ++ t)) (root-back n l)
@@ -181,7 +181,7 @@ module _ (s : List ℕ) (w h : ℕ) (long : length s ≡ 1024 * roots w h) where
       let b = rootBytes s i in
       let o = of-mark b i (rootMarks s w h i) c (r .mine) in
       let m = o .one in
-      let p : placeOf c ≡ 1024 * i + m .place = ap₂ (λ (x y : ℕ). 1024 * x + y) (ap (λ (d : Change). d .root) (o .is)) (ap inRoot (o .is) ∙ place-back b i m) in
+      let p : changePlace c ≡ 1024 * i + m .place = ap₂ (λ (x y : ℕ). 1024 * x + y) (ap (λ (d : Change). d .root) (o .is)) (ap inRoot (o .is) ∙ place-back b i m) in
       let l = inside i m (o .listed) in
       record {
         stood = ap (λ (n : ℕ). getD s n 0) p ∙ at s i (m .place) l ∙ sym (ap oldOf (o .is));

@@ -12,17 +12,17 @@ use Rattle.mend.specs.Changes.{Change, mendMap, allChanges}
 use Rattle.mend.specs.MendCall as mend-call
 
 -- where the byte of a change stands in the map
-abbrev pub placeOf : Change → ℕ
-placeOf c = 1024 * c .root + (256 * c .level + c .place)
+abbrev pub changePlace : Change → ℕ
+changePlace c = 1024 * c .root + (256 * c .level + c .place)
 
 -- a map with a value of each change put in: the new ones, or the old ones
 abbrev pub putEach : (Change → ℕ) → List Change → List ℕ → List ℕ
-putEach value l s = run (λ (c : Change) (t : List ℕ). set t (placeOf c) (value c)) l s
+putEach value l s = run (λ (c : Change) (t : List ℕ). set t (changePlace c) (value c)) l s
 
 -- a change is one: the old value stood there, the new one stands there, and they differ
 pub record Real (s mended : List ℕ) (c : Change) : Type 0 where
-  pub stood : getD s (placeOf c) 0 ≡ c .old
-  pub stands : getD mended (placeOf c) 0 ≡ c .new
+  pub stood : getD s (changePlace c) 0 ≡ c .old
+  pub stands : getD mended (changePlace c) 0 ≡ c .new
   pub differs : c .old ≡ c .new → ⊥
 
 -- of the split bytes s of all roots of a picture whose sides are w and h units

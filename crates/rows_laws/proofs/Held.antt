@@ -29,7 +29,7 @@ use Rattle.df_rules.specs.Places.{stepAcross}
 use Rattle.df_rules.specs.Strength.{motionAt, rowBy}
 use Rattle.rows_rules.specs.FillCall as fill
 use Rattle.unit_edits.specs.FlagCall as flag
-use Rattle.rows_laws.specs.Held.{Held, Right, fillOf, Edit, moves, flags, placeOf, motionInput, flagInput, numberOf, after, Near, itself, right, lower, Sets, Kept}
+use Rattle.rows_laws.specs.Held.{Held, Right, fillOf, Edit, moves, flags, editPlace, motionInput, flagInput, numberOf, after, Near, itself, right, lower, Sets, Kept}
 use Rattle.rows_rules.specs.MotionCall as move
 use Rattle.rows_rules.specs.Rule.{hasSide, firstBit, edgeRow, ruleByte, RightMap, edgeOf, editedByte, editedMap}
 use Rattle.rows_rules.proofs.Sides.{before, byte-of, edge-few}
@@ -250,7 +250,7 @@ set-by c a s words motion refs =
       others = λ k n. edited-other words motion refs c a (s .rows) k n;
     }
 
-edit-sets : (w h : ℕ) (e : Edit) (s : Held) → numberOf w h e s ≡ 0 → Sets (w / 4) (placeOf w e) s (after w h e s)
+edit-sets : (w h : ℕ) (e : Edit) (s : Held) → numberOf w h e s ≡ 0 → Sets (w / 4) (editPlace w e) s (after w h e s)
 unfolding move.outcome flag.outcome
 edit-sets w h (moves x y m) s z = go (move.check (motionInput w h s x y m)) z where
   go : (k : Answer) → let o = afterChecks (move.refused (motionInput w h s x y m)) (move.done (motionInput w h s x y m)) k in

@@ -38,9 +38,9 @@ pub data Edit : Type 0 where
   flags : (x y : ℕ) → Flag → Bool → Edit
 
 -- the unit's place in maps of a picture w wide
-abbrev pub placeOf : ℕ → Edit → ℕ
-placeOf w (moves x y m) = y * (w / 4) + x
-placeOf w (flags x y f on) = y * (w / 4) + x
+abbrev pub editPlace : ℕ → Edit → ℕ
+editPlace w (moves x y m) = y * (w / 4) + x
+editPlace w (flags x y f on) = y * (w / 4) + x
 
 abbrev pub motionInput : (w h : ℕ) → Held → (x y : ℕ) → Motion → move.Input
 motionInput w h s x y m = record { w = w; h = h; x = x; y = y; moved = m; words = s .words; motion = s .motion; refs = s .refs; rows = s .rows }
@@ -78,4 +78,4 @@ pub record Kept (w h : ℕ) : Type 0 where
   -- whatever edits follow one another
   pub stays : (es : List Edit) (s : Held) → Right w h s → Right w h (run (after w h) es s)
   -- an edit of any map, right or not
-  pub sets : (e : Edit) (s : Held) → numberOf w h e s ≡ 0 → Sets (w / 4) (placeOf w e) s (after w h e s)
+  pub sets : (e : Edit) (s : Held) → numberOf w h e s ≡ 0 → Sets (w / 4) (editPlace w e) s (after w h e s)

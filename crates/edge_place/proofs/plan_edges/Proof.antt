@@ -10,7 +10,7 @@ use Rattle.laws.proofs.Fill.{Upto, upto-none, upto-more}
 use Rattle.split.specs.Edges.{passOf}
 use Rattle.df_rules.specs.Places.{unitQ}
 use Rattle.edge_place.specs.Places.{placeIn, marksIn}
-use Rattle.edge_place.specs.Plans.{Input, edgeFrom, hasUnits, told, placeOf, marksOf}
+use Rattle.edge_place.specs.Plans.{Input, edgeFrom, hasUnits, told, plannedPlace, plannedMarks}
 use Rattle.edge_place.proofs.Plans.{Room, room, Both, both-units, InUnits, in-units, place-told, marks-told, place-untold, marks-untold, plan-put}
 use Rattle.edge_place.proofs.plan_edges.Statement.{statement}
 use Rattle.edge_place.proofs.plan_edges.Tie as tie
@@ -18,7 +18,7 @@ use Rattle.edge_place.proofs.plan_edges.Tie as tie
 abbrev Inv-loop : tie.InvT-loop
 Inv-loop horizontal columns words motion refs keep rows list n places₀ marks₀ edges units step k₀ places marks k =
     let i : Input = record { pass = passOf horizontal; columns = columns; words = words; motion = motion; refs = refs; keep = keep; rows = rows; list = list; n = n } in
-    (k ≤ edges) × Upto 0 (placeOf i) places₀ places k × Upto 0 (marksOf i) marks₀ marks k
+    (k ≤ edges) × Upto 0 (plannedPlace i) places₀ places k × Upto 0 (plannedMarks i) marks₀ marks k
 
 abbrev μ-loop : tie.MeasureT-loop
 μ-loop horizontal columns words motion refs keep rows list n places₀ marks₀ edges units step k₀ places marks k = edges - k
@@ -130,7 +130,7 @@ stored f {l₀} {l} {m} {k} {v} h e g u = subst (λ (x : List ℕ). Upto 0 f l�
 
 -- a turn's place and marks are those of its units
 place-of : (c : tie.After-place-at Inv-loop μ-loop) → let t = c .before .before .before .before .before .before .before in
-    c .place-at .result ≡ placeOf (of (t .before .before .before .before .before .before .before .before .before .before)) (t .loop .k)
+    c .place-at .result ≡ plannedPlace (of (t .before .before .before .before .before .before .before .before .before .before)) (t .loop .k)
 place-of c =
     let d = c .before .before in
     let s = d .before .before .before .before .before .before .before .before .before .before .before .before .before .before .before in
@@ -141,7 +141,7 @@ place-of c =
     ∙ place-told (of s) (d .before .before .before .before .before .loop .k) (sym (tested d) ∙ c .before .if1 .taken)
 
 marks-of : (c : tie.After-marks-at Inv-loop μ-loop) → let t = c .before .before .before .before .before .before .before .before in
-    c .marks-at .result ≡ marksOf (of (t .before .before .before .before .before .before .before .before .before .before)) (t .loop .k)
+    c .marks-at .result ≡ plannedMarks (of (t .before .before .before .before .before .before .before .before .before .before)) (t .loop .k)
 marks-of c =
     let d = c .before .before .before in
     let s = d .before .before .before .before .before .before .before .before .before .before .before .before .before .before .before in
@@ -158,13 +158,13 @@ loop-again c =
     let l = t .before .loop in (
       omega (arith, t .loop-test .taken),
       ⊎-elim
-          (λ w. stored (placeOf (of s)) (fits t .place) (place-of (record { before = record { before = d; if1 = w .0 }; place-at = w .1 })) (w .3) (l .inv .1))
-          (λ w. stored (placeOf (of s)) (fits t .place) (place-untold (of s) (l .k) (sym (tested d) ∙ w .0 .left)) (w .1) (l .inv .1))
+          (λ w. stored (plannedPlace (of s)) (fits t .place) (place-of (record { before = record { before = d; if1 = w .0 }; place-at = w .1 })) (w .3) (l .inv .1))
+          (λ w. stored (plannedPlace (of s)) (fits t .place) (place-untold (of s) (l .k) (sym (tested d) ∙ w .0 .left)) (w .1) (l .inv .1))
           (c .if1 .came),
       ⊎-elim
-          (λ w. stored (marksOf (of s)) (fits t .mark)
+          (λ w. stored (plannedMarks (of s)) (fits t .mark)
           (marks-of (record { before = record { before = record { before = d; if1 = w .0 }; place-at = w .1 }; marks-at = w .2 })) (w .4) (l .inv .2))
-          (λ w. stored (marksOf (of s)) (fits t .mark) (marks-untold (of s) (l .k) (sym (tested d) ∙ w .0 .left)) (w .2) (l .inv .2))
+          (λ w. stored (plannedMarks (of s)) (fits t .mark) (marks-untold (of s) (l .k) (sym (tested d) ∙ w .0 .left)) (w .2) (l .inv .2))
           (c .if1 .came),
     )
 
