@@ -11,6 +11,7 @@ ghost use Rattle.line.specs.Row.{eqZ};
 ghost use Rattle.rows_rules.specs.Inside.{Lent};
 ghost use Rattle.rows_rules.specs.Rule.{ruleByte, ruleMap, rightBytes};
 ghost use Rattle.rows_rules.specs.Runs.{sameFrom, sameFlags, flagsFrom, unitsFrom, allIntra, bytesFrom, selfRow, firstByte, rightRun, Run, RightBelow, FirstOf, Stored};
+use def::Scu;
 use row::row_at;
 use row::rows_at;
 
@@ -96,10 +97,10 @@ fn same_units(words: &[u32], motion: &[i16], refs: &[i8], at: usize, from: usize
 }
 
 // 1 where a unit lies left of column x, and else 0.
-fn units_left(x: usize) -> usize
-    ensures { λ r. ⌜ (r ≤ x) × (r ≤ 1) × (0 < x → r ≡ 1) ⌝ }
+fn units_left(x: Scu) -> usize
+    ensures { λ r. ⌜ (r ≤ x .0) × (r ≤ 1) × (0 < x .0 → r ≡ 1) ⌝ }
 {
-    if x == 0 { 0 } else { 1 }
+    if x.0 == 0 { 0 } else { 1 }
 }
 
 // Whether n units from k on are what those above them are, and the one left of them is, too: then each left edge lies between two units like those of the edge above.
@@ -108,11 +109,11 @@ fn as_above(
     words: &[u32],
     motion: &[i16],
     refs: &[i8],
-    x: usize,
+    x: Scu,
     k: usize,
     n: usize,
 ) -> bool
-    requires { ⌜ Lent columns (now words) (now motion) (now refs) × Run columns (length (now words)) x k n × (columns ≤ k) ⌝ }
+    requires { ⌜ Lent columns (now words) (now motion) (now refs) × Run columns (length (now words)) (x .0) k n × (columns ≤ k) ⌝ }
     ensures { λ r. ⌜ (r ≡ true → (j : ℕ) → j < n → ruleByte (now (words .entry)) (now (motion .entry)) (now (refs .entry)) columns (k + j) ≡ ruleByte (now (words .entry)) (now (motion .entry)) (now (refs .entry)) columns (k - columns + j) % 4 + 4 * selfRow (getD (now (words .entry)) (k + j) 0)) ⌝ }
 {
     let left = units_left(x);
@@ -184,11 +185,11 @@ fn put_joined(left: &[u8], top: &[u8], n: usize, bytes: &mut [u8])
 }
 
 // The first unit of a row has none left of it: what lies before it is the last of the row above.
-fn clear_first(x: usize, left: &mut [u8])
+fn clear_first(x: Scu, left: &mut [u8])
     requires { ⌜ 0 < length (now left) ⌝ }
-    ensures { λ _. ⌜ now (left .exit) ≡ pick (eqb x 0) (set (now (left .entry)) 0 0) (now (left .entry)) ⌝ }
+    ensures { λ _. ⌜ now (left .exit) ≡ pick (eqb (x .0) 0) (set (now (left .entry)) 0 0) (now (left .entry)) ⌝ }
 {
-    if x != 0 {
+    if x.0 != 0 {
         return;
     }
     left[0] = 0;
@@ -200,12 +201,12 @@ fn put_sides(
     words: &[u32],
     motion: &[i16],
     refs: &[i8],
-    x: usize,
+    x: Scu,
     k: usize,
     n: usize,
     bytes: &mut [u8],
 )
-    requires { ⌜ Lent columns (now words) (now motion) (now refs) × Run columns (length (now words)) x k n × (columns ≤ k) × (n ≤ 128) × (n ≤ length (now bytes)) ⌝ }
+    requires { ⌜ Lent columns (now words) (now motion) (now refs) × Run columns (length (now words)) (x .0) k n × (columns ≤ k) × (n ≤ 128) × (n ≤ length (now bytes)) ⌝ }
     ensures { λ _. ⌜ FirstOf (λ (j : ℕ). ruleByte (now (words .entry)) (now (motion .entry)) (now (refs .entry)) columns (k + j)) n (now (bytes .entry)) (now (bytes .exit)) ⌝ }
 {
     let mut left = [0u8; 128];
@@ -223,12 +224,12 @@ fn put_run(
     motion: &[i16],
     refs: &[i8],
     rows: &[u8],
-    x: usize,
+    x: Scu,
     k: usize,
     n: usize,
     bytes: &mut [u8],
 )
-    requires { ⌜ Lent columns (now words) (now motion) (now refs) × (length (now rows) ≡ length (now words)) × Run columns (length (now words)) x k n × (n ≤ 128) × (n ≤ length (now bytes)) ⌝ }
+    requires { ⌜ Lent columns (now words) (now motion) (now refs) × (length (now rows) ≡ length (now words)) × Run columns (length (now words)) (x .0) k n × (n ≤ 128) × (n ≤ length (now bytes)) ⌝ }
     ensures { λ _. ⌜ (RightBelow (now (words .entry)) (now (motion .entry)) (now (refs .entry)) columns (now (rows .entry)) k → FirstOf (λ (j : ℕ). ruleByte (now (words .entry)) (now (motion .entry)) (now (refs .entry)) columns (k + j)) n (now (bytes .entry)) (now (bytes .exit))) × (length (now (bytes .exit)) ≡ length (now (bytes .entry))) ⌝ }
 {
     if all_intra(words, k, n) {
@@ -247,18 +248,18 @@ fn put_run(
 }
 
 // How long a run from column x is: at most 128, in the row and in the map.
-fn run_length(columns: usize, x: usize, rest: usize) -> usize
-    requires { ⌜ (x < columns) × (0 < rest) ⌝ }
-    ensures { λ r. ⌜ (0 < r) × (x + r ≤ columns) × (r ≤ rest) × (r ≤ 128) ⌝ }
+fn run_length(columns: usize, x: Scu, rest: usize) -> usize
+    requires { ⌜ (x .0 < columns) × (0 < rest) ⌝ }
+    ensures { λ r. ⌜ (0 < r) × (x .0 + r ≤ columns) × (r ≤ rest) × (r ≤ 128) ⌝ }
 {
-    if rest < columns - x {
+    if rest < columns - x.0 {
         if rest < 128 {
             return rest;
         }
         return 128;
     }
-    if columns - x < 128 {
-        return columns - x;
+    if columns - x.0 < 128 {
+        return columns - x.0;
     }
     128
 }
@@ -284,7 +285,7 @@ pub(crate) fn fill(columns: usize, words: &[u32], motion: &[i16], refs: &[i8], r
     let mut bytes = [0u8; 128];
     let mut k = 0;
     while k < size {
-        let x = k % columns;
+        let x = Scu(k % columns);
         let n = run_length(columns, x, size - k);
         put_run(columns, words, motion, refs, &*rows, x, k, n, &mut bytes);
         store(&bytes, k, n, &mut *rows);
@@ -313,11 +314,11 @@ fn run_right(
     motion: &[i16],
     refs: &[i8],
     rows: &[u8],
-    x: usize,
+    x: Scu,
     k: usize,
     n: usize,
 ) -> bool
-    requires { ⌜ Lent columns (now words) (now motion) (now refs) × (length (now rows) ≡ length (now words)) × Run columns (length (now words)) x k n × (n ≤ 128) ⌝ }
+    requires { ⌜ Lent columns (now words) (now motion) (now refs) × (length (now rows) ≡ length (now words)) × Run columns (length (now words)) (x .0) k n × (n ≤ 128) ⌝ }
     ensures { λ r. ⌜ (RightBelow (now (words .entry)) (now (motion .entry)) (now (refs .entry)) columns (now (rows .entry)) k → r ≡ rightRun (now (words .entry)) (now (motion .entry)) (now (refs .entry)) columns (now (rows .entry)) k n) ⌝ }
 {
     let mut bytes = [0u8; 128];
@@ -340,7 +341,7 @@ pub(crate) fn all_right(
     let mut ok = true;
     let mut k = 0;
     while k < size {
-        let x = k % columns;
+        let x = Scu(k % columns);
         let n = run_length(columns, x, size - k);
         ok = ok & run_right(columns, words, motion, refs, rows, x, k, n);
         k += n;

@@ -118,21 +118,21 @@ fn put_nexts(
     words: &[u32],
     motion: &[i16],
     refs: &[i8],
-    x: usize,
-    y: usize,
+    x: Scu,
+    y: Scu,
     rows: &mut [u8],
 )
-    requires { ⌜ Lent columns (now words) (now motion) (now refs) × UnitAt columns lines (length (now words)) x y × (length (now rows) ≡ length (now words)) ⌝ }
-    ensures { λ _. ⌜ now (rows .exit) ≡ nextsPut (now (words .entry)) (now (motion .entry)) (now (refs .entry)) columns lines x y (now (rows .entry)) ⌝ }
+    requires { ⌜ Lent columns (now words) (now motion) (now refs) × UnitAt columns lines (length (now words)) (x .0) (y .0) × (length (now rows) ≡ length (now words)) ⌝ }
+    ensures { λ _. ⌜ now (rows .exit) ≡ nextsPut (now (words .entry)) (now (motion .entry)) (now (refs .entry)) columns lines (x .0) (y .0) (now (rows .entry)) ⌝ }
 {
-    let k = y * columns + x;
+    let k = y.0 * columns + x.0;
     put_next(
         Side::Left,
         columns,
         words,
         motion,
         refs,
-        x + 1 < columns,
+        x.0 + 1 < columns,
         k + 1,
         &mut *rows,
     );
@@ -142,7 +142,7 @@ fn put_nexts(
         words,
         motion,
         refs,
-        y + 1 < lines,
+        y.0 + 1 < lines,
         k + columns,
         rows,
     );
@@ -155,21 +155,21 @@ fn put_edges(
     words: &[u32],
     motion: &[i16],
     refs: &[i8],
-    x: usize,
-    y: usize,
+    x: Scu,
+    y: Scu,
     rows: &mut [u8],
 )
-    requires { ⌜ Lent columns (now words) (now motion) (now refs) × UnitAt columns lines (length (now words)) x y × (length (now rows) ≡ length (now words)) ⌝ }
-    ensures { λ _. ⌜ now (rows .exit) ≡ editedMap (now (words .entry)) (now (motion .entry)) (now (refs .entry)) columns (y * columns + x) (now (rows .entry)) ⌝ }
+    requires { ⌜ Lent columns (now words) (now motion) (now refs) × UnitAt columns lines (length (now words)) (x .0) (y .0) × (length (now rows) ≡ length (now words)) ⌝ }
+    ensures { λ _. ⌜ now (rows .exit) ≡ editedMap (now (words .entry)) (now (motion .entry)) (now (refs .entry)) columns (y .0 * columns + x .0) (now (rows .entry)) ⌝ }
 {
-    let k = y * columns + x;
+    let k = y.0 * columns + x.0;
     put_edge(
         Side::Left,
         columns,
         words,
         motion,
         refs,
-        0 < x,
+        0 < x.0,
         k,
         &mut *rows,
     );
@@ -179,7 +179,7 @@ fn put_edges(
         words,
         motion,
         refs,
-        0 < y,
+        0 < y.0,
         k,
         &mut *rows,
     );
@@ -271,7 +271,7 @@ pub fn set_motion(
             let k = y.0 * columns + x.0;
             put_motion(&mut *motion, k, moved);
             put_refs(&mut *refs, k, moved);
-            put_edges(columns, h / 4, words, &*motion, &*refs, x.0, y.0, rows);
+            put_edges(columns, h / 4, words, &*motion, &*refs, x, y, rows);
             Answer::Done
         }
     }
@@ -332,7 +332,7 @@ pub fn set_flag(
             let columns = w / 4;
             let k = y.0 * columns + x.0;
             words[k] = with_flag(flag, on, words[k]);
-            put_edges(columns, h / 4, &*words, motion, refs, x.0, y.0, rows);
+            put_edges(columns, h / 4, &*words, motion, refs, x, y, rows);
             Answer::Done
         }
     }

@@ -15,35 +15,32 @@ use Rattle.unit_edits.proofs.put_nexts.Statement.{statement}
 use Rattle.unit_edits.proofs.put_nexts.Tie as tie
 
 mul-k : tie.Need-mul-k
-mul-k c = let p = c .before .before .pre in omega (arith, unit-in-map (p .1), p .0 .few)
+mul-k c = let p = c .before .before .before .pre in omega (arith, unit-in-map (p .1), p .0 .few)
 
 add-k : tie.Need-add-k
-add-k c = let p = c .before .before .pre in omega (arith, unit-in-map (p .1), p .0 .few)
+add-k c = let p = c .before .before .before .before .pre in omega (arith, unit-in-map (p .1), p .0 .few)
 
 add-put-next-2 : tie.Need-add-put-next-2
-add-put-next-2 c = let p = c .before .before .pre in omega (arith, unit-in-map (p .1), p .0 .few)
+add-put-next-2 c = let p = c .before .before .before .before .before .pre in omega (arith, unit-in-map (p .1), p .0 .few)
 
 put-next-requires : tie.Need-put-next-requires
-put-next-requires c κs = let p = c .before .before .before .pre in (p .0, (λ e. (right-in (p .1) (ltb-true _ _ e), right-side (p .1) ∙ e)), p .2)
+put-next-requires c κs = let p = c .before .before .before .before .before .before .pre in (p .0, (λ e. (right-in (p .1) (ltb-true _ _ e), right-side (p .1) ∙ e)), p .2)
 
 add-put-next-4 : tie.Need-add-put-next-4
-add-put-next-4 c = let p = c .before .before .before .before .before .before .pre in omega (arith, unit-in-map (p .1), p .0 .few, p .0 .wide)
+add-put-next-4 c = let p = c .before .before .before .before .before .before .before .before .before .before .pre in omega (arith, unit-in-map (p .1), p .0 .few, p .0 .wide)
 
 put-next-requires-2 : tie.Need-put-next-requires-2
 put-next-requires-2 c κs =
-    let one = c .before .before .before in
-    let start = one .before .before .before .before in
+    let start = c .before .before .before .before .before .before .before .before .before .before .before in
     let p = start .pre in
-    let m = long-if _ _ _ _ (ltb (start .args .x + 1) (start .args .columns)) vertical _ _ _ (one .put-next .ensures) ∙ p .2 in
+    let m = long-if _ _ _ _ (ltb (start .args .x .0 + 1) (start .args .columns)) vertical _ _ _ (c .before .before .before .before .put-next .ensures) ∙ p .2 in
     (p .0, (λ e. (lower-in (p .1) (ltb-true _ _ e), lower-side (p .1))), m)
 
 returns : tie.Need-returns
 returns c =
-    let two = c .before .before in
-    let one = two .before .before .before .before in
-    let a = one .before .before .before .before .args in
-    let lower = edgePut (a .words .now) (a .motion .now) (a .refs .now) (a .columns) horizontal (a .y * a .columns + a .x + a .columns) in
-    two .put-next2 .ensures ∙ ap (λ (l : List ℕ). pick (ltb (a .y + 1) (a .lines)) (lower l) l) (one .put-next .ensures)
+    let a = c .before .before .before .before .before .before .before .before .before .before .before .before .before .before .args in
+    let lower = edgePut (a .words .now) (a .motion .now) (a .refs .now) (a .columns) horizontal (a .y .0 * a .columns + a .x .0 + a .columns) in
+    c .before .before .put-next2 .ensures ∙ ap (λ (l : List ℕ). pick (ltb (a .y .0 + 1) (a .lines)) (lower l) l) (c .before .before .before .before .before .before .before .put-next .ensures)
 
 pub put-nexts-spec : {M : Type 1} → statement M
 put-nexts-spec =

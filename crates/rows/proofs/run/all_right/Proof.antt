@@ -23,8 +23,8 @@ abbrev μ-loop : tie.MeasureT-loop
 loop-holds : tie.Need-loop-holds Inv-loop μ-loop
 loop-holds c = (omega arith, sym (scan-none _))
 
-rem-x : tie.Need-rem-x Inv-loop μ-loop
-rem-x c = omega (arith, c .before .before .before .before .pre .0 .some)
+rem-run-length : tie.Need-rem-run-length Inv-loop μ-loop
+rem-run-length c = omega (arith, c .before .before .before .before .pre .0 .some)
 
 run-length-requires : tie.Need-run-length-requires Inv-loop μ-loop
 run-length-requires c κs = (mod-lt (c .before .loop .k) (c .before .before .before .before .pre .0 .some), omega (arith, c .loop-test .taken))
@@ -54,4 +54,4 @@ returns c =
     c .before .loop .inv .1 ∙ rw e
 
 pub all-right-spec : {M : Type 1} → statement M
-all-right-spec = tie.close (tie.spec Inv-loop μ-loop loop-holds rem-x (λ c. omega (arith, c .loop-test .taken)) run-length-requires run-right-requires add-k loop-less loop-again returns)
+all-right-spec = tie.close (tie.spec Inv-loop μ-loop loop-holds rem-run-length (λ c. omega (arith, c .loop-test .taken)) run-length-requires run-right-requires add-k loop-less loop-again returns)

@@ -23,8 +23,8 @@ loop-holds c = (omega arith, refl, (λ i h. absurd (none i h)), refl) where
   none : (i : ℕ) → i < 0 → ⊥
   none i h = omega arith
 
-rem-x : tie.Need-rem-x Inv-loop μ-loop
-rem-x c = omega (arith, c .before .before .before .before .pre .0 .some)
+rem-run-length : tie.Need-rem-run-length Inv-loop μ-loop
+rem-run-length c = omega (arith, c .before .before .before .before .pre .0 .some)
 
 run-length-requires : tie.Need-run-length-requires Inv-loop μ-loop
 run-length-requires c κs = (mod-lt (c .before .loop .k) (c .before .before .before .before .pre .0 .some), omega (arith, c .loop-test .taken))
@@ -79,6 +79,6 @@ returns c =
 pub fill-spec : {M : Type 1} → statement M
 fill-spec =
     tie.close
-    (tie.spec Inv-loop μ-loop loop-holds rem-x (λ c. omega (arith, c .loop-test .taken)) run-length-requires
+    (tie.spec Inv-loop μ-loop loop-holds rem-run-length (λ c. omega (arith, c .loop-test .taken)) run-length-requires
     (λ c. sym (c .before .before .before .before .loop .inv .3)) put-run-requires slice-aggregate-store store-requires
     add-k loop-less loop-again (λ c. c .before .loop .inv .1) returns)

@@ -46,7 +46,7 @@ left-rows c =
     let a = s .args in
     let p = s .pre in
     let u = lefts c in
-    left-row (a .words .now) (a .motion .now) (a .refs .now) (a .columns) (a .x) (a .k) (a .n) (p .0 .some) (p .1) (p .2) _ _ _ u (omega (arith, u .long)) (c .clear-first .ensures)
+    left-row (a .words .now) (a .motion .now) (a .refs .now) (a .columns) (a .x .0) (a .k) (a .n) (p .0 .some) (p .1) (p .2) _ _ _ u (omega (arith, u .long)) (c .clear-first .ensures)
 
 top-rows : (c : tie.After-clear-first) →
     let a = c .before .before .before .before .before .before .before .before .before .before .args in
@@ -55,7 +55,7 @@ top-rows c =
     let s = c .before .before .before .before .before .before .before .before .before .before in
     let a = s .args in
     let p = s .pre in
-    top-row (a .words .now) (a .motion .now) (a .refs .now) (a .columns) (a .x) (a .k) (a .n) (p .0 .some) (p .1) (p .2) _ _ (tops c)
+    top-row (a .words .now) (a .motion .now) (a .refs .now) (a .columns) (a .x .0) (a .k) (a .n) (p .0 .some) (p .1) (p .2) _ _ (tops c)
 
 put-joined-requires : tie.Need-put-joined-requires
 put-joined-requires c κs =
@@ -65,7 +65,7 @@ put-joined-requires c κs =
     let k = c .before .before .before .before in
     let before-cleared = k .before .before .before .before .before .before in
     let few = edge-few (a .words .now) (a .motion .now) (a .refs .now) (a .columns) in (
-      omega (arith, p .3, long-cleared (a .x) (before-cleared .rows-at .last .1 .1 .1 .1 .1 .1 .0) (k .clear-first .last .1 .0) (k .clear-first .ensures), lefts k .long),
+      omega (arith, p .3, long-cleared (a .x .0) (before-cleared .rows-at .last .1 .1 .1 .1 .1 .1 .0) (k .clear-first .last .1 .0) (k .clear-first .ensures), lefts k .long),
       omega (arith, p .3, tops k .long),
       p .4,
       (λ j h. omega (arith, left-rows k j h, few vertical (a .k + j))),
