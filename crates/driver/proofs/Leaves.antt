@@ -26,7 +26,7 @@ use Rattle.nbr.proofs.Sides.{four}
 use Rattle.split.specs.Stored.{leavesFrom}
 use Rattle.driver_rules.specs.Asked.{GivenAsked, StateAsked, Stepped}
 use Rattle.driver_rules.specs.Call.{Input, leavesOf, done}
-use Rattle.driver_rules.specs.Records.{kindAt, recordQp, recordMask, keepAt, isMode, codedY, codedU, codedV, mostMask, residualCount, startU, placeOf, passed}
+use Rattle.driver_rules.specs.Records.{kindAt, recordQp, recordMask, keepAt, isMode, codedY, codedU, codedV, mostMask, residualCount, startU, walkedTo, passed}
 use Rattle.driver_rules.specs.Steps.{Given, State, stepAt, steps}
 use Rattle.driver_rules.proofs.States.{plane-none, mask-of-y, asked-y, asked-u, asked-v}
 use Rattle.driver_rules.proofs.Walked.{one-leaf, leaves-none, leaves-more, stepped-place}
@@ -131,7 +131,7 @@ module _ {g : Given} {y u v words modes keep : List ℕ} {end : ℕ} where
   leaves-start list k h = let e : k + 0 ≡ k = omega arith in rw e (leaves-none g list _ h)
 
   pub leaves-asked : {s : State} (list : List ℕ) (k j : ℕ) → Stepped g (leavesFrom list j) s (stateOf y u v words modes keep end (k + j))
-      → placeOf end (k + j) ≡ passed (g .leaves) (leavesFrom list j) (s .place)
+      → walkedTo end (k + j) ≡ passed (g .leaves) (leavesFrom list j) (s .place)
   leaves-asked list k j a = stepped-place g (leavesFrom list j) _ _ a
 
 module _ (g : Given) {leaf : Leaf} {kind qp mask mark at end : ℕ} {y u v words modes keep y′ u′ v′ words′ modes′ keep′ : List ℕ} where

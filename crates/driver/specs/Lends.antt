@@ -14,7 +14,7 @@ use Rattle.def.specs.declared.Format.{Format}
 use Rattle.def.specs.declared.Format.the-variants.{Colour}
 use Rattle.nbr.specs.Gather.{Around}
 use Rattle.driver_rules.specs.Asked.{BlockAsked, LentAsked}
-use Rattle.driver_rules.specs.Records.{placeOf, codedY, codedU, codedV, residualCount, mostMask, startU, startV, endV}
+use Rattle.driver_rules.specs.Records.{walkedTo, codedY, codedU, codedV, residualCount, mostMask, startU, startV, endV}
 use Rattle.driver_rules.specs.Steps.{Given, State, aroundOf, componentOf, withUnits}
 use Rattle.driver.specs.declared.walk.Leaf.{Leaf}
 
@@ -23,7 +23,7 @@ givenOf w h format constrained leaves residual py pu pv =
     record { w = w; h = h; format = format; constrained = constrained; leaves = leaves; residual = residual; pred-y = py; pred-u = pu; pred-v = pv }
 
 abbrev pub stateOf : (y u v words modes keep : List ℕ) (at k : ℕ) → State
-stateOf y u v words modes keep at k = record { y = y; u = u; v = v; words = words; modes = modes; keep = keep; place = placeOf at k }
+stateOf y u v words modes keep at k = record { y = y; u = u; v = v; words = words; modes = modes; keep = keep; place = walkedTo at k }
 
 -- where V's residuals end, those of U starting at `at`
 abbrev pub colourEnd : (at mask side : ℕ) → ℕ

@@ -9,7 +9,7 @@ ghost use Rattle.def.specs.Word.{leafWord};
 ghost use Rattle.split.specs.Stored.{leavesFrom};
 ghost use Rattle.driver_rules.specs.Asked.{GivenAsked, StateAsked, Reaches, Blocks, Sides, Accepted, Listed, Stepped};
 ghost use Rattle.driver_rules.specs.Call.{leavesOf};
-ghost use Rattle.driver_rules.specs.Records.{kindAt, recordQp, recordMask, keepAt, isMode, codedY, endV, placeOf, first, passed};
+ghost use Rattle.driver_rules.specs.Records.{kindAt, recordQp, recordMask, keepAt, isMode, codedY, endV, walkedTo, first, passed};
 ghost use Rattle.driver_rules.specs.Steps.{steps};
 ghost use Rattle.driver.specs.Packed.{packedLeaf, unpacked, unpackedAt, Packed};
 ghost use Rattle.driver.specs.Lends.{givenOf, stateOf, colourEnd, toldTo, ColourDrawn, Drawn, ColourAsked, PlanesAsked, Ended};
@@ -324,7 +324,7 @@ fn draw_leaves(
     requires { ⌜ StateAsked (givenOf w h format constrained (now leaves) (now residual) (now «pred_y») (now «pred_u») (now «pred_v»))
         (stateOf (now y) (now u) (now v) (now words) (now modes) (now keep) at k) ⌝ }
     requires { ⌜ Blocks w h (unpackedAt root (now list)) n × (length (now list) ≡ 256) × (root .x .0 ≤ 4096) × (root .y .0 ≤ 4096)
-        × Reaches (now leaves) (length (now residual)) (passed (now leaves) (leavesFrom (unpackedAt root (now list)) n) (placeOf at k)) ⌝ }
+        × Reaches (now leaves) (length (now residual)) (passed (now leaves) (leavesFrom (unpackedAt root (now list)) n) (walkedTo at k)) ⌝ }
     ensures { λ r. ⌜ Stepped (givenOf w h format constrained (now (leaves .entry)) (now (residual .entry)) (now («pred_y» .entry)) (now («pred_u» .entry)) (now («pred_v» .entry)))
         (leavesFrom (unpackedAt root (now (list .entry))) n)
         (stateOf (now (y .entry)) (now (u .entry)) (now (v .entry)) (now (words .entry)) (now (modes .entry)) (now (keep .entry)) at k)

@@ -6,7 +6,7 @@ ghost use Rattle.def.proofs.Sizes.{Sized};
 ghost use Rattle.split.specs.Stored.{leavesFrom};
 ghost use Rattle.driver_rules.specs.Asked.{Sides, Accepted};
 ghost use Rattle.driver_rules.specs.Call.{colourLength, readOk, writtenOk, leavesOf, recordsOk, lentOk, dataCheck, checkOf};
-ghost use Rattle.driver_rules.specs.Records.{bytesOk, mostMask, placeOf, first, passed};
+ghost use Rattle.driver_rules.specs.Records.{bytesOk, mostMask, walkedTo, first, passed};
 use crate::records::leaf_end;
 use crate::records::mask_at;
 use def::Answer;
@@ -25,7 +25,7 @@ struct Place {
 // Past the first n leaves of a list.
 fn past_leaves(leaves: &[u8], list: &[u16], n: usize, from: Place) -> Place
     requires { ⌜ Sides (now list) n × (from .k ≤ 1048320) × (from .at ≤ 12288 * from .k) ⌝ }
-    ensures { λ r. ⌜ (placeOf (r .at) (r .k) ≡ passed (now (leaves .entry)) (leavesFrom (now (list .entry)) n) (placeOf (from .at) (from .k))) × (r .k ≡ from .k + n) × (r .at ≤ 12288 * r .k) ⌝ }
+    ensures { λ r. ⌜ (walkedTo (r .at) (r .k) ≡ passed (now (leaves .entry)) (leavesFrom (now (list .entry)) n) (walkedTo (from .at) (from .k))) × (r .k ≡ from .k + n) × (r .at ≤ 12288 * r .k) ⌝ }
 {
     let k = from.k;
     let mut at = from.at;
@@ -39,7 +39,7 @@ fn past_leaves(leaves: &[u8], list: &[u16], n: usize, from: Place) -> Place
 // Past all leaves of a picture. Its walk was checked: no root is refused here.
 fn past_picture(w: usize, h: usize, splits: &[u8], leaves: &[u8]) -> Place
     requires { ⌜ Accepted w h (now splits) ⌝ }
-    ensures { λ r. ⌜ (placeOf (r .at) (r .k) ≡ passed (now (leaves .entry)) (leavesOf w h (now (splits .entry))) first) × (r .k ≤ 1048576) ⌝ }
+    ensures { λ r. ⌜ (walkedTo (r .at) (r .k) ≡ passed (now (leaves .entry)) (leavesOf w h (now (splits .entry))) first) × (r .k ≤ 1048576) ⌝ }
 {
     let roots = def::roots_along(w) * def::roots_along(h);
     let mut list = [0u16; 768];

@@ -89,11 +89,11 @@ pub record Place : Type 0 where
   pub at : ℕ
   pub k : ℕ
 
-abbrev pub placeOf : (at k : ℕ) → Place
-placeOf at k = record { at = at; k = k }
+abbrev pub walkedTo : (at k : ℕ) → Place
+walkedTo at k = record { at = at; k = k }
 
 abbrev pub first : Place
-first = placeOf 0 0
+first = walkedTo 0 0
 
 -- past a leaf of side `side`
 abbrev pub past : List ℕ → (side : ℕ) → Place → Place

@@ -19,7 +19,8 @@ returns-2 c =
     let a = c .before .before .before .before .before .before .before .before .before .before .before .before in
     let i = inside (c .before .before .before .before .before .before .before) in
     let m = c .before .before .before .before .mended .ensures in
-    opened (a .args .bytes .now) (a .pre .0) (a .pre .1) (i .0) (i .1) _ _ (c .before .before .before .before .before .before .byte-place .ensures .0) (m .0) (c .before .before .put-mark .ensures) (m .1)
+    let b = c .before .before .before .before .before .before .byte-place .ensures in
+    opened (a .args .bytes .now) (a .pre .0) (a .pre .1) (i .0) (i .1) _ _ (b .0) (m .0) (c .before .before .put-mark .ensures) (m .1)
 
 pub own-mark-spec : {M : Type 1} → statement M
 own-mark-spec =

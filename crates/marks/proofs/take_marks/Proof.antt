@@ -74,7 +74,8 @@ copy-requires c κs =
 returns-4 : tie.Need-returns-4
 returns-4 c =
     let p = c .before .before .before .before .before .before .before .before .before .before in
-    take-done (asked p) (c .before .before .before .before .before .before .before .before .root-grown .ensures) _ _ refl (c .before .before .before .before .before .before .marked .given .1) (passed p) (c .before .before .copy .ensures)
+    let m = c .before .before .before .before .before .before in
+    take-done (asked p) (m .before .before .root-grown .ensures) _ _ refl (m .marked .given .1) (passed p) (c .before .before .copy .ensures)
 
 returns-5 : tie.Need-returns-5
 returns-5 c = let p = c .before .before .before .before in take-stopped (asked p) (c .before .before .root-grown .ensures) _ (c .enum-told .given .1) (passed p)

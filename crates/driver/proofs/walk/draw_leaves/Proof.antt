@@ -6,7 +6,7 @@ use native.Mathlib.Omega.{arith}
 use lib.ListN.{length, getD}
 use Rattle.split.specs.Stored.{leavesFrom}
 use Rattle.driver_rules.specs.Asked.{Reaches, Stepped}
-use Rattle.driver_rules.specs.Records.{placeOf, past}
+use Rattle.driver_rules.specs.Records.{walkedTo, past}
 use Rattle.driver_rules.proofs.Walked.{sides, leaves-reach}
 use Rattle.driver.specs.Lends.{givenOf, stateOf}
 use Rattle.driver.specs.Packed.{unpackedAt}
@@ -57,11 +57,12 @@ in-list c =
 
 -- the lists reach past it
 reached : (c : tie.In-loop Inv-loop μ-loop) → let s = start (c .before) in let l = c .before .loop in Reaches (s .args .leaves .now) (length (s .args .residual .now))
-    (past (s .args .leaves .now) (getD (list s) (3 * l .j + 2) 0) (placeOf (l .end) (s .args .k + l .j)))
+    (past (s .args .leaves .now) (getD (list s) (3 * l .j + 2) 0) (walkedTo (l .end) (s .args .k + l .j)))
 reached c =
     let s = start (c .before) in
     let l = c .before .loop in
-    leaves-reach (s .args .leaves .now) (length (s .args .residual .now)) (list s) (l .j) (s .args .n) (placeOf (s .args .at) (s .args .k)) (placeOf (l .end) (s .args .k + l .j)) (c .loop-test .taken)
+    let from = walkedTo (s .args .at) (s .args .k) in
+    leaves-reach (s .args .leaves .now) (length (s .args .residual .now)) (list s) (l .j) (s .args .n) from (walkedTo (l .end) (s .args .k + l .j)) (c .loop-test .taken)
     (sides (s .pre .1 .1 .0) .units _ (c .loop-test .taken)) (leaves-asked (list s) (s .args .k) (l .j) (l .inv .1)) (s .pre .1 .1 .4)
 
 -- it is a block of the picture

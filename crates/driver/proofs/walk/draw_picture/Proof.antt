@@ -9,7 +9,7 @@ use Rattle.def.proofs.Sizes.{Sized, sized}
 use Rattle.split.specs.Picture.{roots, leavesOf}
 use Rattle.split.proofs.Roots.{few-roots, roots-units, root-column, root-row}
 use Rattle.driver_rules.specs.Asked.{Stepped}
-use Rattle.driver_rules.specs.Records.{placeOf, first}
+use Rattle.driver_rules.specs.Records.{walkedTo, first}
 use Rattle.driver_rules.proofs.Walked.{roots-none, roots-more, roots-reach, stepped-place}
 use Rattle.driver.specs.Lends.{givenOf, stateOf}
 use Rattle.driver.proofs.Leaves.{ended, Kept, kept}
@@ -104,7 +104,7 @@ draw-leaves-requires c κs =
           p .packed-leaves .ensures .1,
           omega (arith, column turn, size s .wide),
           omega (arith, row turn, size s .high),
-          roots-reach (s .args .leaves .now) _ (s .args .splits .now) (s .args .w / 4) (s .args .h / 4) (l .i) _ _ _ first (placeOf (l .at) (l .k)) before-last (listed .same)
+          roots-reach (s .args .leaves .now) _ (s .args .splits .now) (s .args .w / 4) (s .args .h / 4) (l .i) _ _ _ first (walkedTo (l .at) (l .k)) before-last (listed .same)
               (stepped-place _ (leavesOf (s .args .splits .now) (s .args .w / 4) (s .args .h / 4) (l .i)) _ _ (l .inv .2)) (s .pre .1 .1 .1),
         ),
       ),

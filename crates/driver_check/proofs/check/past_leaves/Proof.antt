@@ -4,13 +4,13 @@ use mathlib.Core.Path.{_≡_, refl, ap, _∙_}
 use native.Mathlib.Omega.{arith}
 use lib.ListN.{length}
 use Rattle.split.specs.Stored.{leavesFrom}
-use Rattle.driver_rules.specs.Records.{placeOf, passed}
+use Rattle.driver_rules.specs.Records.{walkedTo, passed}
 use Rattle.driver_rules.proofs.Walked.{passed-none, past-one}
 use Rattle.driver_check.proofs.check.past_leaves.Statement.{statement}
 use Rattle.driver_check.proofs.check.past_leaves.Tie as tie
 
 abbrev Inv-loop : tie.InvT-loop
-Inv-loop leaves list n k at₀ j₀ at j = (j ≤ n) × (placeOf at (k + j) ≡ passed leaves (leavesFrom list j) (placeOf at₀ k)) × (at ≤ 12288 * (k + j))
+Inv-loop leaves list n k at₀ j₀ at j = (j ≤ n) × (walkedTo at (k + j) ≡ passed leaves (leavesFrom list j) (walkedTo at₀ k)) × (at ≤ 12288 * (k + j))
 
 abbrev μ-loop : tie.MeasureT-loop
 μ-loop leaves list n k at₀ j₀ at j = n - j
@@ -19,7 +19,7 @@ loop-holds : tie.Need-loop-holds Inv-loop μ-loop
 loop-holds c =
     let s = c .before .before in
     let e : s .args .from .k + 0 ≡ s .args .from .k = omega arith in
-    (omega arith, ap (placeOf (s .args .from .at)) e ∙ passed-none (s .args .leaves .now) (s .args .list .now) (placeOf (s .args .from .at) (s .args .from .k)), omega (arith, s .pre .2))
+    (omega arith, ap (walkedTo (s .args .from .at)) e ∙ passed-none (s .args .leaves .now) (s .args .list .now) (walkedTo (s .args .from .at) (s .args .from .k)), omega (arith, s .pre .2))
 
 in-list : (c : tie.In-loop Inv-loop μ-loop) → 3 * c .before .loop .j + 2 < length (c .before .before .before .before .args .list .now)
 in-list c = let s = c .before .before .before .before in omega (arith, s .pre .0 .long, s .pre .0 .few)
@@ -38,7 +38,7 @@ loop-again c =
     let l = c .before .before .before .before .loop in
     let e = rw (c .before .mask-at .ensures) at (c .leaf-end .ensures .0) in (
       omega arith,
-      past-one (s .args .leaves .now) (s .args .list .now) (l .j) (placeOf (s .args .from .at) (s .args .from .k)) (l .at) (s .args .from .k + l .j) _ _
+      past-one (s .args .leaves .now) (s .args .list .now) (l .j) (walkedTo (s .args .from .at) (s .args .from .k)) (l .at) (s .args .from .k + l .j) _ _
           (s .pre .0 .units _ (c .before .before .before .loop-test .taken)) (l .inv .1) e (omega arith),
       omega (arith, c .leaf-end .ensures .1, l .inv .2),
     )

@@ -9,7 +9,7 @@ use Rattle.def.proofs.Sizes.{Sized, sized}
 use Rattle.split.specs.Picture.{roots, leavesOf}
 use Rattle.split.proofs.Callers.{root-met, root-told}
 use Rattle.split.proofs.Roots.{few-roots, roots-units}
-use Rattle.driver_rules.specs.Records.{placeOf, first, passed}
+use Rattle.driver_rules.specs.Records.{walkedTo, first, passed}
 use Rattle.driver_rules.proofs.Lists.{listed}
 use Rattle.driver_rules.proofs.Walked.{sides, passed-no-root, past-listed}
 use Rattle.driver_check.proofs.check.past_picture.Statement.{statement}
@@ -17,7 +17,7 @@ use Rattle.driver_check.proofs.check.past_picture.Tie as tie
 
 abbrev Inv-loop : tie.InvT-loop
 Inv-loop w h splits leaves roots list₀ place₀ i₀ list place i =
-    (i ≤ roots) × (length list ≡ 768) × (placeOf (place .at) (place .k) ≡ passed leaves (leavesOf splits (w / 4) (h / 4) i) first) × (place .k ≤ 256 * i) × (place .at ≤ 12288 * place .k)
+    (i ≤ roots) × (length list ≡ 768) × (walkedTo (place .at) (place .k) ≡ passed leaves (leavesOf splits (w / 4) (h / 4) i) first) × (place .k ≤ 256 * i) × (place .at ≤ 12288 * place .k)
 
 abbrev μ-loop : tie.MeasureT-loop
 μ-loop w h splits leaves roots list₀ place₀ i₀ list place i = roots - i
@@ -68,7 +68,7 @@ loop-again c =
     let p = c .past-leaves .ensures in (
       omega (arith, turn .loop-test .taken),
       r .blocks .long,
-      past-listed (s .args .leaves .now) first (placeOf (l .place .at) (l .place .k)) (placeOf (c .past-leaves .result .at) (c .past-leaves .result .k)) r (l .inv .2) (p .0),
+      past-listed (s .args .leaves .now) first (walkedTo (l .place .at) (l .place .k)) (walkedTo (c .past-leaves .result .at) (c .past-leaves .result .k)) r (l .inv .2) (p .0),
       omega (arith, p .1, r .blocks .few, l .inv .3),
       p .2,
     )
