@@ -12,8 +12,8 @@
  *
  * Bytes of stack that each call was measured to need, its arguments and its return address among them (tools/stack/run, docs/SPEED.md):
  * derived_chroma_qp_mapping_tables 336, get_avail_intra 72, get_avail_inter 80, get_mpm 56, get_nbr 560, ipred_b 144, recon 24, recon_plane
- * 241, check 2,224, leaves 2,280, put_map 465, get_map 992, mend 465, visiting_rank 272, list_edges 4,040, reconstruct 12,048, deblock 7,968,
- * deblock_band 7,408, fill_rows 776, set_motion 392, set_flag 344, deblock_by_rows 7,968, listing 53,264, read_header 408, write_header 352,
+ * 241, check 2,224, leaves 2,280, put_map 465, get_map 1,008, mend 465, visiting_rank 272, list_edges 4,040, reconstruct 12,048, deblock 7,904,
+ * deblock_band 7,344, fill_rows 776, set_motion 392, set_flag 344, deblock_by_rows 7,904, listing 53,264, read_header 408, write_header 352,
  * read_frame 224, write_frame 64, import_frame 472, ward_row 288.
  *
  * Sizes, lengths and their order are in specs/ of the crate that each call names; w and h are the picture's sides in luma samples. */
