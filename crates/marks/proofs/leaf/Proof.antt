@@ -11,10 +11,14 @@ returns : tie.Need-returns
 returns c = ap (λ (v : Walk). counted (c .before .before .args .n) (v .answer)) (sym (past-x (c .before .before .pre) (c .if1 .taken)))
 
 returns-2 : tie.Need-returns-2
-returns-2 c = ap (λ (v : Walk). counted (c .before .before .before .before .args .n) (v .answer)) (sym (past-y (c .before .before .before .before .pre) (c .before .before .if1 .left) (c .if2 .taken)))
+returns-2 c =
+    let s = c .before .before .before .before in
+    ap (λ (v : Walk). counted (s .args .n) (v .answer)) (sym (past-y (s .pre) (c .before .before .if1 .left) (c .if2 .taken)))
 
 returns-3 : tie.Need-returns-3
-returns-3 c = ap (λ (v : Walk). counted (c .before .before .before .before .args .n) (v .answer)) (sym (inside (c .before .before .before .before .pre) (c .before .before .if1 .left) (c .if2 .left)))
+returns-3 c =
+    let s = c .before .before .before .before in
+    ap (λ (v : Walk). counted (s .args .n) (v .answer)) (sym (inside (s .pre) (c .before .before .if1 .left) (c .if2 .left)))
 
 pub leaf-spec : {M : Type 1} → statement M
 leaf-spec = tie.close (tie.spec (λ c. search needs) returns (λ c. search needs) returns-2 returns-3)
