@@ -1,4 +1,6 @@
 // Bits of a lent slice of bytes, the high bit of each byte first.
+#![tactic(auto)]
+
 ghost use Rattle.std.specs.Prelude.{◌≡◌, ◌%◌, ◌<◌};
 ghost use Rattle.bits.specs.Bits.{bit_at, with_bit};
 ghost use Rattle.laws.specs.Bits.{with_field};

@@ -1,9 +1,10 @@
 // Recorded cases, as the programs that replay them read them: decimal numbers one after another, with other bytes between.
+#![tactic(auto)]
 ghost use Rattle.std.specs.Prelude.{◌≡◌, ◌-◌, ◌%◌, ◌≤◌, ◌<◌, min, length};
 ghost use Rattle.cases.specs.Numbers.{number_byte, first, value_of, number_at, signed_of, Filled, Took};
 
 // A number as it is written: its sign, its size below 2 ^ 60, and the place after it.
-#[derive(Drop)]
+#[derive(Clone, Copy)]
 pub struct Written {
     pub negative: bool,
     pub size: usize,

@@ -1,6 +1,7 @@
 // The derived chroma QP mapping tables. The Rust beside it: `evc_derived_chroma_qp_mapping_tables` in util.rs.
 // The start, a pivot's in and out and a table's entry are held as 12 more than they are: an in is then its entry's index, and none is below 0.
 // So 0 holds -12 and 69 holds 57.
+#![tactic(auto)]
 ghost use Rattle.std.specs.Prelude.{◌≡◌, ℕ, ◌+◌, ◌-◌, ◌*◌, ◌/◌, ◌≤◌, ◌<◌, min, pos, length, get_or, set};
 ghost use Rattle.laws.specs.Call.{Gives};
 ghost use Rattle.laws.specs.Plane.{with_row};

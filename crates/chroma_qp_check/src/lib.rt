@@ -1,5 +1,6 @@
 // What the derivation of the chroma QP tables refuses, and in which order: 2, 10 in either table, 11 in either. The Rust beside it: the assertions of
 // `evc_derived_chroma_qp_mapping_tables` in util.rs. The start and a pivot's in are held as 12 more than they are: an in is then its entry's index.
+#![tactic(auto)]
 ghost use Rattle.std.specs.Prelude.{◌≡◌, true, ◌||◌, ◌≤◌, pos, ◌+ℤ◌, length};
 ghost use Rattle.laws.specs.Call.{Gives};
 ghost use Rattle.laws.specs.Clip.{max_z};

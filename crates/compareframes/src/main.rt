@@ -1,5 +1,6 @@
 // Compares two YUV4MPEG2 streams: equal, or the first sample that differs, by its frame, plane, place and both values; and draws that frame's differences as a
 // PGM picture over the grid of units. It reads, compares and writes; nothing is decided here.
+#![tactic(auto)]
 use decoder::HeaderRead;
 use libc::STDOUT_FILENO;
 
@@ -7,7 +8,7 @@ mod picture; // picture.rt: the picture of a frame's differences
 mod rooms; // rooms.rt: room for a frame of each
 
 // Both files, and what their headers say.
-#[derive(Drop)]
+#[derive(Clone, Copy)]
 struct Job {
     a: i32,
     b: i32,

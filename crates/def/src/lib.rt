@@ -1,5 +1,7 @@
 // What every module shares: positions, the unit word, picture sizes, blocks and units by their place, and the refusals with their numbers.
 // The Rust beside it: def.rs.
+#![tactic(auto)]
+
 ghost use Rattle.std.specs.Prelude.{◌≡◌, ◌/◌, ◌≤◌, ◌<◌};
 ghost use Rattle.def.specs.Answers.{answer_number};
 ghost use Rattle.def.specs.Blocks.{block_side_ok, component_side_ok, block_ok, unit_ok};
@@ -12,11 +14,11 @@ ghost use Rattle.def.specs.Word.{intra_of, qp_of, coded_of, done_of, with_done, 
 // ---- positions
 
 // A sample's column or row in the luma plane.
-#[derive(Drop)]
+#[derive(Clone, Copy)]
 pub struct Pel(pub usize);
 
 // A unit's column or row: a unit is 4x4 luma samples.
-#[derive(Drop)]
+#[derive(Clone, Copy)]
 pub struct Scu(pub usize);
 
 // PEL2SCU, the one step between the two.
@@ -29,14 +31,14 @@ pub fn pel2scu(p: Pel) -> Scu
 // ---- components
 
 // A component of a 4:2:0 picture. The two chroma planes have one form.
-#[derive(Drop)]
+#[derive(Clone, Copy)]
 pub enum Component {
     Luma,
     Chroma,
 }
 
 // The chroma format of a picture. Format 0 is grey: it has luma alone, and its chroma planes have length 0. Format 1 is colour, 4:2:0.
-#[derive(Drop)]
+#[derive(Clone, Copy)]
 pub enum Format {
     Grey,
     Colour,
@@ -179,7 +181,7 @@ pub fn unit_ok(w: usize, h: usize, x: Scu, y: Scu) -> bool
 // ---- refusals
 
 // Why a call was refused: a variant for each number.
-#[derive(Drop)]
+#[derive(Clone, Copy)]
 pub enum Refusal {
     // 1: a side of the picture
     Size,

@@ -10,7 +10,7 @@ ghost use Rattle.edge_filter.specs.Edges.{pass_of, lines_place, cross_in, along_
 use window::Place;
 
 // The vertical pass filters the edges between columns, the horizontal those between rows.
-#[derive(Drop)]
+#[derive(Clone, Copy)]
 pub enum Pass {
     Vertical,
     Horizontal,

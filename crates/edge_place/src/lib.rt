@@ -1,6 +1,7 @@
 // The plan of a list of edges: of each edge the place of its strength, and its keep marks, by the maps of a picture. No plane is looked at. An edge's units are tested
 // once; where they are not in the maps, its place and its marks are 0.
 // The Rust beside it: df.rs, evc_get_tbl_qp_to_st.
+#![tactic(auto)]
 ghost use Rattle.std.specs.Prelude.{◌≡◌, ◌/◌, ◌≤◌, ◌<◌, min, length};
 ghost use Rattle.laws.specs.Bits.{field_of};
 ghost use Rattle.split.specs.Edges.{edge, pass_of};

@@ -1,6 +1,7 @@
 // Draws a split tree as an SVG picture on standard output: its leaves, and the edges that deblocking visits, those of the vertical pass in one colour and those
 // of the horizontal in another; numbered in their order, and with the bytes marked that mending a torn map changes, where that is asked for. It reads, calls
 // and writes: each rule is in a call of the face. `edgepicture` is this; the programs beside it are further runs of it, whose output is compared, too.
+#![tactic(auto)]
 use libc::STDIN_FILENO;
 
 mod asked; // asked.rt: what the arguments ask for
@@ -9,7 +10,7 @@ mod roots; // roots.rt: the tree, root by root
 mod svg; // svg.rt: the parts of the picture
 
 // What is drawn, and how.
-#[derive(Drop)]
+#[derive(Clone, Copy)]
 struct Job {
     w: usize,
     h: usize,

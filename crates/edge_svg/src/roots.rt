@@ -7,7 +7,7 @@ use crate::{Job, svg};
 use decoder::{Mended, Pel, Walked};
 
 // A band of the picture: its rows of luma samples, and how many bands lie above.
-#[derive(Drop)]
+#[derive(Clone, Copy)]
 struct Band {
     rows: usize,
     above: usize,

@@ -1,4 +1,5 @@
 // Reads a sheet from standard input, at most 4,096 bytes and one more to tell that there are more, and prints its listing. A refused sheet is an answer, too.
+#![tactic(auto)]
 use libc::STDIN_FILENO;
 
 // Whether standard input cannot be read, which is told: reading none of it fails where it is closed, or a folder.

@@ -1,4 +1,5 @@
 // `edgepicture` once more, on a map by its digits.
+#![tactic(auto)]
 fn main() {
     edge_svg::run();
 }

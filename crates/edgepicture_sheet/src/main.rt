@@ -1,4 +1,5 @@
 // `edgepicture` once more, on a sheet.
+#![tactic(auto)]
 fn main() {
     edge_svg::run();
 }

@@ -1,7 +1,7 @@
 // What the arguments ask for, and what is told where they cannot be taken. A file is asked for by the place of its name among the arguments, 0 for none.
 ghost use Rattle.std.specs.Prelude.{◌<◌};
 
-#[derive(Drop)]
+#[derive(Clone, Copy)]
 pub struct Asked {
     pub good: bool,
     // the split tree, by one of three files

@@ -1,5 +1,6 @@
 // What `finish` is asked: its arguments, and the files that are read once, before the first frame. It is for that program alone.
 // No contract can say what is read or written: what stands here is proved safe.
+#![tactic(auto)]
 mod asked; // asked.rt: the arguments
 mod keep; // keep.rt: the blocks that are kept
 mod lent; // lent.rt: what is lent beside a frame
@@ -12,7 +13,7 @@ pub use strengths::{entry, largest};
 pub use tree::Tree;
 
 // What is asked for, the stream and what its header says. The transform limit that is asked for is the tree's, once that is read.
-#[derive(Drop)]
+#[derive(Clone, Copy)]
 pub struct Job {
     pub asked: Asked,
     pub file: i32,

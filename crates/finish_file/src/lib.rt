@@ -1,6 +1,7 @@
 // Finishes a YUV4MPEG2 stream of 10 bits: every frame deblocked by one split tree, at one QP, and written again as a stream. Every unit counts as intra, and
 // chroma has luma's QP. It reads, calls the face and writes; each rule of deblocking is there. `finish` is this; the program beside it is a further run of
 // it, whose output is compared, too.
+#![tactic(auto)]
 use decoder::HeaderRead;
 use finish_asked::{Asked, Job};
 use libc::STDIN_FILENO;

@@ -1,5 +1,6 @@
 // A frame of the stream that `finish` goes through: read, deblocked and written, with the counts of its edges and how far its samples moved. It is for that
 // program alone. No contract can say what is read or written: what stands here is proved safe.
+#![tactic(auto)]
 use finish_asked::Job;
 
 mod frame; // frame.rt: a frame, deblocked

@@ -1,5 +1,6 @@
 // How an edge is filtered: the line filter, which of a line's samples are written, and the strength row by motion.
 // The Rust beside it: df.rs, the four deblock_scu_ functions and evc_get_tbl_qp_to_st.
+#![tactic(auto)]
 ghost use Rattle.std.specs.Prelude.{◌≡◌, cond, ◌+◌, ◌-◌, ◌*◌, ◌/◌, ◌≤◌, min};
 ghost use Rattle.laws.specs.Index.{pick};
 ghost use Rattle.line.specs.Line.{line_of, mask_of};
@@ -10,7 +11,7 @@ use def::Component;
 // ---- the line filter
 
 // A line across an edge: A B | C D.
-#[derive(Drop)]
+#[derive(Clone, Copy)]
 pub struct Quad {
     pub a: u16,
     pub b: u16,
@@ -19,7 +20,7 @@ pub struct Quad {
 }
 
 // Which of a line's samples are written.
-#[derive(Drop)]
+#[derive(Clone, Copy)]
 pub struct Mask {
     pub a: bool,
     pub b: bool,
@@ -127,7 +128,7 @@ pub fn line(a: u16, b: u16, c: u16, d: u16, st: u16) -> Quad
 // ---- the strength row by motion
 
 // A unit's motion: the references of list 0 and list 1, and x and y of each.
-#[derive(Drop)]
+#[derive(Clone, Copy)]
 pub struct Motion {
     pub refi0: i8,
     pub refi1: i8,

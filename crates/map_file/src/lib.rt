@@ -1,5 +1,6 @@
 // What the programs over split maps in files share: where a root and a block of a map lie, where a map or its digits are refused, and a file that is written.
 // No contract can say what is read or written: what stands here is proved safe. It is for the programs alone.
+#![tactic(auto)]
 ghost use Rattle.std.specs.Prelude.{◌≤◌};
 
 mod bytes; // bytes.rt: where a map is refused

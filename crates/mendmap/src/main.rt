@@ -1,5 +1,6 @@
 // Mends the split map of a picture of W by H that the file MAP holds, into the file MENDED, and lists each change: its five numbers, and the root and the
 // block in luma samples. The exit status is 0 where nothing was changed, 3 where something was, 1 for a refusal and 2 for a failure.
+#![tactic(auto)]
 mod list; // list.rt: the list as text
 mod rooms; // rooms.rt: room for a map, small and large
 

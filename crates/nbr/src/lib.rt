@@ -1,4 +1,5 @@
 // Neighbour gathering: evc_get_nbr_b of ipred.rs. The Rust's three loops are one over an arm, with a start and a stride.
+#![tactic(auto)]
 ghost use Rattle.std.specs.Prelude.{◌≡◌, true, ℕ, ◌+◌, ◌*◌, ◌≤◌, ◌<◌, length, get_or};
 ghost use Rattle.laws.specs.Plane.{with_row};
 ghost use Rattle.laws.specs.Call.{Gives};
@@ -13,7 +14,7 @@ use def::{Answer, Component, Pel, Refusal};
 
 // A side of the run: samples `step` apart in the plane from `from`; the words of their units `next` apart from `word`.
 // The first `there` units lie in the picture.
-#[derive(Drop)]
+#[derive(Clone, Copy)]
 struct Arm {
     from: usize,
     step: usize,
@@ -185,7 +186,7 @@ fn join_near(plane: &[u16], arm: Arm, units: usize, n: usize) -> u16
 // ---- the three arms of a block
 
 // A block of a picture of w by h, by its place and side in luma, in one component.
-#[derive(Drop)]
+#[derive(Clone, Copy)]
 struct Block {
     component: Component,
     w: usize,
@@ -291,7 +292,7 @@ fn up_arm(block: Block) -> Arm
 // ---- the three together
 
 // The arms of a block: `units` units of n samples in the left one and in the upper one, and the corner's one sample.
-#[derive(Drop)]
+#[derive(Clone, Copy)]
 struct Border {
     left: Arm,
     corner: Arm,

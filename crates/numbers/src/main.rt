@@ -1,4 +1,5 @@
 // The paper's worked numbers, put to the face's calls and printed: what is asked, and after `gives` what comes out.
+#![tactic(auto)]
 ghost use Rattle.std.specs.Prelude.{◌≤◌};
 
 use decoder::{Answer, Avail, Component, Deblocked, Format, Motion, Pel, Quad, Settings};

@@ -1,6 +1,7 @@
 // What the programs that replay recorded cases share: the file with the cases, the step from one to the next, and answers printed, each number after a
 // space.
 // No contract can say what is read or written: what stands here is proved safe, and that a lent slice is only read.
+#![tactic(auto)]
 ghost use Rattle.std.specs.Prelude.{◌≡◌, ◌-◌, ◌≤◌, length};
 
 // Room for the largest file of cases. A call keeps the checker from looking into the array.

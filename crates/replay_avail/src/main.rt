@@ -1,5 +1,6 @@
 // Replays recorded cases of both availability calls. A line of data/cases is a call, 0 intra or 1 inter first; the line printed for it is
 // the number that it answers, and the eight answers.
+#![tactic(auto)]
 use avail::{Avail, Neighbours};
 use def::Pel;
 

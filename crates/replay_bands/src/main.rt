@@ -1,5 +1,6 @@
 // Replays recorded cases of deblocking by bands. A line of data/cases is a call; the line printed for it is the number that it answers,
 // both passes' edge counts, the position that it hands back, and the planes and the unit words as it leaves them.
+#![tactic(auto)]
 use def::Format;
 use df::{Banded, Bands};
 use df_check::Settings;

@@ -1,5 +1,6 @@
 // Replays recorded cases of the chroma QP tables. A line of data/cases is a call; the line printed for it is the number that it answers,
 // and both tables as it leaves them.
+#![tactic(auto)]
 
 fn one(s: &[u8], at: usize) -> usize {
     let global = cases::number(s, at);

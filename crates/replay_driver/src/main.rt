@@ -1,5 +1,6 @@
 // Replays recorded cases of the block driver. A line of data/cases is a call; the line printed for it is the number that it answers, and
 // the planes, the unit words, the modes and the keep bytes as it leaves them.
+#![tactic(auto)]
 use def::Format;
 
 // The picture's size and two flags come first in a case, whether it has colour and whether its intra is constrained; then its split bytes

@@ -1,5 +1,6 @@
 // Replays recorded cases of gathering. A line of data/cases is a call; the line printed for it is the number that it answers, and the run
 // as it leaves it.
+#![tactic(auto)]
 use def::{Component, Pel};
 
 fn component(n: usize) -> Component {

@@ -1,5 +1,6 @@
 // Replays recorded cases of mending. A line of data/cases is a call; the line printed for it is the number that it answers, how many changes there are, and
 // the mended map and the list as it leaves them.
+#![tactic(auto)]
 use mend::Mended;
 
 // The number and the count, which is 0 where it refused.

@@ -1,5 +1,6 @@
 // Replays recorded cases of the compact map. A line of data/cases is a call, 0 for `put_map` and 1 for `get_map` first; the line printed for it is the number
 // that it answers, the position, and the buffer or the map as it leaves it.
+#![tactic(auto)]
 use pack::Placed;
 
 // The number and the position.

@@ -1,5 +1,6 @@
 // Replays recorded cases of the five modes. A line of data/cases is a call; the line printed for it is the number that it answers, and the
 // block as it leaves it.
+#![tactic(auto)]
 
 fn one(s: &[u8], at: usize) -> usize {
     let mode = cases::number(s, at);

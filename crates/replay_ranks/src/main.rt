@@ -1,5 +1,6 @@
 // Replays recorded cases of the mode ranks. A line of data/cases is a call; the line printed for it is the number that the companion
 // answers, and the part of the rank table that the lookup answers.
+#![tactic(auto)]
 use def::Scu;
 
 fn one(s: &[u8], at: usize) -> usize {

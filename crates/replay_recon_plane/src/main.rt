@@ -1,5 +1,6 @@
 // Replays recorded cases of residual addition into a plane. A line of data/cases is a call; the line printed for it is the number that it
 // answers, and the plane as it leaves it.
+#![tactic(auto)]
 use def::{Component, Pel};
 
 fn component(n: usize) -> Component {

@@ -1,5 +1,6 @@
 // Replays recorded cases of the map of edge rows. A line of data/cases is a call, its kind first: 0 fills the map, 1 sets a unit's motion, 2 a bit of its
 // word. The line printed for it is the number that it answers, and every slice that it may write, as it leaves it.
+#![tactic(auto)]
 use def::Scu;
 use line::Motion;
 use unit_edits::Flag;

@@ -1,5 +1,6 @@
 // Replays recorded cases of the ward's screen. A line of data/cases is a call; the line printed for it is the number that it answers, the turn that it hands
 // back, how many samples it wrote, and the row's buffer as it leaves it.
+#![tactic(auto)]
 use decoder::Format;
 use ward::{Rowed, Run, Turn, Window};
 

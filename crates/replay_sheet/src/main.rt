@@ -1,4 +1,5 @@
 // Prints the listing of each sheet of data/cases, and a line `--` after it. A byte 30 stands after a sheet, and none holds one.
+#![tactic(auto)]
 ghost use Rattle.std.specs.Prelude.{◌≤◌, length};
 
 use libc::STDOUT_FILENO;

@@ -1,5 +1,6 @@
 // Replays recorded cases of YUV4MPEG2 streams. A line of data/cases is a call, its kind first; the line printed for it is the number that it answers, its
 // values, and every slice that it may write, as it leaves it.
+#![tactic(auto)]
 use def::Format;
 use y4m_frame::FrameRead;
 use y4m_header::HeaderRead;

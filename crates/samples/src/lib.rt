@@ -1,4 +1,6 @@
 // The test of number 7: whether every sample of a lent slice is one of 10 bits. The Rust takes its samples to be so.
+#![tactic(auto)]
+
 ghost use Rattle.std.specs.Prelude.{◌≡◌};
 ghost use Rattle.samples.specs.Samples.{samples_ok};
 

@@ -1,4 +1,5 @@
 // The listing of a sheet, written to standard output: what `edgelist` and the replay of recorded sheets share.
+#![tactic(auto)]
 ghost use Rattle.std.specs.Prelude.{◌≡◌, replicate};
 ghost use Rattle.sheet.specs.Listing.{outcome};
 

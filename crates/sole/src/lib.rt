@@ -1,1 +1,2 @@
 // No functions: what is said of every call's contract, as the checker reads it from the source: that it has one outcome.
+#![tactic(auto)]

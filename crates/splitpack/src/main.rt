@@ -1,5 +1,6 @@
 // Packs the split map of a picture of W by H into a file of its digits as bits, or unpacks it from there, and tells how many bytes the digits take. The exit
 // status is 0, or 3 where a packed file goes on behind the map, 1 for a refusal and 2 for a failure.
+#![tactic(auto)]
 use def::Answer;
 use say::{end_line, field};
 

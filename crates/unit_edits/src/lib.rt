@@ -1,4 +1,5 @@
 // A map of edge rows, kept right while motion and flags are edited unit by unit. The Rust has none: it works each row out where it filters the edge.
+#![tactic(auto)]
 ghost use Rattle.std.specs.Prelude.{◌≡◌, true, ◌+◌, ◌*◌, ◌≤◌, ◌<◌, length};
 ghost use Rattle.laws.specs.Bits.{with_field};
 ghost use Rattle.laws.specs.Call.{Gives};
@@ -23,7 +24,7 @@ use rows::checked_maps;
 // ---- a unit's edges
 
 // An edge of a unit that its byte has a row for.
-#[derive(Drop)]
+#[derive(Clone, Copy)]
 enum Side {
     Left,
     Top,

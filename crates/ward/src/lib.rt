@@ -1,6 +1,7 @@
 // The ward screen: 8-bit rows of a window in finished planes, at full size or half, one at a time: Y, then U, then V, top first.
 // What it refuses is in `ward_check`, and the samples of a row are in `ward_rows`.
 // There is no Rust beside it. It stands above the face and goes by the latter's statements.
+#![tactic(auto)]
 ghost use Rattle.std.specs.Prelude.{◌≡◌, ◌<◌, length};
 ghost use Rattle.laws.specs.Call.{Gives};
 ghost use Rattle.ward_check.specs.Sizes.{rows_of};
@@ -16,7 +17,7 @@ use ward_rows::put_row;
 pub use ward_check::{Run, Window};
 
 // Which row of a run comes next: of plane 0, 1 or 2, that is of Y, U or V. A value that is handed back after each call.
-#[derive(Drop)]
+#[derive(Clone, Copy)]
 pub struct Turn {
     pub run: Run,
     pub plane: usize,

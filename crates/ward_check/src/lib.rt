@@ -1,5 +1,6 @@
 // The ward screen before a row is put: its two runs, a crop window, how large both are in a plane, and what a row's call refuses, in which order.
 // There is no Rust beside it. It stands above the face and goes by the latter's statements.
+#![tactic(auto)]
 ghost use Rattle.std.specs.Prelude.{◌≡◌, ◌≤◌, ◌<◌};
 ghost use Rattle.decoder.specs.Face.answers.{Done};
 ghost use Rattle.ward_check.specs.Sizes.{across, planes_of, in_plane, plane_length};
@@ -8,14 +9,14 @@ ghost use Rattle.ward_check.specs.Checks.{lengths_ok, window_ok, turn_ok, asked}
 use decoder::{Answer, Format, Refusal};
 
 // The two runs over a window.
-#[derive(Drop)]
+#[derive(Clone, Copy)]
 pub enum Run {
     Full,
     Preview,
 }
 
 // A crop window by its edges, in luma samples: left and top are its first column and row, right and bottom those after its last.
-#[derive(Drop)]
+#[derive(Clone, Copy)]
 pub struct Window {
     pub left: usize,
     pub top: usize,

@@ -1,5 +1,6 @@
 // Shows a window of a YUV4MPEG2 stream of 10 bits as the ward's screen does: 8-bit pictures, at full size or half, written as a stream that other players
 // take; or the luma plane of the first frame as a PGM picture. It reads, calls and writes: each rule is in `ward`.
+#![tactic(auto)]
 use decoder::{Format, HeaderRead};
 use libc::{STDIN_FILENO, STDOUT_FILENO};
 use ward::{Rowed, Run, Turn, Window};
@@ -7,7 +8,7 @@ use ward::{Rowed, Run, Turn, Window};
 mod rooms; // rooms.rt: room for a frame
 
 // What is asked for, and what the stream's header says.
-#[derive(Drop)]
+#[derive(Clone, Copy)]
 struct Job {
     run: Run,
     window: Window,

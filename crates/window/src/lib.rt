@@ -2,6 +2,7 @@
 // back. Luma and chroma, both directions: line by line, or row by row where the lines lie side by side.
 // Every call tests where its lines lie, by one comparison with the plane's length, and writes nothing where they do not.
 // The Rust beside it: df.rs, deblock_scu_hor_luma, deblock_scu_hor_chroma, deblock_scu_ver_luma, deblock_scu_ver_chroma.
+#![tactic(auto)]
 ghost use Rattle.std.specs.Prelude.{◌≡◌, true, false, ◌&&◌, ◌+◌, ◌-◌, ◌*◌, ◌≤◌, ◌<◌, min, leb, length, get_or};
 ghost use Rattle.laws.specs.Plane.{with_row};
 ghost use Rattle.def.specs.Components.{unit_side};
@@ -18,7 +19,7 @@ use line::{Mask, Quad};
 
 // Where the lines of a plane lie: the first sample of the first, the step from sample to sample, and that to the next line. Numbers of 32 bits: no sum of
 // them below can wrap.
-#[derive(Drop)]
+#[derive(Clone, Copy)]
 pub struct Place {
     pub at: u32,
     pub step: u32,

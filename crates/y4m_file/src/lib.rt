@@ -1,5 +1,6 @@
 // What the programs over YUV4MPEG2 files share: a file's header line, its frames one after the other, and what is told of a refusal.
 // No contract can say what is read or written: what stands here is proved safe. Memory is that of one frame, however long the file is.
+#![tactic(auto)]
 ghost use Rattle.std.specs.Prelude.{◌≤◌, length};
 
 use def::{Answer, Format};

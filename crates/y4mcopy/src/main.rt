@@ -1,5 +1,6 @@
 // Writes the YUV4MPEG2 file that its argument names to standard output again, read and checked: its header as this product writes one, and its frames. F is
 // 25:1 and A is 1:1 where the file's header has none. At a refusal it stops: what was written are the frames before it.
+#![tactic(auto)]
 use y4m_header::HeaderRead;
 
 fn copied(file: i32) -> u8 {

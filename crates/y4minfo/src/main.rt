@@ -1,5 +1,6 @@
 // Tells what the YUV4MPEG2 file that its argument names has: its size, F and A, and how many frames; or what it is refused for, in which frame and at which
 // byte. F or A is 0:0 where the header has none.
+#![tactic(auto)]
 use say::{end_line, field};
 use y4m_header::HeaderRead;
 

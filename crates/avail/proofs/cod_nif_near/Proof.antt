@@ -6,7 +6,7 @@ use Rattle.avail.proofs.cod_nif_near.Statement.{statement}
 use Rattle.avail.proofs.cod_nif_near.Tie as tie
 
 returns : tie.Need-returns
-returns c = rw (c.before.get-cod.ensures, c.get-if.ensures) (ap done_not_intra c.before.before.word-near.ensures)
+returns c = rw (c.get_cod.ensures, c.get_if.ensures) (ap done_not_intra c.word_near-word.ensures)
 
 pub cod_nif_near_spec : {M : Type 1} → statement M
 cod_nif_near_spec =

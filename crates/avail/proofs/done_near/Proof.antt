@@ -6,7 +6,7 @@ use Rattle.avail.proofs.done_near.Statement.{statement}
 use Rattle.avail.proofs.done_near.Tie as tie
 
 returns : tie.Need-returns
-returns c = c.get-cod.ensures ∙ ap done_of c.before.word-near.ensures
+returns c = c.get_cod.ensures ∙ ap done_of c.word_near.ensures
 
 pub done_near_spec : {M : Type 1} → statement M
 done_near_spec = tie.close (tie.spec (λ c κs. search rules) (λ c κs. search rules) returns)

@@ -6,18 +6,18 @@ use Rattle.avail.specs.Calls.{done, inter_outcome}
 use Rattle.avail.proofs.get_avail_inter.Statement.{statement}
 use Rattle.avail.proofs.get_avail_inter.Tie as tie
 
-inter_neighbours_requires : tie.Need-inter-neighbours-requires
-inter_neighbours_requires c κs = sym c.before.before.checked.ensures ∙ c.enum_told.given.1
+inter_neighbours_requires : tie.Need-inter_neighbours-requires
+inter_neighbours_requires c κs = sym c.checked.ensures ∙ c.in-Done.is
 
-returns : tie.Need-returns
+returns : tie.Need-returns-in-Refused
 unfolding inter_outcome
-returns c = on_refusal _ _ _ _ _ c.before.before.before.checked.ensures c.before.r.given.1
+returns c = on_refusal _ _ _ _ _ c.checked.ensures c.in-Refused.is
 
-returns-2 : tie.Need-returns-2
+returns-2 : tie.Need-returns-in-Done
 unfolding inter_outcome
 returns-2 c =
-    on_done _ _ _ _ _ c.before.before.before.checked.ensures c.before.enum_told.given.1
-    (ap done c.inter-neighbours.ensures)
+    on_done _ _ _ _ _ c.checked.ensures c.in-Done.is
+    (ap done c.inter_neighbours.ensures)
 
 pub get_avail_inter_spec : {M : Type 1} → statement M
 get_avail_inter_spec =

@@ -11,26 +11,26 @@ returns c =
     let d = c.before.before.before in
     let f = d.before.before.before in
     let g = f.before.before in
-    inter_are _ (accepted _ g.before.before.before.before.requires) _ g.before.before.pel2scu.ensures _ _ _ _ _ _ _ _
-    g.before.cod-nif-near.ensures g.cod-nif-near2.ensures f.intra-near.ensures d.before.before.cod-nif-near3.ensures
-    d.before.cod-nif-near4.ensures d.cod-nif-near5.ensures c.before.before.cod-nif-near6.ensures c.intra-near2.ensures
+    inter_are _ (accepted _ g.requires) _ g.pel2scu-sy.ensures _ _ _ _ _ _ _ _
+    g.cod_nif_near-left.ensures g.cod_nif_near-right.ensures f.intra_near.ensures d.cod_nif_near.ensures
+    d.cod_nif_near-2.ensures d.cod_nif_near-3.ensures c.cod_nif_near-4.ensures c.intra_near-2.ensures
 
 pub inter_neighbours_spec : {M : Type 1} → statement M
 inter_neighbours_spec =
     tie.close
     (tie.spec
     (λ c κs. search rules)
-    (λ c κs. in_reach _ _ _ _ _ _ _ _ c.before.before.requires (omega arith) (omega arith))
+    (λ c κs. in_reach _ _ _ _ _ _ _ _ c.requires (omega arith) (omega arith))
     (λ c. search rules)
-    (λ c κs. in_reach _ _ _ _ _ _ _ _ c.before.before.before.requires (omega arith) (omega arith))
-    (λ c κs. in_reach _ _ _ _ _ _ _ _ c.before.before.before.before.before.requires (omega arith) (omega arith))
-    (λ c κs. in_reach _ _ _ _ _ _ _ _ c.before.before.before.before.before.before.requires (omega arith) (omega arith))
+    (λ c κs. in_reach _ _ _ _ _ _ _ _ c.requires (omega arith) (omega arith))
+    (λ c κs. in_reach _ _ _ _ _ _ _ _ c.requires (omega arith) (omega arith))
+    (λ c κs. in_reach _ _ _ _ _ _ _ _ c.requires (omega arith) (omega arith))
     (λ c. search rules)
-    (λ c κs. in_reach _ _ _ _ _ _ _ _ c.before.before.before.before.before.before.before.requires (omega arith) (omega arith))
+    (λ c κs. in_reach _ _ _ _ _ _ _ _ c.requires (omega arith) (omega arith))
     (λ c. search rules)
-    (λ c κs. in_reach _ _ _ _ _ _ _ _ c.before.before.before.before.before.before.before.before.requires (omega arith) (omega arith))
+    (λ c κs. in_reach _ _ _ _ _ _ _ _ c.requires (omega arith) (omega arith))
     (λ c. search rules)
     (λ c. search rules)
-    (λ c κs. in_reach _ _ _ _ _ _ _ _ c.before.before.before.before.before.before.before.before.before.requires (omega arith) (omega arith))
-    (λ c κs. in_reach _ _ _ _ _ _ _ _ c.before.before.before.before.before.before.before.before.before.before.before.requires (omega arith) (omega arith))
+    (λ c κs. in_reach _ _ _ _ _ _ _ _ c.requires (omega arith) (omega arith))
+    (λ c κs. in_reach _ _ _ _ _ _ _ _ c.requires (omega arith) (omega arith))
     returns)

@@ -6,7 +6,7 @@ use Rattle.avail.proofs.intra_near.Statement.{statement}
 use Rattle.avail.proofs.intra_near.Tie as tie
 
 returns : tie.Need-returns
-returns c = c.get-if.ensures ∙ ap intra_of c.before.word-near.ensures
+returns c = c.get_if.ensures ∙ ap intra_of c.word_near.ensures
 
 pub intra_near_spec : {M : Type 1} → statement M
 intra_near_spec = tie.close (tie.spec (λ c κs. search rules) (λ c κs. search rules) returns)

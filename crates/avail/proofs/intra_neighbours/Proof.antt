@@ -10,24 +10,24 @@ returns : tie.Need-returns
 returns c =
     let d = c.before.before.before in
     let f = d.before.before.before in
-    intra_are _ (accepted _ f.before.before.before.before.requires) _ f.before.before.pel2scu.ensures _ _ _ _ _ _
-    f.before.done-near.ensures f.done-near2.ensures d.before.done-near3.ensures d.done-near4.ensures
-    c.before.before.done-near5.ensures c.before.done-near6.ensures
+    intra_are _ (accepted _ f.requires) _ f.pel2scu-sy.ensures _ _ _ _ _ _
+    f.done_near-left.ensures f.done_near-right.ensures d.done_near.ensures d.done_near-2.ensures
+    c.done_near-3.ensures c.done_near-4.ensures
 
 pub intra_neighbours_spec : {M : Type 1} → statement M
 intra_neighbours_spec =
     tie.close
     (tie.spec
     (λ c κs. search rules)
-    (λ c κs. in_reach _ _ _ _ _ _ _ _ c.before.before.requires (omega arith) (omega arith))
+    (λ c κs. in_reach _ _ _ _ _ _ _ _ c.requires (omega arith) (omega arith))
     (λ c. search rules)
-    (λ c κs. in_reach _ _ _ _ _ _ _ _ c.before.before.before.requires (omega arith) (omega arith))
-    (λ c κs. in_reach _ _ _ _ _ _ _ _ c.before.before.before.before.before.requires (omega arith) (omega arith))
+    (λ c κs. in_reach _ _ _ _ _ _ _ _ c.requires (omega arith) (omega arith))
+    (λ c κs. in_reach _ _ _ _ _ _ _ _ c.requires (omega arith) (omega arith))
     (λ c. search rules)
-    (λ c κs. in_reach _ _ _ _ _ _ _ _ c.before.before.before.before.before.before.requires (omega arith) (omega arith))
+    (λ c κs. in_reach _ _ _ _ _ _ _ _ c.requires (omega arith) (omega arith))
     (λ c. search rules)
-    (λ c κs. in_reach _ _ _ _ _ _ _ _ c.before.before.before.before.before.before.before.requires (omega arith) (omega arith))
+    (λ c κs. in_reach _ _ _ _ _ _ _ _ c.requires (omega arith) (omega arith))
     (λ c. search rules)
     (λ c. search rules)
-    (λ c κs. in_reach _ _ _ _ _ _ _ _ c.before.before.before.before.before.before.before.before.requires (omega arith) (omega arith))
+    (λ c κs. in_reach _ _ _ _ _ _ _ _ c.requires (omega arith) (omega arith))
     returns)

@@ -6,7 +6,7 @@ use Rattle.band_rows.proofs.band_ok.Tie as tie
 
 returns : tie.Need-returns
 unfolding band_ok
-returns c = rw c.roots-along.ensures
+returns c = rw c.roots_along.ensures
 
 pub band_ok_spec : {M : Type 1} → statement M
 band_ok_spec = tie.close (tie.spec (λ c κs. search rules) returns)

@@ -12,22 +12,22 @@ unjudged : (k : ℕ) → 4 * rows_above k - 4 * rows_above k / 16 ≡ 4 * (rows_
 unjudged zero = refl
 unjudged (suc k) = refl
 
-mul_own : tie.Need-overflow-mul-own
-mul_own c = omega (arith, c.band-rows.ensures, few_rows (c.before.args.h / 4) c.before.args.band)
+mul_own : tie.Need-overflow_mul-own
+mul_own c = omega (arith, c.band_rows-own.ensures, few_rows (c.args.h / 4) c.args.band)
 
-mul_above : tie.Need-overflow-mul-above
-mul_above c = omega (arith, c.rows_above.ensures, (few_above c.before.before.args.band).1)
+mul_above : tie.Need-overflow_mul-above
+mul_above c = omega (arith, c.rows_above-above.ensures, (few_above c.args.band).1)
 
-add_t6 : tie.Need-overflow-add-t6
+add_t6 : tie.Need-overflow_add-result
 add_t6 c =
-    let a = c.before.before.args in
-    omega (arith, c.before.band-rows.ensures, few_rows (a.h / 4) a.band, c.rows_above.ensures, (few_above a.band).1)
+    let a = c.args in
+    omega (arith, c.band_rows-own.ensures, few_rows (a.h / 4) a.band, c.rows_above-above.ensures, (few_above a.band).1)
 
 returns : tie.Need-returns
 returns c =
-    let a = c.before.before.args in
-    let rows = c.before.band-rows in
-    let above = c.rows_above in
+    let a = c.args in
+    let rows = c.band_rows-own in
+    let above = c.rows_above-above in
     let all : 4 * above.result + 4 * rows.result ≡ 4 * (rows_above a.band + band_rows (a.h / 4) a.band) = omega (arith, rows.ensures, above.ensures) in
     let before = ap (λ (n : ℕ). 4 * n - 4 * n / 16) above.ensures ∙ unjudged a.band in
     λ i. record { all = all i; own = 4 * rows.ensures i; before = before i }

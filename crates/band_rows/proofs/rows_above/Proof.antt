@@ -13,11 +13,11 @@ some : (k : ℕ) → (k ≡ 0 → ⊥) → 16 ≡ rows_above k
 some zero n = absurd (n refl)
 some (suc k) n = refl
 
-returns : tie.Need-returns
-returns c = none _ c.if1.true
+returns : tie.Need-returns-then-band-eq0
+returns c = none _ c.if-band-eq0.true
 
-returns-2 : tie.Need-returns-2
-returns-2 c = some _ c.if1.false
+returns-2 : tie.Need-returns-else-band-eq0
+returns-2 c = some _ c.if-band-eq0.false
 
 pub rows_above_spec : {M : Type 1} → statement M
 rows_above_spec = tie.close (tie.spec returns returns-2)

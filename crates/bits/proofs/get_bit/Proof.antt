@@ -7,10 +7,10 @@ use Rattle.bits.proofs.Laws.{bit_past}
 use Rattle.bits.proofs.get_bit.Statement.{statement}
 use Rattle.bits.proofs.get_bit.Tie as tie
 
-returns : tie.Need-returns
-returns c = bit_past _ _ c.if1.true
+returns : tie.Need-returns-then-buf-i
+returns c = bit_past _ _ c.if-buf-i.true
 
-returns-2 : tie.Need-returns-2
+returns-2 : tie.Need-returns
 unfolding bit_at field_of
 returns-2 c = refl
 

@@ -5,12 +5,12 @@ use Rattle.bits.proofs.Laws.{put_past}
 use Rattle.bits.proofs.put_bit.Statement.{statement}
 use Rattle.bits.proofs.put_bit.Tie as tie
 
-returns : tie.Need-returns
-returns c = put_past _ _ _ c.if1.true
+returns : tie.Need-returns-then-buf-i
+returns c = put_past _ _ _ c.if-buf-i.true
 
-returns-2 : tie.Need-returns-2
+returns-2 : tie.Need-returns
 unfolding with_bit
-returns-2 c = rw c.with-bit.ensures
+returns-2 c = rw c.with_bit.ensures
 
 pub put_bit_spec : {M : Type 1} → statement M
 put_bit_spec =

@@ -5,28 +5,28 @@ use Rattle.bits.proofs.Laws.{bit_fits, put_fits, bit_put}
 use Rattle.bits.proofs.with_bit.Statement.{statement}
 use Rattle.bits.proofs.with_bit.Tie as tie
 
-cast_result : tie.Need-overflow-cast-result
+cast_result : tie.Need-overflow_cast-result
 cast_result c = search rules
 
-shr_result : tie.Need-overflow-shr-result
+shr_result : tie.Need-overflow_shr-result
 shr_result c = search rules
 
-cast_result_2 : tie.Need-overflow-cast-result-2
+cast_result_2 : tie.Need-overflow_cast-result-2
 cast_result_2 c = search rules
 
-shl_result : tie.Need-overflow-shl-result
+shl_result : tie.Need-overflow_shl-result
 shl_result c = search rules
 
-sub_result : tie.Need-overflow-sub-result
+sub_result : tie.Need-overflow_sub-result
 sub_result c = bit_fits c.args.x c.args.k c.args.bit c.requires.0 c.requires.1
 
-cast_result_3 : tie.Need-overflow-cast-result-3
+cast_result_3 : tie.Need-overflow_cast-result-3
 cast_result_3 c = search rules
 
-shl_result_2 : tie.Need-overflow-shl-result-2
+shl_result_2 : tie.Need-overflow_shl-result-2
 shl_result_2 c = search rules
 
-add_result : tie.Need-overflow-add-result
+add_result : tie.Need-overflow_add-result
 add_result c = omega (arith, put_fits c.args.x c.args.k c.args.bit c.requires.0 c.requires.1 (omega arith))
 
 returns : tie.Need-returns

@@ -30,54 +30,54 @@ of s =
       settings = a.settings;
     }
 
-returns : tie.Need-returns
+returns : tie.Need-returns-then-not-size_ok
 unfolding of
-returns c = no_size (of c.before.before.before.before.before.before.before.before.before) _ c.before.Size-ok.ensures c.if1.true
+returns c = no_size (of c.before.before.before.before.before.before.before.before.before) _ c.size_ok.ensures c.if-not-size_ok.true-raw
 
-rows_length_ok_requires : tie.Need-rows-length-ok-requires
+rows_length_ok_requires : tie.Need-rows_length_ok-requires
 rows_length_ok_requires c κs =
-    let s = sized _ _ (sym c.before.Size-ok.ensures ∙ not-false _ c.if1.false) in
+    let s = sized _ _ (sym c.size_ok.ensures ∙ c.if-not-size_ok.false) in
     (s.wide, s.high)
 
-returns-2 : tie.Need-returns-2
+returns-2 : tie.Need-returns-then-not-rows_length_ok
 unfolding of
 returns-2 c =
-    no_length (of c.before.before.before.before.before.before.before.before.before.before.before) _ _ c.before.before.before.Size-ok.ensures
-    c.before.before.if1.false c.before.rows-length-ok.ensures c.if2.true
+    no_length (of c.before.before.before.before.before.before.before.before.before.before.before) _ _ c.size_ok.ensures
+    c.if-not-size_ok.false-raw c.rows_length_ok.ensures c.if-not-rows_length_ok.true-raw
 
-returns-3 : tie.Need-returns-3
+returns-3 : tie.Need-returns-in-Refused
 unfolding of
 returns-3 c =
     no_picture (of c.before.before.before.before.before.before.before.before.before.before.before.before.before.before.before) _ _
-    c.before.before.before.before.before.before.before.Size-ok.ensures c.before.before.before.before.before.before.if1.false
-    c.before.before.before.before.before.rows-length-ok.ensures c.before.before.before.before.if2.false
-    _ _ c.before.before.before.checked.ensures c.before.found.given.1
+    c.size_ok.ensures c.if-not-size_ok.false-raw
+    c.rows_length_ok.ensures c.if-not-rows_length_ok.false-raw
+    _ _ c.checked-found.ensures c.in-Refused.is
 
-returns-4 : tie.Need-returns-4
+returns-4 : tie.Need-returns-then-rows-eq0
 unfolding of
 returns-4 c =
     none_lent (of c.before.before.before.before.before.before.before.before.before.before.before.before.before.before.before) _ _
-    c.before.before.before.before.before.before.before.Size-ok.ensures c.before.before.before.before.before.before.if1.false
-    c.before.before.before.before.before.rows-length-ok.ensures c.before.before.before.before.if2.false
-    _ c.before.before.before.checked.ensures c.before.enum_told.given.1 c.if3.true
+    c.size_ok.ensures c.if-not-size_ok.false-raw
+    c.rows_length_ok.ensures c.if-not-rows_length_ok.false-raw
+    _ c.checked-found.ensures c.in_default.is c.if-rows-eq0.true
 
-returns-5 : tie.Need-returns-5
+returns-5 : tie.Need-returns-then-not-rows_right
 unfolding of
 returns-5 c =
     wrong_map (of c.before.before.before.before.before.before.before.before.before.before.before.before.before.before.before.before.before) _
-    _ c.before.before.before.before.before.before.before.before.before.Size-ok.ensures
-    c.before.before.before.before.before.before.before.before.if1.false
-    c.before.before.before.before.before.before.before.rows-length-ok.ensures c.before.before.before.before.before.before.if2.false
-    _ c.before.before.before.before.before.checked.ensures c.before.before.before.enum_told.given.1 _ c.before.before.if3.false c.before.rows_right.ensures c.if4.true
+    _ c.size_ok.ensures
+    c.if-not-size_ok.false-raw
+    c.rows_length_ok.ensures c.if-not-rows_length_ok.false-raw
+    _ c.checked-found.ensures c.in_default.is _ c.if-rows-eq0.false c.rows_right.ensures c.if-not-rows_right.true-raw
 
-returns-6 : tie.Need-returns-6
+returns-6 : tie.Need-returns
 unfolding of
 returns-6 c =
     right_map (of c.before.before.before.before.before.before.before.before.before.before.before.before.before.before.before.before.before) _
-    _ c.before.before.before.before.before.before.before.before.before.Size-ok.ensures
-    c.before.before.before.before.before.before.before.before.if1.false
-    c.before.before.before.before.before.before.before.rows-length-ok.ensures c.before.before.before.before.before.before.if2.false
-    _ c.before.before.before.before.before.checked.ensures c.before.before.before.enum_told.given.1 _ c.before.rows_right.ensures c.if4.false
+    _ c.size_ok.ensures
+    c.if-not-size_ok.false-raw
+    c.rows_length_ok.ensures c.if-not-rows_length_ok.false-raw
+    _ c.checked-found.ensures c.in_default.is _ c.rows_right.ensures c.if-not-rows_right.false-raw
 
 pub checked_by_rows_spec : {M : Type 1} → statement M
 checked_by_rows_spec =

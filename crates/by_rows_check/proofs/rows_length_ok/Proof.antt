@@ -6,7 +6,7 @@ use Rattle.by_rows_check.specs.Checks.{rows_length_ok}
 use Rattle.by_rows_check.proofs.rows_length_ok.Statement.{statement}
 use Rattle.by_rows_check.proofs.rows_length_ok.Tie as tie
 
-mul_result : tie.Need-overflow-mul-result
+mul_result : tie.Need-overflow_mul-result
 mul_result c = omega (arith, few_units c.args.w c.args.h c.requires.0 c.requires.1)
 
 returns : tie.Need-returns

@@ -15,13 +15,13 @@ use Rattle.cases.proofs.Fills.{Filling, filling_none, filling_more, filling_all}
 use Rattle.cases.proofs.fill_i16.Statement.{statement}
 use Rattle.cases.proofs.fill_i16.Tie as tie
 
-abbrev invariant-loop : tie.invariant-loop
+abbrev invariant-loop : tie.invariant-loop-i
 invariant-loop s at out₀ i₀ place₀ out i place = Filling (pos 0) (signed_of 32768) s at out₀ out i place
 
-abbrev decreases-loop : tie.decreases-loop
+abbrev decreases-loop : tie.decreases-loop-i
 decreases-loop s at out₀ i₀ place₀ out i place = length out₀ - i
 
-loop_holds : tie.Need-loop-init invariant-loop decreases-loop
+loop_holds : tie.Need-loop-i-init invariant-loop decreases-loop
 loop_holds c = filling_none _ _ _ _ _
 
 -- what was read is a number of this width, and of the wider one that it came in
@@ -31,20 +31,20 @@ narrow n = record { sfits = signed_small 32768 n (omega arith) }
 wide : (z : ℤ) (n : Written) → z ≡ signed_of 32768 n → to_z w32 (of_z w32 z) ≡ z
 wide z n e = rw e (back w32 _ (sfits w32 32768 (omega (arith, signed_small 32768 n (omega arith))) tt))
 
-cast_out : tie.Need-overflow-cast-out invariant-loop decreases-loop
+cast_out : tie.Need-overflow_cast-out invariant-loop decreases-loop
 cast_out c = rw (wide _ _ c.signed.ensures, c.signed.ensures) (narrow _)
 
-loop_again : tie.Need-loop-preserved invariant-loop decreases-loop
+loop_again : tie.Need-loop-i-preserved invariant-loop decreases-loop
 loop_again c =
-    let l = c.before.before.before.loop in
-    filling_more _ _ _ _ _ _ l.i _ _ _ (omega arith) c.before.number.ensures
+    let l = c.loop-i in
+    filling_more _ _ _ _ _ _ l.i _ _ _ (omega arith) c.number-n.ensures
     (rw (wide _ _ c.signed.ensures, c.signed.ensures) (back w16 _ (narrow _))) l.invariant
 
-same_length : tie.Need-same-length invariant-loop decreases-loop
-same_length c = c.before.loop.invariant.upto.long
+same_length : tie.Need-shape_of-out invariant-loop decreases-loop
+same_length c = c.loop-i.invariant.upto.long
 
 returns : tie.Need-returns invariant-loop decreases-loop
-returns c = filling_all _ _ _ _ _ _ c.before.loop.i _ (omega arith) c.before.loop.invariant
+returns c = filling_all _ _ _ _ _ _ c.loop-i.i _ (omega arith) c.loop-i.invariant
 
 pub fill_i16_spec : {M : Type 1} → statement M
 fill_i16_spec =

@@ -9,25 +9,25 @@ use Rattle.cases.proofs.Fills.{Filling, filling_none, filling_more, filling_all}
 use Rattle.cases.proofs.fill_u16.Statement.{statement}
 use Rattle.cases.proofs.fill_u16.Tie as tie
 
-abbrev invariant-loop : tie.invariant-loop
+abbrev invariant-loop : tie.invariant-loop-i
 invariant-loop s at out₀ i₀ place₀ out i place = Filling 0 (λ (n : Written). n.size % 65536) s at out₀ out i place
 
-abbrev decreases-loop : tie.decreases-loop
+abbrev decreases-loop : tie.decreases-loop-i
 decreases-loop s at out₀ i₀ place₀ out i place = length out₀ - i
 
-loop_holds : tie.Need-loop-init invariant-loop decreases-loop
+loop_holds : tie.Need-loop-i-init invariant-loop decreases-loop
 loop_holds c = filling_none _ _ _ _ _
 
-loop_again : tie.Need-loop-preserved invariant-loop decreases-loop
+loop_again : tie.Need-loop-i-preserved invariant-loop decreases-loop
 loop_again c =
-    let l = c.before.before.before.loop in
-    filling_more _ _ _ _ _ _ l.i _ _ _ (omega arith) c.before.number.ensures refl l.invariant
+    let l = c.loop-i in
+    filling_more _ _ _ _ _ _ l.i _ _ _ (omega arith) c.number-n.ensures refl l.invariant
 
-same_length : tie.Need-same-length invariant-loop decreases-loop
-same_length c = c.before.loop.invariant.upto.long
+same_length : tie.Need-shape_of-out invariant-loop decreases-loop
+same_length c = c.loop-i.invariant.upto.long
 
 returns : tie.Need-returns invariant-loop decreases-loop
-returns c = filling_all _ _ _ _ _ _ c.before.loop.i _ (omega arith) c.before.loop.invariant
+returns c = filling_all _ _ _ _ _ _ c.loop-i.i _ (omega arith) c.loop-i.invariant
 
 pub fill_u16_spec : {M : Type 1} → statement M
 fill_u16_spec =

@@ -6,28 +6,28 @@ use Rattle.cases.proofs.number.Statement.{statement}
 use Rattle.cases.proofs.number.Tie as tie
 
 -- src/lib.rt:63:9
-returns : tie.Need-returns
+returns : tie.Need-returns-then-s-at
 returns c = number_past _ _ (omega arith)
 
 -- src/lib.rt:65:9
-until_requires : tie.Need-until-requires
+until_requires : tie.Need-until-start-requires
 until_requires c κs = search rules
 
 -- src/lib.rt:66:9
-until_requires_2 : tie.Need-until-requires-2
+until_requires_2 : tie.Need-until-stop-requires
 until_requires_2 c κs = search rules
 
 -- src/lib.rt:68:9
-returns-2 : tie.Need-returns-2
+returns-2 : tie.Need-returns-then-start-stop
 returns-2 c =
-    number_none _ _ _ _ (omega arith) c.before.before.until.ensures.0 c.before.until2.ensures.0 (omega arith)
+    number_none _ _ _ _ (omega arith) c.until-start.ensures.0 c.until-stop.ensures.0 (omega arith)
 
 -- src/lib.rt:70:8
-shared_slice_read_if3 : tie.Need-shared-slice-read-if3
+shared_slice_read_if3 : tie.Need-bounds-s-start
 shared_slice_read_if3 c = search rules
 
 -- src/lib.rt:71:57
-add_value : tie.Need-overflow-add-value
+add_value : tie.Need-overflow_add-start
 add_value c = search rules
 
 -- src/lib.rt:71:48
@@ -35,20 +35,20 @@ value_requires : tie.Need-value-requires
 value_requires c κs = search rules
 
 -- src/lib.rt:71:9
-returns-3 : tie.Need-returns-3
+returns-3 : tie.Need-returns-then-s-start-eq45
 returns-3 c =
     let u = c.before.before.before.before in
-    number_below _ _ u.before.until.result _ (omega arith) u.before.until.ensures.0 u.until2.ensures.0 _ (λ e. omega arith) c.before.if3.true c.value.ensures
+    number_below _ _ u.until-start.result _ (omega arith) u.until-start.ensures.0 u.until-stop.ensures.0 _ (λ e. omega arith) c.if-s-start-eq45.true c.value.ensures
 
 -- src/lib.rt:73:38
 value_requires_2 : tie.Need-value-requires-2
 value_requires_2 c κs = search rules
 
 -- src/lib.rt:59:1
-returns-4 : tie.Need-returns-4
+returns-4 : tie.Need-returns
 returns-4 c =
     let u = c.before.before.before.before in
-    number_above _ _ u.before.until.result _ (omega arith) u.before.until.ensures.0 u.until2.ensures.0 _ (λ e. omega arith) c.before.if3.false c.value2.ensures
+    number_above _ _ u.until-start.result _ (omega arith) u.until-start.ensures.0 u.until-stop.ensures.0 _ (λ e. omega arith) c.if-s-start-eq45.false c.value-2.ensures
 
 pub number_spec : {M : Type 1} → statement M
 number_spec =

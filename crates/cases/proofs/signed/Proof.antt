@@ -30,26 +30,26 @@ returned k h = back w32 _ (below k h) ∙ rw (read k h) (+ℤ_idl (neg_ℤ (pos 
 part : (size m : ℕ) → 1 ≤ m → m ≤ 32769 → size % m ≤ 32768
 part size m h p = omega (arith, mod-lt size {m = m} (omega arith))
 
-cast_result : tie.Need-overflow-cast-result
+cast_result : tie.Need-overflow_cast-result
 cast_result c = above _ (part _ _ (omega arith) (omega arith))
 
-sub_result : tie.Need-overflow-sub-result
-sub_result c = let a = c.before.before.args in below (a.n.size % (a.m + 1)) (part a.n.size (a.m + 1) (omega arith) (omega arith))
+sub_result : tie.Need-overflow_sub-result
+sub_result c = let a = c.args in below (a.n.size % (a.m + 1)) (part a.n.size (a.m + 1) (omega arith) (omega arith))
 
-returns : tie.Need-returns
+returns : tie.Need-returns-then-n
 unfolding signed_of
 returns c =
-    let a = c.before.before.args in
-    rw c.before.if1.true (returned (a.n.size % (a.m + 1)) (part a.n.size (a.m + 1) (omega arith) (omega arith)))
+    let a = c.args in
+    rw c.if-n.true (returned (a.n.size % (a.m + 1)) (part a.n.size (a.m + 1) (omega arith) (omega arith)))
 
-cast_result_2 : tie.Need-overflow-cast-result-2
+cast_result_2 : tie.Need-overflow_cast-result-2
 cast_result_2 c = above _ (part _ _ (omega arith) (omega arith))
 
-returns-2 : tie.Need-returns-2
+returns-2 : tie.Need-returns
 unfolding signed_of
 returns-2 c =
-    let a = c.before.before.args in
-    rw c.before.if1.false (read (a.n.size % a.m) (part a.n.size a.m (omega arith) (omega arith)))
+    let a = c.args in
+    rw c.if-n.false (read (a.n.size % a.m) (part a.n.size a.m (omega arith) (omega arith)))
 
 pub signed_spec : {M : Type 1} → statement M
 signed_spec =

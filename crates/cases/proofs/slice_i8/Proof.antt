@@ -7,13 +7,13 @@ use Rattle.cases.proofs.Fills.{took}
 use Rattle.cases.proofs.slice_i8.Statement.{statement}
 use Rattle.cases.proofs.slice_i8.Tie as tie
 
-front_long : tie.Need-slice-aggregate-fill-i8
+front_long : tie.Need-slice_bounds-fill_i8-end-2
 front_long c = sym (length-take-le _ _ (omega arith))
 
 returns : tie.Need-returns
 returns c =
     let l = c.before.before.before in
-    took _ _ _ _ _ _ _ _ l.before.number.ensures l.least.ensures.0 c.before.fill-i8.ensures
+    took _ _ _ _ _ _ _ _ l.number-n.ensures l.least-len.ensures.0 c.fill_i8-next.ensures
 
 pub slice_i8_spec : {M : Type 1} → statement M
 slice_i8_spec =

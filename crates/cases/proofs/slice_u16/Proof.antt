@@ -7,13 +7,13 @@ use Rattle.cases.proofs.Fills.{took}
 use Rattle.cases.proofs.slice_u16.Statement.{statement}
 use Rattle.cases.proofs.slice_u16.Tie as tie
 
-front_long : tie.Need-slice-aggregate-fill-u16
+front_long : tie.Need-slice_bounds-fill_u16-end-2
 front_long c = sym (length-take-le _ _ (omega arith))
 
 returns : tie.Need-returns
 returns c =
     let l = c.before.before.before.before in
-    took _ _ _ _ _ _ _ _ l.before.number.ensures l.least.ensures.0 c.before.before.fill-u16.ensures
+    took _ _ _ _ _ _ _ _ l.number-n.ensures l.least-len.ensures.0 c.fill_u16-next.ensures
 
 pub slice_u16_spec : {M : Type 1} → statement M
 slice_u16_spec =

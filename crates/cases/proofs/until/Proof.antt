@@ -9,47 +9,47 @@ use Rattle.cases.proofs.Steps.{first_here, first_on, first_end}
 use Rattle.cases.proofs.until.Statement.{statement}
 use Rattle.cases.proofs.until.Tie as tie
 
-abbrev invariant-loop : tie.invariant-loop
+abbrev invariant-loop : tie.invariant-loop-i
 invariant-loop s at wanted i₀ i = (at ≤ i) × (i ≤ length s) × (first wanted s (length s - at) at ≡ first wanted s (length s - i) i)
 
-abbrev decreases-loop : tie.decreases-loop
+abbrev decreases-loop : tie.decreases-loop-i
 decreases-loop s at wanted i₀ i = length s - i
 
 -- src/lib.rt:29:5
-loop_holds : tie.Need-loop-init invariant-loop decreases-loop
+loop_holds : tie.Need-loop-i-init invariant-loop decreases-loop
 loop_holds c = (omega arith, omega arith, refl)
 
 -- src/lib.rt:30:24
-shared_slice_read_number_byte : tie.Need-shared-slice-read-number-byte invariant-loop decreases-loop
+shared_slice_read_number_byte : tie.Need-bounds-s-i invariant-loop decreases-loop
 shared_slice_read_number_byte c = search rules
 
 -- src/lib.rt:30:12
-number_byte_requires : tie.Need-number-byte-requires invariant-loop decreases-loop
+number_byte_requires : tie.Need-number_byte-requires invariant-loop decreases-loop
 number_byte_requires c κs = search rules
 
 -- src/lib.rt:31:13
-returns : tie.Need-returns invariant-loop decreases-loop
+returns : tie.Need-returns-then-number_byte invariant-loop decreases-loop
 returns c =
-    let l = c.before.before.before.before.loop in
-    (sym (l.invariant.2 ∙ first_here _ _ _ l.i (omega arith) (sym c.before.number-byte.ensures ∙ c.if1.true)), omega arith, omega arith)
+    let l = c.loop-i in
+    (sym (l.invariant.2 ∙ first_here _ _ _ l.i (omega arith) (sym c.number_byte.ensures ∙ c.if-number_byte.true)), omega arith, omega arith)
 
 -- src/lib.rt:33:9
-add_i : tie.Need-overflow-add-i invariant-loop decreases-loop
+add_i : tie.Need-overflow_add-i invariant-loop decreases-loop
 add_i c = search rules
 
 -- src/lib.rt:29:5
-loop_less : tie.Need-loop-smaller invariant-loop decreases-loop
+loop_less : tie.Need-loop-i-smaller invariant-loop decreases-loop
 loop_less c = search rules
 
 -- src/lib.rt:29:5
-loop_again : tie.Need-loop-preserved invariant-loop decreases-loop
+loop_again : tie.Need-loop-i-preserved invariant-loop decreases-loop
 loop_again c =
-    let l = c.before.before.before.before.loop in
-    (omega arith, omega arith, l.invariant.2 ∙ first_on _ _ _ l.i (omega arith) (sym c.before.number-byte.ensures ∙ c.if1.false))
+    let l = c.loop-i in
+    (omega arith, omega arith, l.invariant.2 ∙ first_on _ _ _ l.i (omega arith) (sym c.number_byte.ensures ∙ c.if-number_byte.false))
 
 -- src/lib.rt:24:1
-returns-2 : tie.Need-returns-2 invariant-loop decreases-loop
-returns-2 c = (sym (c.before.loop.invariant.2 ∙ first_end _ _ _ c.before.loop.i (omega arith)), omega arith, omega arith)
+returns-2 : tie.Need-returns invariant-loop decreases-loop
+returns-2 c = (sym (c.loop-i.invariant.2 ∙ first_end _ _ _ c.loop-i.i (omega arith)), omega arith, omega arith)
 
 pub until_spec : {M : Type 1} → statement M
 until_spec =

@@ -20,12 +20,12 @@ input c =
       t1 = a.t1.now;
     }
 
-ready : (c : tie.After-start-qp) → Ready (input c.before.before.before.before) c.start-qp.result
+ready : (c : tie.After-start_qp-s) → Ready (input c.before.before.before.before) c.start_qp.result
 ready c =
     record {
-      small = c.start-qp.ensures.1;
-      start = c.start-qp.ensures.0;
-      told = sym c.before.before.before.checked-points.ensures ∙ c.before.enum_told.given.1;
+      small = c.start_qp-s.ensures.1;
+      start = c.start_qp-s.ensures.0;
+      told = sym c.checked_points.ensures ∙ c.in-Done.is;
     }
 
 fill_requires : tie.Need-fill-requires
@@ -37,23 +37,23 @@ copy_requires c κs =
     let l = lengths _ _ (ready f.before.before) in
     omega (arith, f.fill.auto.0, l.t0, l.t1)
 
-fill_requires_2 : tie.Need-fill-requires-2
+fill_requires_2 : tie.Need-fill-requires-else-same_table
 fill_requires_2 c κs =
     let r = ready c.before.before.before.before.before in
-    ((lengths _ _ r).t1, second_checked _ _ r c.before.if1.false)
+    ((lengths _ _ r).t1, second_checked _ _ r c.if-same_table.false)
 
-returns : tie.Need-returns
-returns c = by_refusal _ _ _ c.before.before.before.checked-points.ensures c.before.r.given.1
+returns : tie.Need-returns-in-Refused
+returns c = by_refusal _ _ _ c.checked_points.ensures c.in-Refused.is
 
-returns-2 : tie.Need-returns-2
+returns-2 : tie.Need-returns-then-same_table
 returns-2 c =
     let f = c.before.before.before.before.before.before in
-    by_copy _ _ (ready f.before.before) _ _ f.fill.ensures c.before.before.before.before.if1.true c.before.copy.ensures
+    by_copy _ _ (ready f.before.before) _ _ f.fill.ensures c.if-same_table.true c.copy.ensures
 
-returns-3 : tie.Need-returns-3
+returns-3 : tie.Need-returns-else-same_table
 returns-3 c =
     let f = c.before.before.before.before.before in
-    by_both _ _ (ready f.before.before) _ _ f.fill.ensures c.before.before.before.if1.false c.before.fill2.ensures
+    by_both _ _ (ready f.before.before) _ _ f.fill.ensures c.if-same_table.false c.fill-else-same_table.ensures
 
 pub derived_chroma_qp_mapping_tables_spec : {M : Type 1} → statement M
 derived_chroma_qp_mapping_tables_spec =

@@ -10,38 +10,38 @@ use Rattle.chroma_qp.proofs.Filled.{row_more}
 use Rattle.chroma_qp.proofs.fill_below.Statement.{statement}
 use Rattle.chroma_qp.proofs.fill_below.Tie as tie
 
-abbrev invariant-loop : tie.invariant-loop
+abbrev invariant-loop : tie.invariant-loop-k
 invariant-loop t₀ qp-in qp-out k₀ t k = (k ≤ qp-in + 1) × Rowed (pos 0) 0 (λ (i : ℕ). entry_qp (held_below qp-in qp-out i)) t₀ t k
 
-abbrev decreases-loop : tie.decreases-loop
+abbrev decreases-loop : tie.decreases-loop-k
 decreases-loop t₀ qp-in qp-out k₀ t k = qp-in + 1 - k
 
-loop_holds : tie.Need-loop-init invariant-loop decreases-loop
+loop_holds : tie.Need-loop-k-init invariant-loop decreases-loop
 loop_holds c = (omega arith, rowed_none _ _ _ _)
 
-add_less : tie.Need-overflow-add-less invariant-loop decreases-loop
+add_less : tie.Need-overflow_add-qp_out invariant-loop decreases-loop
 add_less c = omega arith
 
 put_requires : tie.Need-put-requires invariant-loop decreases-loop
-put_requires c κs = omega (arith, c.before.before.before.loop.invariant.1.long)
+put_requires c κs = omega (arith, c.loop-k.invariant.1.long)
 
-add_k : tie.Need-overflow-add-k invariant-loop decreases-loop
+add_k : tie.Need-overflow_add-k invariant-loop decreases-loop
 add_k c = omega arith
 
-loop_less : tie.Need-loop-smaller invariant-loop decreases-loop
+loop_less : tie.Need-loop-k-smaller invariant-loop decreases-loop
 loop_less c = omega arith
 
-loop_again : tie.Need-loop-preserved invariant-loop decreases-loop
+loop_again : tie.Need-loop-k-preserved invariant-loop decreases-loop
 unfolding held_below
 loop_again c =
-    let l = c.before.before.before.before.before.loop in
-    (omega arith, row_more 0 _ _ _ _ l.k _ _ (omega arith) (omega arith) c.before.put.ensures c.before.before.less.ensures l.invariant.1)
+    let l = c.loop-k in
+    (omega arith, row_more 0 _ _ _ _ l.k _ _ (omega arith) (omega arith) c.put.ensures c.less.ensures l.invariant.1)
 
-same_length : tie.Need-same-length invariant-loop decreases-loop
-same_length c = c.before.loop.invariant.1.long
+same_length : tie.Need-shape_of-t invariant-loop decreases-loop
+same_length c = c.loop-k.invariant.1.long
 
 returns : tie.Need-returns invariant-loop decreases-loop
-returns c = rowed_all _ _ _ _ _ _ c.before.loop.k (omega arith) c.before.loop.invariant.1
+returns c = rowed_all _ _ _ _ _ _ c.loop-k.k (omega arith) c.loop-k.invariant.1
 
 pub fill_below_spec : {M : Type 1} → statement M
 fill_below_spec =

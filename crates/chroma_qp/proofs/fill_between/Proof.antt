@@ -12,65 +12,65 @@ use Rattle.chroma_qp.proofs.Parts.{entry_most, held_step}
 use Rattle.chroma_qp.proofs.fill_between.Statement.{statement}
 use Rattle.chroma_qp.proofs.fill_between.Tie as tie
 
-abbrev invariant-loop : tie.invariant-loop
+abbrev invariant-loop : tie.invariant-loop-m
 invariant-loop t₀ qp-in v from to n m₀ t m = (m ≤ n) × Rowed (pos 0) (qp-in + 1) (λ (k : ℕ). entry_qp (held_between v from to n (k + 1))) t₀ t m
 
-abbrev decreases-loop : tie.decreases-loop
+abbrev decreases-loop : tie.decreases-loop-m
 decreases-loop t₀ qp-in v from to n m₀ t m = n - m
 
 put_requires : tie.Need-put-requires invariant-loop decreases-loop
 put_requires c κs =
-    let a = c.before.before.args in
-    (omega (arith, c.before.before.requires.0), omega arith)
+    let a = c.args in
+    (omega (arith, c.requires.0), omega arith)
 
-returns : tie.Need-returns invariant-loop decreases-loop
+returns : tie.Need-returns-then-n-eq1 invariant-loop decreases-loop
 returns c =
     let s = c.before.before.before.before in
     let a = s.args in
-    let one = c.before.before.before.if1.true in
+    let one = c.if-n-eq1.true in
     rowed_all _ _ _ _ _ _ 1 (sym one)
-    (row_more _ _ _ _ _ 0 _ _ (omega arith) (omega arith) c.before.put.ensures
+    (row_more _ _ _ _ _ 0 _ _ (omega arith) (omega arith) c.put.ensures
     (held_step a.v a.from a.to (omega arith) ∙ ap (λ (n : ℕ). held_between a.v a.from a.to n (0 + 1)) (sym one)) (rowed_none _ _ _ _))
 
-loop_holds : tie.Need-loop-init invariant-loop decreases-loop
+loop_holds : tie.Need-loop-m-init invariant-loop decreases-loop
 loop_holds c = (omega arith, rowed_none _ _ _ _)
 
-add_put_3 : tie.Need-overflow-add-put-3 invariant-loop decreases-loop
+add_put_3 : tie.Need-overflow_add-qp_in-in-loop-m invariant-loop decreases-loop
 add_put_3 c = omega arith
 
-add_put_4 : tie.Need-overflow-add-put-4 invariant-loop decreases-loop
+add_put_4 : tie.Need-overflow_add-qp_in-in-loop-m-2 invariant-loop decreases-loop
 add_put_4 c = omega arith
 
-add_between : tie.Need-overflow-add-between invariant-loop decreases-loop
+add_between : tie.Need-overflow_add-m invariant-loop decreases-loop
 add_between c = omega arith
 
 between_requires : tie.Need-between-requires invariant-loop decreases-loop
 between_requires c κs = omega arith
 
-put_requires_2 : tie.Need-put-requires-2 invariant-loop decreases-loop
+put_requires_2 : tie.Need-put-requires-in-loop-m invariant-loop decreases-loop
 put_requires_2 c κs =
-    let l = c.before.before.before.loop in (
+    let l = c.loop-m in (
       omega (arith, l.invariant.1.long),
       rw c.between.ensures
-          (entry_most c.before.before.before.before.before.args.qp-in _ _ _ _ (omega arith) (omega arith) (omega arith) _ (omega arith) (omega arith) (omega arith) (omega arith)),
+          (entry_most c.args.qp_in _ _ _ _ (omega arith) (omega arith) (omega arith) _ (omega arith) (omega arith) (omega arith) (omega arith)),
     )
 
-add_m : tie.Need-overflow-add-m invariant-loop decreases-loop
+add_m : tie.Need-overflow_add-m-in-loop-m invariant-loop decreases-loop
 add_m c = omega arith
 
-loop_less : tie.Need-loop-smaller invariant-loop decreases-loop
+loop_less : tie.Need-loop-m-smaller invariant-loop decreases-loop
 loop_less c = omega arith
 
-loop_again : tie.Need-loop-preserved invariant-loop decreases-loop
+loop_again : tie.Need-loop-m-preserved invariant-loop decreases-loop
 loop_again c =
-    let l = c.before.before.before.before.before.loop in
-    (omega arith, row_more _ _ _ _ _ l.m _ _ (omega arith) refl c.before.put2.ensures c.before.before.between.ensures l.invariant.1)
+    let l = c.loop-m in
+    (omega arith, row_more _ _ _ _ _ l.m _ _ (omega arith) refl c.put-in-loop-m.ensures c.between.ensures l.invariant.1)
 
-same_length_2 : tie.Need-same-length-2 invariant-loop decreases-loop
-same_length_2 c = c.before.loop.invariant.1.long
+same_length_2 : tie.Need-shape_of-t invariant-loop decreases-loop
+same_length_2 c = c.loop-m.invariant.1.long
 
-returns-2 : tie.Need-returns-2 invariant-loop decreases-loop
-returns-2 c = rowed_all _ _ _ _ _ _ c.before.loop.m (omega arith) c.before.loop.invariant.1
+returns-2 : tie.Need-returns invariant-loop decreases-loop
+returns-2 c = rowed_all _ _ _ _ _ _ c.loop-m.m (omega arith) c.loop-m.invariant.1
 
 pub fill_between_spec : {M : Type 1} → statement M
 fill_between_spec =

@@ -11,32 +11,32 @@ use Rattle.chroma_qp.proofs.Filled.{row_more}
 use Rattle.chroma_qp.proofs.fill_past.Statement.{statement}
 use Rattle.chroma_qp.proofs.fill_past.Tie as tie
 
-abbrev invariant-loop : tie.invariant-loop
+abbrev invariant-loop : tie.invariant-loop-m
 invariant-loop t₀ qp-in v n m₀ t m = (m ≤ n) × Rowed (pos 0) (qp-in + 1) (λ (k : ℕ). entry_qp (held_past v (k + 1))) t₀ t m
 
-abbrev decreases-loop : tie.decreases-loop
+abbrev decreases-loop : tie.decreases-loop-m
 decreases-loop t₀ qp-in v n m₀ t m = n - m
 
-loop_holds : tie.Need-loop-init invariant-loop decreases-loop
+loop_holds : tie.Need-loop-m-init invariant-loop decreases-loop
 loop_holds c = (omega arith, rowed_none _ _ _ _)
 
 put_requires : tie.Need-put-requires invariant-loop decreases-loop
-put_requires c κs = omega (arith, c.before.before.before.loop.invariant.1.long)
+put_requires c κs = omega (arith, c.loop-m.invariant.1.long)
 
-loop_less : tie.Need-loop-smaller invariant-loop decreases-loop
+loop_less : tie.Need-loop-m-smaller invariant-loop decreases-loop
 loop_less c = omega arith
 
-loop_again : tie.Need-loop-preserved invariant-loop decreases-loop
+loop_again : tie.Need-loop-m-preserved invariant-loop decreases-loop
 unfolding held_past
 loop_again c =
-    let l = c.before.before.before.before.before.loop in
-    (omega arith, row_more _ _ _ _ _ l.m _ _ (omega arith) refl c.before.put.ensures c.before.before.least.ensures l.invariant.1)
+    let l = c.loop-m in
+    (omega arith, row_more _ _ _ _ _ l.m _ _ (omega arith) refl c.put.ensures c.least.ensures l.invariant.1)
 
-same_length : tie.Need-same-length invariant-loop decreases-loop
-same_length c = c.before.loop.invariant.1.long
+same_length : tie.Need-shape_of-t invariant-loop decreases-loop
+same_length c = c.loop-m.invariant.1.long
 
 returns : tie.Need-returns invariant-loop decreases-loop
-returns c = rowed_all _ _ _ _ _ _ c.before.loop.m (omega arith) c.before.loop.invariant.1
+returns c = rowed_all _ _ _ _ _ _ c.loop-m.m (omega arith) c.loop-m.invariant.1
 
 pub fill_past_spec : {M : Type 1} → statement M
 fill_past_spec =

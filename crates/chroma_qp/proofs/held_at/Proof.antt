@@ -24,14 +24,14 @@ module _ (z : ℤ) (e : Entry z) where
   read : to_z w8 (of_z w8 (to_z w8 (of_z w8 z) +ℤ pos 12)) ≡ pos e.v
   read = ap (λ (z : ℤ). to_z w8 (of_z w8 z)) sum ∙ back w8 (pos e.v) (small e.v e.most)
 
-add_result : tie.Need-overflow-add-result
-add_result c = let e = c.before.requires.1 in rw (sum _ e) (small e.v e.most)
+add_result : tie.Need-overflow_add-result
+add_result c = let e = c.requires.1 in rw (sum _ e) (small e.v e.most)
 
-cast_result : tie.Need-overflow-cast-result
-cast_result c = let e = c.before.requires.1 in rw (read _ e) (tt, record { fits = omega (arith, e.most) })
+cast_result : tie.Need-overflow_cast-result
+cast_result c = let e = c.requires.1 in rw (read _ e) (tt, record { fits = omega (arith, e.most) })
 
 returns : tie.Need-returns
-returns c = let e = c.before.requires.1 in rw (read _ e) (sym e.is)
+returns c = let e = c.requires.1 in rw (read _ e) (sym e.is)
 
 pub held_at_spec : {M : Type 1} → statement M
 held_at_spec = tie.close (tie.spec (λ c. search rules) add_result cast_result returns)

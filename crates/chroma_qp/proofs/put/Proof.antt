@@ -14,7 +14,7 @@ use Rattle.chroma_qp.proofs.put.Tie as tie
 plain : (v : ℕ) → v ≤ 103 → to_z w8 v ≡ pos v
 plain v h = back w8 (pos v) (sfits w8 103 h tt)
 
-sub_t : tie.Need-overflow-sub-t
+sub_t : tie.Need-overflow_sub-t
 unfolding entry_qp
 sub_t c = rw (plain c.args.v c.requires.1) (entry_fits c.args.v c.requires.1)
 

@@ -8,19 +8,19 @@ use Rattle.chroma_qp_check.proofs.Bytes.{Plain, plain, byte_sign, below_none, al
 use Rattle.chroma_qp_check.proofs.delta_in.Statement.{statement}
 use Rattle.chroma_qp_check.proofs.delta_in.Tie as tie
 
-is : (c : tie.Else1) → Plain c.before.args.a
-is c = plain _ c.before.ranges.a (byte_sign _ false c.before.ranges.a c.if1.false)
+is : (c : tie.Else-a-lt0) → Plain c.before.args.a
+is c = plain _ c.ranges.a (byte_sign _ false c.ranges.a c.if-a-lt0.false)
 
-cast_result : tie.Need-overflow-cast-result
-cast_result c = rw (back w8 _ c.before.ranges.a) ((is c).some, record { fits = omega (arith, (is c).most) })
+cast_result : tie.Need-overflow_cast-result
+cast_result c = rw (back w8 _ c.ranges.a) ((is c).some, record { fits = omega (arith, (is c).most) })
 
-returns : tie.Need-returns
-returns c = (below_none _ (byte_sign _ true c.before.ranges.a c.if1.true), omega arith)
+returns : tie.Need-returns-then-a-lt0
+returns c = (below_none _ (byte_sign _ true c.ranges.a c.if-a-lt0.true), omega arith)
 
-returns-2 : tie.Need-returns-2
+returns-2 : tie.Need-returns-else-a-lt0
 returns-2 c =
-    rw (back w8 _ c.before.ranges.a)
-    (sym (is c).is ∙ sym (all_left _ (byte_sign _ false c.before.ranges.a c.if1.false)), (is c).most)
+    rw (back w8 _ c.ranges.a)
+    (sym (is c).is ∙ sym (all_left _ (byte_sign _ false c.ranges.a c.if-a-lt0.false)), (is c).most)
 
 pub delta_in_spec : {M : Type 1} → statement M
 delta_in_spec = tie.close (tie.spec cast_result returns returns-2)

@@ -19,13 +19,13 @@ read {z} f = rw (back w8 z f) (back w16 z (wider f))
 sum : {z : ℤ} → SFits w8 z → to_z w16 (of_z w16 (to_z w16 (of_z w16 (to_z w8 (of_z w8 z))) +ℤ pos 128)) ≡ z +ℤ pos 128
 sum {z} f = rw (read f) (back w16 (z +ℤ pos 128) (raised_fits z f))
 
-cast_result : tie.Need-overflow-cast-result
+cast_result : tie.Need-overflow_cast-result
 cast_result c = rw (back w8 _ c.ranges.b) (wider c.ranges.b)
 
-add_result : tie.Need-overflow-add-result
+add_result : tie.Need-overflow_add-result
 add_result c = rw (read c.ranges.b) (raised_fits _ c.ranges.b)
 
-cast_result_2 : tie.Need-overflow-cast-result-2
+cast_result_2 : tie.Need-overflow_cast-result-2
 cast_result_2 c = let r = raised _ c.ranges.b in rw (sum c.ranges.b) (r.some, record { fits = omega (arith, r.most) })
 
 returns : tie.Need-returns

@@ -56,93 +56,93 @@ module _ (s : ℕ) (p : Points) (i q j : ℕ) (c : Scanned s p i q j) where
           out_small = omega (arith, range.out_most);
         }
 
-abbrev invariant-loop : tie.invariant-loop
+abbrev invariant-loop : tie.invariant-loop-qp_in
 invariant-loop s count a b qp-in₀ qp-out₀ j₀ qp-in qp-out j = Scanned s (record { count = count; a = a; b = b }) qp-in qp-out j
 
-abbrev decreases-loop : tie.decreases-loop
+abbrev decreases-loop : tie.decreases-loop-qp_in
 decreases-loop s count a b qp-in₀ qp-out₀ j₀ qp-in qp-out j = count - j
 
 -- what `delta_in` and `delta_out` answered are the first pivot's a, and 128 more than its b
-first_a : (c : tie.After-delta-in invariant-loop decreases-loop) → let a = c.before.before.args in a_at (record { count = a.count; a = a.a.now; b = a.b.now }) 0 ≡ pos c.delta-in.result
+first_a : (c : tie.After-delta_in invariant-loop decreases-loop) → let a = c.before.before.args in a_at (record { count = a.count; a = a.a.now; b = a.b.now }) 0 ≡ pos c.delta_in.result
 first_a c =
-    let k = countable _ _ c.before.before.requires.points in
-    delta_in_is _ _ (record { sfits = c.before.delta-in-arg.given }) (k.not_below 0 k.some) c.delta-in.ensures.0
+    let k = countable _ _ c.requires.points in
+    delta_in_is _ _ (record { sfits = c.delta_in-arg-1.given }) (k.not_below 0 k.some) c.delta_in.ensures.0
 
-shared_slice_copy_out_delta_in : tie.Need-shared-slice-copy-out-delta-in invariant-loop decreases-loop
+shared_slice_copy_out_delta_in : tie.Need-bounds-a-0 invariant-loop decreases-loop
 shared_slice_copy_out_delta_in c = omega (arith, c.requires.a_long)
 
-add_qp_in : tie.Need-overflow-add-qp-in invariant-loop decreases-loop
-add_qp_in c = omega (arith, c.before.before.requires.start)
+add_qp_in : tie.Need-overflow_add-qp_in invariant-loop decreases-loop
+add_qp_in c = omega (arith, c.requires.start)
 
-shared_slice_copy_out_delta_out : tie.Need-shared-slice-copy-out-delta-out invariant-loop decreases-loop
-shared_slice_copy_out_delta_out c = omega (arith, c.before.before.requires.b_long)
+shared_slice_copy_out_delta_out : tie.Need-bounds-b-0 invariant-loop decreases-loop
+shared_slice_copy_out_delta_out c = omega (arith, c.requires.b_long)
 
-add_qp_out : tie.Need-overflow-add-qp-out invariant-loop decreases-loop
-add_qp_out c = omega (arith, c.before.before.before.before.requires.start)
+add_qp_out : tie.Need-overflow_add-qp_out invariant-loop decreases-loop
+add_qp_out c = omega (arith, c.requires.start)
 
-loop_holds : tie.Need-loop-init invariant-loop decreases-loop
+loop_holds : tie.Need-loop-qp_in-init invariant-loop decreases-loop
 loop_holds c =
     let at = c.before.before.before.before in
     record {
       within = (countable _ _ at.requires.points).some;
       passed = scan_none _;
-      held = held_first _ _ at.args.s _ _ refl (first_a c.before.before) (delta_out_is _ _ (record { sfits = c.before.delta-out-arg.given }) c.delta-out.ensures.0);
+      held = held_first _ _ at.args.s _ _ refl (first_a c.before.before) (delta_out_is _ _ (record { sfits = c.delta_out-arg-1.given }) c.delta_out.ensures.0);
       in_small = omega (arith, at.requires.start);
       out_small = omega (arith, at.requires.start);
     }
 
-add_j : tie.Need-overflow-add-j invariant-loop decreases-loop
-add_j c = omega (arith, c.before.loop.invariant.within)
+add_j : tie.Need-overflow_add-j invariant-loop decreases-loop
+add_j c = omega (arith, c.loop-qp_in.invariant.within)
 
-returns : tie.Need-returns invariant-loop decreases-loop
-returns c = ended _ _ _ _ _ c.before.before.loop.invariant c.before.loop-test.true c.if1.true
+returns : tie.Need-returns-then-j-count invariant-loop decreases-loop
+returns c = ended _ _ _ _ _ c.loop-qp_in.invariant c.loop-qp_in-test.true c.if-j-count.true
 
 -- there is a next pivot
-more_of : (c : tie.Else1 invariant-loop decreases-loop) → c.before.before.loop.j + 1 < c.before.before.before.before.before.before.before.args.count
-more_of c = omega (arith, c.before.before.loop.invariant.within)
+more_of : (c : tie.Else-j-count invariant-loop decreases-loop) → c.before.before.loop.j + 1 < c.before.before.before.before.before.before.before.args.count
+more_of c = omega (arith, c.loop-qp_in.invariant.within)
 
-shared_slice_copy_out_delta_in_2 : tie.Need-shared-slice-copy-out-delta-in-2 invariant-loop decreases-loop
+shared_slice_copy_out_delta_in_2 : tie.Need-bounds-a-j invariant-loop decreases-loop
 shared_slice_copy_out_delta_in_2 c =
     let at = c.before.before.before.before.before.before.before in
     omega (arith, more_of c, (countable _ _ at.requires.points).most, at.requires.a_long)
 
-add_n : tie.Need-overflow-add-n invariant-loop decreases-loop
+add_n : tie.Need-overflow_add-n invariant-loop decreases-loop
 add_n c = omega arith
 
-add_qp_in_2 : tie.Need-overflow-add-qp-in-2 invariant-loop decreases-loop
-add_qp_in_2 c = omega (arith, c.before.before.before.before.loop.invariant.in_small)
+add_qp_in_2 : tie.Need-overflow_add-qp_in-in-loop-qp_in invariant-loop decreases-loop
+add_qp_in_2 c = omega (arith, c.loop-qp_in.invariant.in_small)
 
-sub_qp_out : tie.Need-overflow-sub-qp-out invariant-loop decreases-loop
-sub_qp_out c = (range _ _ _ _ _ c.before.before.before.before.loop.invariant c.before.before.before.loop-test.true).out_least
+sub_qp_out : tie.Need-overflow_sub-qp_out invariant-loop decreases-loop
+sub_qp_out c = (range _ _ _ _ _ c.loop-qp_in.invariant c.loop-qp_in-test.true).out_least
 
-add_qp_out_2 : tie.Need-overflow-add-qp-out-2 invariant-loop decreases-loop
-add_qp_out_2 c = omega (arith, c.before.before.before.before.loop.invariant.out_small)
+add_qp_out_2 : tie.Need-overflow_add-qp_out-in-loop-qp_in invariant-loop decreases-loop
+add_qp_out_2 c = omega (arith, c.loop-qp_in.invariant.out_small)
 
-shared_slice_copy_out_delta_out_2 : tie.Need-shared-slice-copy-out-delta-out-2 invariant-loop decreases-loop
+shared_slice_copy_out_delta_out_2 : tie.Need-bounds-b-j invariant-loop decreases-loop
 shared_slice_copy_out_delta_out_2 c =
     let at = c.before.before.before.before.before.before.before.before.before in
     omega (arith, more_of c.before.before, (countable _ _ at.requires.points).most, at.requires.b_long)
 
-add_qp_out_3 : tie.Need-overflow-add-qp-out-3 invariant-loop decreases-loop
-add_qp_out_3 c = omega (arith, c.before.before.before.before.before.before.loop.invariant.out_small)
+add_qp_out_3 : tie.Need-overflow_add-qp_out-in-loop-qp_in-2 invariant-loop decreases-loop
+add_qp_out_3 c = omega (arith, c.loop-qp_in.invariant.out_small)
 
-loop_less : tie.Need-loop-smaller invariant-loop decreases-loop
-loop_less c = omega (arith, c.before.before.before.before.before.before.loop.invariant.within)
+loop_less : tie.Need-loop-qp_in-smaller invariant-loop decreases-loop
+loop_less c = omega (arith, c.loop-qp_in.invariant.within)
 
-loop_again : tie.Need-loop-preserved invariant-loop decreases-loop
+loop_again : tie.Need-loop-qp_in-preserved invariant-loop decreases-loop
 loop_again c =
     let two = c.before.before in
     let at = two.before.before.before in
     let h = more_of two.before.before in
-    let k = countable _ _ two.before.before.before.before.before.before.before.before.before.requires.points in
-    next _ _ _ _ _ at.before.loop.invariant at.loop-test.true _ _ h
-    (delta_in_is _ _ (record { sfits = two.before.delta-in-arg2.given }) (k.not_below _ h) two.delta-in2.ensures.0)
-    two.delta-in2.ensures.1
-    (delta_out_is _ _ (record { sfits = c.before.delta-out-arg2.given }) c.delta-out2.ensures.0)
-    c.delta-out2.ensures.1
+    let k = countable _ _ two.requires.points in
+    next _ _ _ _ _ at.loop-qp_in.invariant at.loop-qp_in-test.true _ _ h
+    (delta_in_is _ _ (record { sfits = two.delta_in-arg-in-loop-qp_in-1.given }) (k.not_below _ h) two.delta_in-n.ensures.0)
+    two.delta_in-n.ensures.1
+    (delta_out_is _ _ (record { sfits = c.delta_out-arg-in-loop-qp_in-1.given }) c.delta_out-in-loop-qp_in.ensures.0)
+    c.delta_out-in-loop-qp_in.ensures.1
 
-returns-2 : tie.Need-returns-2 invariant-loop decreases-loop
-returns-2 c = failed _ _ _ _ _ c.before.loop.invariant c.loop-test.false
+returns-2 : tie.Need-returns invariant-loop decreases-loop
+returns-2 c = failed _ _ _ _ _ c.loop-qp_in.invariant c.loop-qp_in-test.false
 
 pub pivots_ok_spec : {M : Type 1} → statement M
 pivots_ok_spec =

@@ -16,10 +16,10 @@ use Rattle.chroma_qp_check.proofs.Bytes.{byte_sign}
 use Rattle.chroma_qp_check.proofs.points_ok.Statement.{statement}
 use Rattle.chroma_qp_check.proofs.points_ok.Tie as tie
 
-abbrev invariant-loop : tie.invariant-loop
+abbrev invariant-loop : tie.invariant-loop-j
 invariant-loop count a j₀ j = (j ≤ count) × (all_below (λ (k : ℕ). le_z (pos 0) (get_or a k (pos 0))) j ≡ true)
 
-abbrev decreases-loop : tie.decreases-loop
+abbrev decreases-loop : tie.decreases-loop-j
 decreases-loop count a j₀ j = count - j
 
 module _ (count : ℕ) (a : List ℤ) where
@@ -40,43 +40,43 @@ module _ (count : ℕ) (a : List ℤ) where
   passed h k e = rw (le-leb 1 count h, le-leb count 58 k, e)
 
 -- the a of a turn
-abbrev this : tie.In-loop invariant-loop decreases-loop → ℤ
-this c = get_or c.before.before.before.before.args.a.now c.before.loop.j (pos 0)
+abbrev this : tie.In-loop-j invariant-loop decreases-loop → ℤ
+this c = get_or c.args.a.now c.loop-j.j (pos 0)
 
-returns : tie.Need-returns invariant-loop decreases-loop
+returns : tie.Need-returns-then-count-lt1 invariant-loop decreases-loop
 returns c = too_few _ _ (omega arith)
 
-returns-2 : tie.Need-returns-2 invariant-loop decreases-loop
+returns-2 : tie.Need-returns-then-count-gt58 invariant-loop decreases-loop
 returns-2 c = too_many _ _ (omega arith)
 
-loop_holds : tie.Need-loop-init invariant-loop decreases-loop
+loop_holds : tie.Need-loop-j-init invariant-loop decreases-loop
 loop_holds c = (omega arith, scan_none _)
 
-shared_slice_copy_out_if3 : tie.Need-shared-slice-copy-out-if3 invariant-loop decreases-loop
+shared_slice_copy_out_if3 : tie.Need-bounds-a-j invariant-loop decreases-loop
 shared_slice_copy_out_if3 c = omega arith
 
-returns-3 : tie.Need-returns-3 invariant-loop decreases-loop
+returns-3 : tie.Need-returns-then-a-j-lt0 invariant-loop decreases-loop
 returns-3 c =
     let at = c.before.before in
-    below_zero _ _ at.before.loop.j (omega arith) (byte_sign (this at) true (record { sfits = c.before.if32.given }) c.if3.true)
+    below_zero _ _ at.loop-j.j (omega arith) (byte_sign (this at) true (record { sfits = c.t7-1.given }) c.if-a-j-lt0.true)
 
-add_j : tie.Need-overflow-add-j invariant-loop decreases-loop
+add_j : tie.Need-overflow_add-j invariant-loop decreases-loop
 add_j c = omega arith
 
-loop_less : tie.Need-loop-smaller invariant-loop decreases-loop
+loop_less : tie.Need-loop-j-smaller invariant-loop decreases-loop
 loop_less c = omega arith
 
-loop_again : tie.Need-loop-preserved invariant-loop decreases-loop
+loop_again : tie.Need-loop-j-preserved invariant-loop decreases-loop
 loop_again c =
     let at = c.before.before in (
       omega arith,
-      scan_more _ _ at.before.loop.invariant.1 (byte_sign (this at) false (record { sfits = c.before.if32.given }) c.if3.false),
+      scan_more _ _ at.loop-j.invariant.1 (byte_sign (this at) false (record { sfits = c.t7-1.given }) c.if-a-j-lt0.false),
     )
 
-returns-4 : tie.Need-returns-4 invariant-loop decreases-loop
+returns-4 : tie.Need-returns invariant-loop decreases-loop
 returns-4 c =
-    let e : c.before.loop.j ≡ c.before.before.before.before.args.count = omega arith in
-    passed _ _ (omega arith) (omega arith) (rw e at c.before.loop.invariant.1)
+    let e : c.loop-j.j ≡ c.args.count = omega arith in
+    passed _ _ (omega arith) (omega arith) (rw e at c.loop-j.invariant.1)
 
 pub points_ok_spec : {M : Type 1} → statement M
 points_ok_spec =

@@ -5,13 +5,13 @@ use Rattle.chroma_qp_check.specs.Pivots.{entry_qp}
 use Rattle.chroma_qp_check.proofs.start_qp.Statement.{statement}
 use Rattle.chroma_qp_check.proofs.start_qp.Tie as tie
 
-returns : tie.Need-returns
+returns : tie.Need-returns-then-global_offset
 unfolding entry_qp
-returns c = rw c.if1.true (refl, omega arith)
+returns c = rw c.if-global_offset.true (refl, omega arith)
 
-returns-2 : tie.Need-returns-2
+returns-2 : tie.Need-returns-else-global_offset
 unfolding entry_qp
-returns-2 c = rw c.if1.false (refl, omega arith)
+returns-2 c = rw c.if-global_offset.false (refl, omega arith)
 
 pub start_qp_spec : {M : Type 1} → statement M
 start_qp_spec = tie.close (tie.spec returns returns-2)

@@ -5,8 +5,8 @@ use Rattle.def.specs.Answers.{answer_number}
 use Rattle.def.proofs.answer_number.Statement.{statement}
 use Rattle.def.proofs.answer_number.Tie as tie
 
-returns-2 : tie.Need-returns-2
-returns-2 c = c.refusal-number.ensures ∙ ap answer_number (sym c.before.before.a.given.1)
+returns-2 : tie.Need-returns-in-Refused
+returns-2 c = c.refusal_number.ensures ∙ ap answer_number (sym c.in-Refused.is)
 
 pub answer_number_spec : {M : Type 1} → statement M
 answer_number_spec = tie.close (tie.spec (λ c. search rules) (λ c. search rules) (λ c κs. search rules) (λ c. search rules) returns-2)

@@ -31,22 +31,22 @@ module _ (w h x y side : ℕ) where
   rest e p q = rw (e, below_side x side e, below_side y side e, ends_inside x side w p, ends_inside y side h q)
 
 -- a side that passed
-side_at : (c : tie.Else1) → block_side_ok c.before.before.args.side ≡ true
-side_at c = sym c.before.block-side-ok.ensures ∙ not-false _ c.if1.false
+side_at : (c : tie.Else-not-block_side_ok) → block_side_ok c.before.before.args.side ≡ true
+side_at c = sym c.block_side_ok.ensures ∙ c.if-not-block_side_ok.false
 
-returns : tie.Need-returns
-returns c = no_side _ _ _ _ _ (sym c.before.block-side-ok.ensures ∙ not-true _ c.if1.true)
+returns : tie.Need-returns-then-not-block_side_ok
+returns c = no_side _ _ _ _ _ (sym c.block_side_ok.ensures ∙ c.if-not-block_side_ok.true)
 
-returns-2 : tie.Need-returns-2
+returns-2 : tie.Need-returns-then-w-side
 returns-2 c = too_wide _ _ _ _ _ (omega arith)
 
-returns-3 : tie.Need-returns-3
+returns-3 : tie.Need-returns-then-h-side
 returns-3 c = too_high _ _ _ _ _ (omega arith)
 
-sub_low : tie.Need-overflow-sub-low
+sub_low : tie.Need-overflow_sub-low
 sub_low c = omega (arith, (block_side _ (side_at c.before.before)).least)
 
-returns-4 : tie.Need-returns-4
+returns-4 : tie.Need-returns
 returns-4 c = rest _ _ _ _ _ (side_at c.before.before.before.before.before.before) (omega arith) (omega arith)
 
 pub block_ok_spec : {M : Type 1} → statement M

@@ -5,11 +5,11 @@ use borrow.Author.Rules.{rules}
 use Rattle.def.proofs.in_component.Statement.{statement}
 use Rattle.def.proofs.in_component.Tie as tie
 
-returns : tie.Need-returns
-returns c = rw c.enum_told.given.1 (sym (div-one _))
+returns : tie.Need-returns-in-Luma
+returns c = rw c.in-Luma.is (sym (div-one _))
 
-returns-2 : tie.Need-returns-2
-returns-2 c = rw c.enum-told2.given.1
+returns-2 : tie.Need-returns-in-Chroma
+returns-2 c = rw c.in-Chroma.is
 
 pub in_component_spec : {M : Type 1} → statement M
 in_component_spec = tie.close (tie.spec (λ c. search rules) (λ c. search rules) returns returns-2)

@@ -25,8 +25,8 @@ fields i q k hi hk =
 returns : tie.Need-returns
 unfolding leaf_word
 returns c =
-    fields _ _ _ c.flag2.ensures.1 c.before.flag.ensures.1
-    ∙ cc (c.flag2.ensures.0, c.before.flag.ensures.0)
+    fields _ _ _ c.flag-2.ensures.1 c.flag.ensures.1
+    ∙ cc (c.flag-2.ensures.0, c.flag.ensures.0)
 
 pub leaf_word_spec : {M : Type 1} → statement M
 leaf_word_spec =

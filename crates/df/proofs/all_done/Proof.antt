@@ -10,24 +10,24 @@ use Rattle.df_rules.specs.Visit.{all_done}
 use Rattle.df.proofs.all_done.Statement.{statement}
 use Rattle.df.proofs.all_done.Tie as tie
 
-abbrev invariant-loop : tie.invariant-loop
+abbrev invariant-loop : tie.invariant-loop-k
 invariant-loop words₀ n k₀ words k = Upto 0 (λ (j : ℕ). with_done (get_or words₀ j 0)) words₀ words k
 
-abbrev decreases-loop : tie.decreases-loop
+abbrev decreases-loop : tie.decreases-loop-k
 decreases-loop words₀ n k₀ words k = length words₀ - k
 
-loop_again : tie.Need-loop-preserved invariant-loop decreases-loop
+loop_again : tie.Need-loop-k-preserved invariant-loop decreases-loop
 loop_again c =
-    let u = c.before.before.before.loop.invariant in
-    let k = c.before.before.before.loop.k in
-    upto_more _ _ _ _ k _ (omega arith) (c.set-cod.ensures ∙ ap with_done (u.above k (omega arith))) u
+    let u = c.loop-k.invariant in
+    let k = c.loop-k.k in
+    upto_more _ _ _ _ k _ (omega arith) (c.set_cod.ensures ∙ ap with_done (u.above k (omega arith))) u
 
 returns : tie.Need-returns invariant-loop decreases-loop
 unfolding all_done
-returns c = upto_all _ _ _ _ c.before.loop.k (omega arith) c.before.loop.invariant
+returns c = upto_all _ _ _ _ c.loop-k.k (omega arith) c.loop-k.invariant
 
 pub all_done_spec : {M : Type 1} → statement M
 all_done_spec =
     tie.close
     (tie.spec invariant-loop decreases-loop (λ c. upto_none _ _ _) (λ c. search rules) (λ c. search rules) (λ c κs. search rules) (λ c. search rules)
-    (λ c. search rules) (λ c. search rules) (λ c. search rules) loop_again (λ c. c.before.loop.invariant.long) returns)
+    (λ c. search rules) (λ c. search rules) (λ c. search rules) loop_again (λ c. c.loop-k.invariant.long) returns)

@@ -15,37 +15,37 @@ use Rattle.edges.proofs.list_checked.Tie as tie
 passed : {t b : Bool} → b ≡ t → not b ≡ false → t ≡ true
 passed {b = b} e n = sym e ∙ not-false b n
 
-size_told : (c : tie.Else1) → Sized c.before.before.before.args.w c.before.before.before.args.h
-size_told c = sized _ _ (passed c.before.Size-ok.ensures c.if1.false)
+size_told : (c : tie.Else-not-size_ok) → Sized c.before.before.before.args.w c.before.before.before.args.h
+size_told c = sized _ _ (passed c.size_ok.ensures c.if-not-size_ok.false-raw)
 
-returns : tie.Need-returns
+returns : tie.Need-returns-then-not-size_ok
 unfolding check_of
-returns c = stops _ _ _ _ c.before.Size-ok.ensures c.if1.true
+returns c = stops _ _ _ _ c.size_ok.ensures c.if-not-size_ok.true-raw
 
-returns-2 : tie.Need-returns-2
+returns-2 : tie.Need-returns-then-not-list_lengths_ok
 unfolding check_of
 returns-2 c =
     let d = c.before.before in
-    goes_on _ _ _ _ _ d.before.Size-ok.ensures d.if1.false (stops _ _ _ _ c.before.list-lengths-ok.ensures c.if2.true)
+    goes_on _ _ _ _ _ d.size_ok.ensures d.if-not-size_ok.false-raw (stops _ _ _ _ c.list_lengths_ok.ensures c.if-not-list_lengths_ok.true-raw)
 
-returns-3 : tie.Need-returns-3
+returns-3 : tie.Need-returns-then-not-limit_ok
 unfolding check_of
 returns-3 c =
     let e = c.before.before in
     let d = e.before.before in
-    goes_on _ _ _ _ _ d.before.Size-ok.ensures d.if1.false
-    (goes_on _ _ _ _ _ e.before.list-lengths-ok.ensures e.if2.false (stops _ _ _ _ c.before.limit-ok.ensures c.if3.true))
+    goes_on _ _ _ _ _ d.size_ok.ensures d.if-not-size_ok.false-raw
+    (goes_on _ _ _ _ _ e.list_lengths_ok.ensures e.if-not-list_lengths_ok.false-raw (stops _ _ _ _ c.limit_ok.ensures c.if-not-limit_ok.true-raw))
 
-returns-4 : tie.Need-returns-4
+returns-4 : tie.Need-returns
 unfolding check_of
 returns-4 c =
     let f = c.before in
     let e = f.before.before in
     let d = e.before.before in
-    goes_on _ _ _ _ _ d.before.Size-ok.ensures d.if1.false
-    (goes_on _ _ _ _ _ e.before.list-lengths-ok.ensures e.if2.false
-    (goes_on _ _ _ _ _ f.before.limit-ok.ensures f.if3.false
-    (check_answer _ _ _ _ (passed d.before.Size-ok.ensures d.if1.false) (list_lengths_told _ _ _ _ _ (passed e.before.list-lengths-ok.ensures e.if2.false)).0 c.check.ensures)))
+    goes_on _ _ _ _ _ d.size_ok.ensures d.if-not-size_ok.false-raw
+    (goes_on _ _ _ _ _ e.list_lengths_ok.ensures e.if-not-list_lengths_ok.false-raw
+    (goes_on _ _ _ _ _ f.limit_ok.ensures f.if-not-limit_ok.false-raw
+    (check_answer _ _ _ _ (passed d.size_ok.ensures d.if-not-size_ok.false-raw) (list_lengths_told _ _ _ _ _ (passed e.list_lengths_ok.ensures e.if-not-list_lengths_ok.false-raw)).0 c.check.ensures)))
 
 pub list_checked_spec : {M : Type 1} → statement M
 list_checked_spec =

@@ -5,26 +5,26 @@ use Rattle.edges.proofs.Outcomes.{list_passed, list_refused, list_done}
 use Rattle.edges.proofs.list_edges.Statement.{statement}
 use Rattle.edges.proofs.list_edges.Tie as tie
 
-pass_edges_requires : tie.Need-pass-edges-requires
+pass_edges_requires : tie.Need-pass_edges-vertical_end-requires
 pass_edges_requires c κs =
     let d = c.before.before.before in
-    let p = list_passed _ _ _ _ _ _ (sym d.list-checked.ensures ∙ c.before.enum_told.given.1) in
+    let p = list_passed _ _ _ _ _ _ (sym d.list_checked.ensures ∙ c.in-Done.is) in
     (p.accepted, p.vertical)
 
-pass_edges_requires_2 : tie.Need-pass-edges-requires-2
+pass_edges_requires_2 : tie.Need-pass_edges-horizontal_end-requires
 pass_edges_requires_2 c κs =
     let d = c.before.before.before.before.before.before.before in
-    let p = list_passed _ _ _ _ _ _ (sym d.list-checked.ensures ∙ c.before.before.before.before.before.enum_told.given.1) in
+    let p = list_passed _ _ _ _ _ _ (sym d.list_checked.ensures ∙ c.in-Done.is) in
     (p.accepted, p.horizontal)
 
-returns : tie.Need-returns
-returns c = list_refused _ _ _ c.before.before.before.list-checked.ensures c.before.r.given.1
+returns : tie.Need-returns-in-Refused
+returns c = list_refused _ _ _ c.list_checked.ensures c.in-Refused.is
 
-returns-2 : tie.Need-returns-2
+returns-2 : tie.Need-returns-in-Done
 returns-2 c =
-    list_done _ _ _ _ _ _ c.before.before.before.before.before.before.before.before.before.before.list-checked.ensures
-    c.before.before.before.before.before.before.before.before.enum_told.given.1
-    c.before.before.before.before.before.before.pass-edges.ensures c.before.before.pass-edges2.ensures
+    list_done _ _ _ _ _ _ c.list_checked.ensures
+    c.in-Done.is
+    c.pass_edges-vertical_end.ensures c.pass_edges-horizontal_end.ensures
 
 pub list_edges_spec : {M : Type 1} → statement M
 list_edges_spec =

@@ -9,23 +9,23 @@ use Rattle.split.proofs.Roots.{few_roots, few_units}
 use Rattle.edges.proofs.list_lengths_ok.Statement.{statement}
 use Rattle.edges.proofs.list_lengths_ok.Tie as tie
 
-module _ (c : tie.After-roots-along2) where
+module _ (c : tie.After-roots_along-2) where
   abbrev s : tie.Start
   s = c.before.before
 
-  same : c.before.roots-along.result * c.roots-along2.result ≡ root_count s.args.w s.args.h
-  same = ap₂ ◌*◌ c.before.roots-along.ensures c.roots-along2.ensures
+  same : c.before.roots_along.result * c.roots_along2.result ≡ root_count s.args.w s.args.h
+  same = ap₂ ◌*◌ c.before.roots_along.ensures c.roots_along2.ensures
 
-mul_roots : tie.Need-overflow-mul-roots
+mul_roots : tie.Need-overflow_mul-roots
 mul_roots c = omega (arith, same c, few_roots _ _ (s c).requires.wide (s c).requires.high)
 
-mul_buffer : tie.Need-overflow-mul-buffer
+mul_buffer : tie.Need-overflow_mul-buffer
 mul_buffer c = omega (arith, few_units (s c).requires)
 
-mul_buffer_2 : tie.Need-overflow-mul-buffer-2
+mul_buffer_2 : tie.Need-overflow_mul-buffer-2
 mul_buffer_2 c = omega (arith, few_units (s c).requires)
 
-mul_result : tie.Need-overflow-mul-result
+mul_result : tie.Need-overflow_mul-result
 mul_result c = omega (arith, same c, few_roots _ _ (s c).requires.wide (s c).requires.high)
 
 returns : tie.Need-returns

@@ -4,15 +4,15 @@ use Rattle.edges.proofs.Puts.{put_none, put_as, near_none, near_some}
 use Rattle.edges.proofs.near_edge.Statement.{statement}
 use Rattle.edges.proofs.near_edge.Tie as tie
 
-returns : tie.Need-returns
+returns : tie.Need-returns-then-cross-eq0
 returns c =
-    let a = c.before.before.before.args in
-    put_as (near_none a.horizontal a.cross.0 a.along.0 a.n c.if1.true) (put_none _ _)
+    let a = c.args in
+    put_as (near_none a.horizontal a.cross.0 a.along.0 a.n c.if-cross-eq0.true) (put_none _ _)
 
-returns-2 : tie.Need-returns-2
+returns-2 : tie.Need-returns
 returns-2 c =
-    let a = c.before.before.before.before.before.before.before.args in
-    put_as (near_some a.horizontal a.cross.0 a.along.0 a.n c.before.before.before.before.if1.false) c.before.before.put-stretch.ensures
+    let a = c.args in
+    put_as (near_some a.horizontal a.cross.0 a.along.0 a.n c.if-cross-eq0.false) c.put_stretch.ensures
 
 pub near_edge_spec : {M : Type 1} → statement M
 near_edge_spec = tie.close (tie.spec returns (λ c κs. search rules) (λ c. search rules) returns-2)

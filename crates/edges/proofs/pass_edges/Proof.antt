@@ -10,43 +10,43 @@ use Rattle.edges.proofs.Written.{Rooted, none_rooted, one_rooted, all_rooted, ro
 use Rattle.edges.proofs.pass_edges.Statement.{statement}
 use Rattle.edges.proofs.pass_edges.Tie as tie
 
-abbrev invariant-loop : tie.invariant-loop
+abbrev invariant-loop : tie.invariant-loop-i
 invariant-loop w h splits horizontal halved out₀ n k₀ i₀ out k i =
     (i ≤ n) × (length out ≡ length out₀) × Rooted horizontal halved splits (w / 4) (h / 4) out₀ out i k
 
-abbrev decreases-loop : tie.decreases-loop
+abbrev decreases-loop : tie.decreases-loop-i
 decreases-loop w h splits horizontal halved out₀ n k₀ i₀ out k i = n - i
 
 size : (s : tie.Start invariant-loop decreases-loop) → Sized s.args.w s.args.h
 size s = sized _ _ s.requires.0.size
 
 -- a turn's root is one of the picture's
-root : (c : tie.In-loop invariant-loop decreases-loop) → let s = c.before.before.before.before in c.before.loop.i < root_count s.args.w s.args.h
-root c = omega (arith, c.before.before.before.before.requires.0.long, c.loop-test.true)
+root : (c : tie.In-loop-i invariant-loop decreases-loop) → let s = c.before.before.before.before in c.before.loop.i < root_count s.args.w s.args.h
+root c = omega (arith, c.requires.0.long, c.loop-i-test.true)
 
-loop_holds : tie.Need-loop-init invariant-loop decreases-loop
+loop_holds : tie.Need-loop-i-init invariant-loop decreases-loop
 loop_holds c = (omega arith, refl, none_rooted _ _ _ _ _ _)
 
-root_edges_requires : tie.Need-root-edges-requires invariant-loop decreases-loop
+root_edges_requires : tie.Need-root_edges-k-requires invariant-loop decreases-loop
 root_edges_requires c κs =
     let d = c.before in
     let s = d.before.before.before.before in
-    let l = d.before.loop in
+    let l = d.loop-i in
     let room = root_room l.invariant.2 (some_wide (size s)) s.requires.0.walked (omega (arith, root d, roots_units (size s))) in
     (s.requires.0, root d, omega (arith, l.invariant.1, s.requires.1, room))
 
-loop_again : tie.Need-loop-preserved invariant-loop decreases-loop
+loop_again : tie.Need-loop-i-preserved invariant-loop decreases-loop
 loop_again c =
     let d = c.before.before.before.before in
-    let l = d.before.loop in
-    let e = c.before.before.root-edges in
+    let l = d.loop-i in
+    let e = c.root_edges-k in
     (omega arith, e.auto.1.1.1.1.1.1.0 ∙ l.invariant.1, one_rooted l.invariant.2 _ _ e.ensures)
 
 returns : tie.Need-returns invariant-loop decreases-loop
 returns c =
     let s = c.before.before.before.before in
-    let v = c.before.loop.invariant in
-    all_rooted v.2 (omega (arith, c.loop-test.false, s.requires.0.long, roots_units (size s))) (omega (arith, v.0, s.requires.0.long, roots_units (size s)))
+    let v = c.loop-i.invariant in
+    all_rooted v.2 (omega (arith, c.loop-i-test.false, s.requires.0.long, roots_units (size s))) (omega (arith, v.0, s.requires.0.long, roots_units (size s)))
 
 pub pass_edges_spec : {M : Type 1} → statement M
 pass_edges_spec =
@@ -59,5 +59,5 @@ pass_edges_spec =
     (λ c. omega arith)
     (λ c. omega arith)
     loop_again
-    (λ c. c.before.loop.invariant.1)
+    (λ c. c.loop-i.invariant.1)
     returns)

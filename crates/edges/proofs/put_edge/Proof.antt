@@ -6,23 +6,23 @@ use Rattle.edges.proofs.Puts.{edge_across, edge_down_lem}
 use Rattle.edges.proofs.put_edge.Statement.{statement}
 use Rattle.edges.proofs.put_edge.Tie as tie
 
-slice_write_out_2 : tie.Need-slice-write-out-2
+slice_write_out_2 : tie.Need-bounds-out-at-then-horizontal
 slice_write_out_2 c = simp length-set (omega arith)
 
-slice_write_out_4 : tie.Need-slice-write-out-4
+slice_write_out_4 : tie.Need-bounds-out-at-else-horizontal-2
 slice_write_out_4 c = simp length-set (omega arith)
 
-returns : tie.Need-returns
+returns : tie.Need-returns-then-horizontal
 returns c =
     let t = c.before.before in
-    let a = t.before.args in
-    edge_across a.out.now a.at a.cross.0 a.along.0 t.before.requires.2 t.before.requires.3 a.horizontal t.if1.true
+    let a = t.args in
+    edge_across a.out.now a.at a.cross.0 a.along.0 t.requires.2 t.requires.3 a.horizontal t.if-horizontal.true
 
-returns-2 : tie.Need-returns-2
+returns-2 : tie.Need-returns-else-horizontal
 returns-2 c =
     let t = c.before.before in
-    let a = t.before.args in
-    edge_down_lem a.out.now a.at a.cross.0 a.along.0 t.before.requires.2 t.before.requires.3 a.horizontal t.if1.false
+    let a = t.args in
+    edge_down_lem a.out.now a.at a.cross.0 a.along.0 t.requires.2 t.requires.3 a.horizontal t.if-horizontal.false
 
 pub put_edge_spec : {M : Type 1} → statement M
 put_edge_spec =

@@ -9,19 +9,19 @@ use Rattle.edges.proofs.Puts.{stretch_none, stretch_next, stretch_put}
 use Rattle.edges.proofs.put_stretch.Statement.{statement}
 use Rattle.edges.proofs.put_stretch.Tie as tie
 
-abbrev invariant-loop : tie.invariant-loop
+abbrev invariant-loop : tie.invariant-loop-j
 invariant-loop horizontal cross along n out₀ at j₀ out j =
     (j ≤ n) × (length out ≡ length out₀) × Starts cross.0 along.0 n × (at + 2 * n ≤ length out₀) × (out ≡ sets out₀ at (stretch_numbers horizontal cross.0 along.0 j))
 
-abbrev decreases-loop : tie.decreases-loop
+abbrev decreases-loop : tie.decreases-loop-j
 decreases-loop horizontal cross along n out₀ at j₀ out j = n - j
 
-loop_again : tie.Need-loop-preserved invariant-loop decreases-loop
+loop_again : tie.Need-loop-j-preserved invariant-loop decreases-loop
 loop_again c =
-    let l = c.before.before.before.before.before.before.loop in
-    let a = c.before.before.before.before.before.before.before.before.args in
+    let l = c.loop-j in
+    let a = c.args in
     let v = l.invariant in
-    let e = c.before.before.put-edge in (
+    let e = c.put_edge in (
       omega arith,
       e.auto.1.1.1.0 ∙ v.1,
       v.2,
@@ -31,10 +31,10 @@ loop_again c =
 
 returns : tie.Need-returns invariant-loop decreases-loop
 returns c =
-    let a = c.before.before.before.args in
-    let v = c.before.loop.invariant in
-    let e : c.before.loop.j ≡ a.n = omega arith in
-    stretch_put a.horizontal a.cross.0 a.along.0 a.out.now c.before.loop.out a.at a.n
+    let a = c.args in
+    let v = c.loop-j.invariant in
+    let e : c.loop-j.j ≡ a.n = omega arith in
+    stretch_put a.horizontal a.cross.0 a.along.0 a.out.now c.loop-j.out a.at a.n
     (v.4 ∙ ap (λ (n : ℕ). sets a.out.now a.at (stretch_numbers a.horizontal a.cross.0 a.along.0 n)) e)
 
 pub put_stretch_spec : {M : Type 1} → statement M
@@ -43,7 +43,7 @@ put_stretch_spec =
     (tie.spec
     invariant-loop
     decreases-loop
-    (λ c. (omega arith, refl, c.before.requires.0, c.before.requires.1, stretch_none c.before.args.horizontal c.before.args.cross.0 c.before.args.along.0 _ _))
+    (λ c. (omega arith, refl, c.requires.0, c.requires.1, stretch_none c.args.horizontal c.args.cross.0 c.args.along.0 _ _))
     (λ c. omega arith)
     (λ c. omega arith)
     (λ c. omega arith)
@@ -54,5 +54,5 @@ put_stretch_spec =
     loop_again
     (λ c. omega arith)
     (λ c. omega arith)
-    (λ c. c.before.loop.invariant.1)
+    (λ c. c.loop-j.invariant.1)
     returns)

@@ -16,26 +16,26 @@ use Rattle.edges.proofs.Written.{down_zero}
 use Rattle.edges.proofs.root_edges.Statement.{statement}
 use Rattle.edges.proofs.root_edges.Tie as tie
 
-returns : tie.Need-returns
+returns : tie.Need-returns-in_default
 returns c =
     let l = c.before.before.before in
     let s = l.before.before.before.before in
     let p = s.requires.0 in
-    absurd (root_met _ _ _ p.size p.long p.walked s.args.i s.requires.1 _ _ _ refl l.root-leaves.ensures _ c.enum_told.given.1)
+    absurd (root_met _ _ _ p.size p.long p.walked s.args.i s.requires.1 _ _ _ refl l.root_leaves.ensures _ c.in_default.is)
 
-leaves_edges_requires : tie.Need-leaves-edges-requires
+leaves_edges_requires : tie.Need-leaves_edges-requires
 leaves_edges_requires c κs =
     let n = c.before.before.before in
     let l = n.before.before.before in
     let s = l.before.before.before.before in
     let p = s.requires.0 in
     let a = s.args in
-    let t = root_told _ _ _ p.size p.long p.walked a.i s.requires.1 _ _ _ refl l.root-leaves.ensures _ n.n.given.1 in (
+    let t = root_told _ _ _ p.size p.long p.walked a.i s.requires.1 _ _ _ refl l.root_leaves.ensures _ n.in-Done.is in (
       ready_zero (record { long = omega (arith, t.long, t.few); leaves = λ j h. (t.leaves j h).numbers }),
       subst (λ (m : List Leaf). a.at + 2 * area m ≤ length a.out.now) (sym t.same) s.requires.2,
     )
 
-returns-2 : tie.Need-returns-2
+returns-2 : tie.Need-returns
 returns-2 c =
     let e = c.before.before in
     let n = e.before.before.before.before in
@@ -43,8 +43,8 @@ returns-2 c =
     let s = l.before.before.before.before in
     let p = s.requires.0 in
     let a = s.args in
-    let t = root_told _ _ _ p.size p.long p.walked a.i s.requires.1 _ _ _ refl l.root-leaves.ensures _ n.n.given.1 in
-    put_as (ap (λ (m : List Leaf). each edge_numbers (edges_of (pass_of a.horizontal) a.halved m)) (down_zero _ ∙ t.same)) e.leaves-edges.ensures
+    let t = root_told _ _ _ p.size p.long p.walked a.i s.requires.1 _ _ _ refl l.root_leaves.ensures _ n.in-Done.is in
+    put_as (ap (λ (m : List Leaf). each edge_numbers (edges_of (pass_of a.horizontal) a.halved m)) (down_zero _ ∙ t.same)) e.leaves_edges.ensures
 
 pub root_edges_spec : {M : Type 1} → statement M
 root_edges_spec =

@@ -18,44 +18,44 @@ input_of s =
     let a = s.args in
     record { w = a.w; h = a.h; splits = a.splits.now; x = a.x.0; y = a.y.0; horizontal = a.horizontal; halved = a.halved; top = a.top; out = a.out.now }
 
-size_fine : (c : tie.Else1) → size_ok c.before.before.before.before.args.w c.before.before.before.before.args.h ≡ true
-size_fine c = sym c.before.Size-ok.ensures ∙ not-false _ c.if1.false
+size_fine : (c : tie.Else-not-size_ok) → size_ok c.before.before.before.before.args.w c.before.before.before.before.args.h ≡ true
+size_fine c = sym c.size_ok.ensures ∙ c.if-not-size_ok.false
 
-high : (c : tie.Else1) → c.before.before.before.before.args.h / 4 ≤ 1024
+high : (c : tie.Else-not-size_ok) → c.before.before.before.before.args.h / 4 ≤ 1024
 high c = omega (arith, (sized _ _ (size_fine c)).high)
 
-top_fine : (c : tie.Else2) → c.before.before.before.before.before.args.top + c.before.before.before.before.before.args.h / 4 ≤ 1024
-top_fine c = omega (arith, c.if2.false, high c.before)
+top_fine : (c : tie.Else-h-top) → c.before.before.before.before.before.args.top + c.before.before.before.before.before.args.h / 4 ≤ 1024
+top_fine c = omega (arith, c.if-h-top.false, high c.before)
 
-early : (c : tie.Else3) → Early (input_of c.before.before.before.before.before.before)
-early c = record { size = size_fine c.before.before; high = top_fine c.before; long = c.if3.false }
+early : (c : tie.Else-out-ne512) → Early (input_of c.before.before.before.before.before.before)
+early c = record { size = size_fine c.before.before; high = top_fine c.before; long = c.if-out-ne512.false }
 
-returns : tie.Need-returns
-returns c = size_refused (input_of c.before.before.before.before) (sym c.before.Size-ok.ensures ∙ not-true _ c.if1.true)
+returns : tie.Need-returns-then-not-size_ok
+returns c = size_refused (input_of c.before.before.before.before) (sym c.size_ok.ensures ∙ c.if-not-size_ok.true)
 
-sub_if2 : tie.Need-overflow-sub-if2
+sub_if2 : tie.Need-overflow_sub-h
 sub_if2 c = high c
 
-returns-2 : tie.Need-returns-2
-returns-2 c = top_refused (input_of c.before.before.before.before.before) (size_fine c.before) (omega (arith, c.if2.true))
+returns-2 : tie.Need-returns-then-h-top
+returns-2 c = top_refused (input_of c.before.before.before.before.before) (size_fine c.before) (omega (arith, c.if-h-top.true))
 
-returns-3 : tie.Need-returns-3
-returns-3 c = long_refused (input_of c.before.before.before.before.before.before) (size_fine c.before.before) (top_fine c.before) c.if3.true
+returns-3 : tie.Need-returns-then-out-ne512
+returns-3 c = long_refused (input_of c.before.before.before.before.before.before) (size_fine c.before.before) (top_fine c.before) c.if-out-ne512.true
 
-leaves_edges_requires : tie.Need-leaves-edges-requires
+leaves_edges_requires : tie.Need-leaves_edges-k-requires
 leaves_edges_requires c κs = root_ready (input_of c.before.before.before.before.before.before.before.before.before.before.before.before.before.before)
     (early c.before.before.before.before.before.before.before.before) _ _ _ _ refl
-    c.before.before.before.before.before.before.leaves.ensures c.before.before.before.n.given.1
+    c.leaves.ensures c.in-Done.is
 
-returns-4 : tie.Need-returns-4
+returns-4 : tie.Need-returns-in-Refused
 returns-4 c = leaves_refused (input_of c.before.before.before.before.before.before.before.before.before.before.before.before)
-    (early c.before.before.before.before.before.before) _ _ _ _ refl c.before.before.before.before.leaves.ensures c.before.r.given.1
+    (early c.before.before.before.before.before.before) _ _ _ _ refl c.leaves.ensures c.in-Refused.is
 
-returns-5 : tie.Need-returns-5
+returns-5 : tie.Need-returns-in-Done
 returns-5 c = root_done (input_of c.before.before.before.before.before.before.before.before.before.before.before.before.before.before.before.before.before)
     (early c.before.before.before.before.before.before.before.before.before.before.before) _ _ _ _ refl
-    c.before.before.before.before.before.before.before.before.before.leaves.ensures
-    c.before.before.before.before.before.before.n.given.1 _ _ c.before.before.leaves-edges.ensures
+    c.leaves.ensures
+    c.in-Done.is _ _ c.leaves_edges-k.ensures
 
 pub root_list_spec : {M : Type 1} → statement M
 root_list_spec =

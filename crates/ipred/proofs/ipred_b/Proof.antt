@@ -10,31 +10,31 @@ use Rattle.ipred.proofs.ipred_b.Statement.{statement}
 use Rattle.ipred.proofs.ipred_b.Tie as tie
 
 -- a side that passed
-side_at : (c : tie.Else1) → component_side_ok c.before.before.before.before.args.side ≡ true
-side_at c = sym c.before.component-side-ok.ensures ∙ not-false _ c.if1.false
+side_at : (c : tie.Else-not-component_side_ok) → component_side_ok c.before.before.before.before.args.side ≡ true
+side_at c = sym c.component_side_ok.ensures ∙ c.if-not-component_side_ok.false
 
-returns : tie.Need-returns
-returns c = side_refused _ _ c.before.component-side-ok.ensures c.if1.true
+returns : tie.Need-returns-then-not-component_side_ok
+returns c = side_refused _ _ c.component_side_ok.ensures c.if-not-component_side_ok.true-raw
 
-lengths_ok_requires : tie.Need-lengths-ok-requires
+lengths_ok_requires : tie.Need-lengths_ok-requires
 lengths_ok_requires c κs = (component_side _ (side_at c)).most
 
-returns-2 : tie.Need-returns-2
+returns-2 : tie.Need-returns-then-not-lengths_ok
 returns-2 c =
     let s = c.before.before in
-    length_refused _ _ s.before.component-side-ok.ensures s.if1.false _ c.before.lengths-ok.ensures c.if2.true
+    length_refused _ _ s.component_side_ok.ensures s.if-not-component_side_ok.false-raw _ c.lengths_ok.ensures c.if-not-lengths_ok.true-raw
 
 predict_requires : tie.Need-predict-requires
 predict_requires c κs =
     let l = c.before in
     let side = side_at l.before.before in
-    (lent _ _ _ side (sym l.before.lengths-ok.ensures ∙ not-false _ l.if2.false), side)
+    (lent _ _ _ side (sym l.lengths_ok.ensures ∙ l.if-not-lengths_ok.false), side)
 
-returns-3 : tie.Need-returns-3
+returns-3 : tie.Need-returns
 returns-3 c =
     let l = c.before.before.before.before in
     let s = l.before.before in
-    goes_to_data _ _ s.before.component-side-ok.ensures s.if1.false _ l.before.lengths-ok.ensures _ l.if2.false c.before.before.predict.ensures
+    goes_to_data _ _ s.component_side_ok.ensures s.if-not-component_side_ok.false-raw _ l.lengths_ok.ensures _ l.if-not-lengths_ok.false-raw c.predict.ensures
 
 pub ipred_b_spec : {M : Type 1} → statement M
 ipred_b_spec =

@@ -6,14 +6,14 @@ use Rattle.ipred.proofs.Dc.{quotient_below, dc_block}
 use Rattle.ipred.proofs.ipred_dc_b.Statement.{statement}
 use Rattle.ipred.proofs.ipred_dc_b.Tie as tie
 
-cast_fill_row : tie.Need-overflow-cast-fill-row
+cast_fill_row : tie.Need-overflow_cast-sum
 cast_fill_row c = record { fits = quotient_below _ _ _ (omega arith) (omega arith) }
 
 returns : tie.Need-returns
 returns c =
     let sums = c.before.before.before.before in
-    let pre = sums.before.before.before.before.requires in
-    c.before.before.fill-row.ensures ∙ dc_block _ _ _ _ _ pre.1 pre.0.block_long sums.before.sum_of.ensures.0 sums.sum-of2.ensures.0
+    let pre = sums.requires in
+    c.fill_row.ensures ∙ dc_block _ _ _ _ _ pre.1 pre.0.block_long sums.sum_of.ensures.0 sums.sum_of-2.ensures.0
 
 pub ipred_dc_b_spec : {M : Type 1} → statement M
 ipred_dc_b_spec =

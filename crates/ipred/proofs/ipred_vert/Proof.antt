@@ -9,35 +9,35 @@ use Rattle.ipred.proofs.Rows.{Filled, row_in_lem, next_row_done, all_rows}
 use Rattle.ipred.proofs.ipred_vert.Statement.{statement}
 use Rattle.ipred.proofs.ipred_vert.Tie as tie
 
-abbrev invariant-loop : tie.invariant-loop
+abbrev invariant-loop : tie.invariant-loop-i
 invariant-loop side run block₀ up i₀ block i = (i ≤ side) × Filled side (vertical side run) block₀ block i
 
-abbrev decreases-loop : tie.decreases-loop
+abbrev decreases-loop : tie.decreases-loop-i
 decreases-loop side run block₀ up i₀ block i = side - i
 
 -- in a turn: the row lies in the block
-row : (c : tie.In-loop invariant-loop decreases-loop) → let a = c.before.before.before.before.args in c.before.loop.i * a.side + a.side ≤ a.side * a.side
-row c = row_in_lem c.before.loop.i c.before.before.before.before.requires c.loop-test.true
+row : (c : tie.In-loop-i invariant-loop decreases-loop) → let a = c.before.before.before.before.args in c.before.loop.i * a.side + a.side ≤ a.side * a.side
+row c = row_in_lem c.loop-i.i c.requires c.loop-i-test.true
 
-loop_holds : tie.Need-loop-init invariant-loop decreases-loop
+loop_holds : tie.Need-loop-i-init invariant-loop decreases-loop
 loop_holds c = (omega arith, rows_none _ _ _ _ _ _ _)
 
-mul_copy_row : tie.Need-overflow-mul-copy-row invariant-loop decreases-loop
+mul_copy_row : tie.Need-overflow_mul-i invariant-loop decreases-loop
 mul_copy_row c = omega (arith, row c.before)
 
-copy_row_requires : tie.Need-copy-row-requires invariant-loop decreases-loop
+copy_row_requires : tie.Need-copy_row-requires invariant-loop decreases-loop
 copy_row_requires c κs = omega (arith, row c.before)
 
-loop_again : tie.Need-loop-preserved invariant-loop decreases-loop
+loop_again : tie.Need-loop-i-preserved invariant-loop decreases-loop
 loop_again c =
-    let h = c.before.before.before.before.before.loop in
-    (search rules, next_row_done _ _ _ _ _ h.i _ (omega arith) (λ j p. refl) c.before.before.copy-row.ensures h.invariant.1)
+    let h = c.loop-i in
+    (search rules, next_row_done _ _ _ _ _ h.i _ (omega arith) (λ j p. refl) c.copy_row.ensures h.invariant.1)
 
-same_length : tie.Need-same-length invariant-loop decreases-loop
-same_length c = c.before.loop.invariant.1.long
+same_length : tie.Need-shape_of-block invariant-loop decreases-loop
+same_length c = c.loop-i.invariant.1.long
 
 returns : tie.Need-returns invariant-loop decreases-loop
-returns c = all_rows _ _ c.before.loop.i c.before.before.before.before.requires (omega arith) c.before.loop.invariant.1
+returns c = all_rows _ _ c.loop-i.i c.requires (omega arith) c.loop-i.invariant.1
 
 pub ipred_vert_spec : {M : Type 1} → statement M
 ipred_vert_spec =

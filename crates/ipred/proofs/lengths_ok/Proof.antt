@@ -7,7 +7,7 @@ use Rattle.ipred.specs.Predict.{lengths_ok}
 use Rattle.ipred.proofs.lengths_ok.Statement.{statement}
 use Rattle.ipred.proofs.lengths_ok.Tie as tie
 
-mul_result_2 : tie.Need-overflow-mul-result-2
+mul_result_2 : tie.Need-overflow_mul-result-2
 mul_result_2 c = omega (arith, mul-le-mul c.requires c.requires)
 
 returns : tie.Need-returns

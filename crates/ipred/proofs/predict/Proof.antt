@@ -16,93 +16,93 @@ use Rattle.ipred.proofs.predict.Tie as tie
 
 -- ---- past the test of samples: what was lent, and an arm whose mode is k and whose side is n
 
-abbrev start : tie.Else1 → tie.Start
+abbrev start : tie.Else-mode-samples_ok → tie.Start
 start c = c.before.before.before.before
 
-abbrev input : tie.Else1 → Input
+abbrev input : tie.Else-mode-samples_ok → Input
 input c = let a = (start c).args in record { mode = a.mode; side = a.side; run = a.run.now; block = a.block.now }
 
-lent_4 : (c : tie.Else1) → (input c).side ≡ 4 → Lent 4 (input c).run (input c).block
+lent_4 : (c : tie.Else-mode-samples_ok) → (input c).side ≡ 4 → Lent 4 (input c).run (input c).block
 lent_4 c e = subst (λ (n : ℕ). Lent n (input c).run (input c).block) e (start c).requires.0
 
-good : (c : tie.Else1) → (input c).mode ≤ 4 → samples_ok (input c).run ≡ true
-good c p = good_samples (input c).mode _ _ c.before.samples-ok.ensures c.if1.false p
+good : (c : tie.Else-mode-samples_ok) → (input c).mode ≤ 4 → samples_ok (input c).run ≡ true
+good c p = good_samples (input c).mode _ _ c.samples_ok.ensures c.if-mode-samples_ok.false p
 
-arm : (c : tie.Else1) (k n : ℕ) {block : List ℕ} → (input c).mode ≡ k → (input c).side ≡ n → k ≤ 4 → block ≡ block_of n (predicted k n (input c).run)
+arm : (c : tie.Else-mode-samples_ok) (k n : ℕ) {block : List ℕ} → (input c).mode ≡ k → (input c).side ≡ n → k ≤ 4 → block ≡ block_of n (predicted k n (input c).run)
     → Gives chosen (input c) (record { number = 0; block = block })
-arm c k n e s p b = at_mode _ _ c.before.samples-ok.ensures k n _ c.if1.false e s p b
+arm c k n e s p b = at_mode _ _ c.samples_ok.ensures k n _ c.if-mode-samples_ok.false e s p b
 
 -- ---- the needs
 
-returns : tie.Need-returns
-returns c = bad_sample _ _ c.before.samples-ok.ensures c.if1.true
+returns : tie.Need-returns-then-mode-samples_ok
+returns c = bad_sample _ _ c.samples_ok.ensures c.if-mode-samples_ok.true
 
-ipred_dc_b_requires : tie.Need-ipred-dc-b-requires
+ipred_dc_b_requires : tie.Need-ipred_dc_b-requires
 unfolding component_side_ok
-ipred_dc_b_requires c κs = (lent_4 c.before.before.before c.before.if2.true, refl)
+ipred_dc_b_requires c κs = (lent_4 c.before.before.before c.if-side-eq4.true, refl)
 
-ipred_hor_b_requires : tie.Need-ipred-hor-b-requires
-ipred_hor_b_requires c κs = lent_4 c.before.before.before c.before.if3.true
+ipred_hor_b_requires : tie.Need-ipred_hor_b-requires
+ipred_hor_b_requires c κs = lent_4 c.before.before.before c.if-side-eq4-2.true
 
-ipred_vert_requires : tie.Need-ipred-vert-requires
-ipred_vert_requires c κs = lent_4 c.before.before.before c.before.if4.true
+ipred_vert_requires : tie.Need-ipred_vert-requires
+ipred_vert_requires c κs = lent_4 c.before.before.before c.if-side-eq4-3.true
 
-ipred_ul_requires : tie.Need-ipred-ul-requires
-ipred_ul_requires c κs = lent_4 c.before.before.before c.before.if5.true
+ipred_ul_requires : tie.Need-ipred_ul-requires
+ipred_ul_requires c κs = lent_4 c.before.before.before c.if-side-eq4-4.true
 
-ipred_ur_requires : tie.Need-ipred-ur-requires
-ipred_ur_requires c κs = (lent_4 c.before.before.before c.before.if6.true, good c.before.before.before (omega arith))
+ipred_ur_requires : tie.Need-ipred_ur-requires
+ipred_ur_requires c κs = (lent_4 c.before.before.before c.if-side-eq4-5.true, good c.before.before.before (omega arith))
 
-ipred_ur_requires_2 : tie.Need-ipred-ur-requires-2
+ipred_ur_requires_2 : tie.Need-ipred_ur-requires-else-side-eq4-5
 ipred_ur_requires_2 c κs = ((start c.before.before.before).requires.0, good c.before.before.before (omega arith))
 
-returns-2 : tie.Need-returns-2
+returns-2 : tie.Need-returns-in-5-to-255
 returns-2 c = no_mode _ (omega arith)
 
-returns-3 : tie.Need-returns-3
+returns-3 : tie.Need-returns-then-side-eq4
 unfolding predicted
 returns-3 c = let m = c.before.before.before.before.before in
-    arm m.before 0 4 m.match.keys1 c.before.before.before.before.if2.true (omega arith) c.before.before.ipred-dc-b.ensures
+    arm m.before 0 4 m.in-0.is c.if-side-eq4.true (omega arith) c.ipred_dc_b.ensures
 
-returns-4 : tie.Need-returns-4
+returns-4 : tie.Need-returns-else-side-eq4
 unfolding predicted
-returns-4 c = let m = c.before.before.before.before.before in arm m.before 0 _ m.match.keys1 refl (omega arith) c.before.before.ipred-dc-b2.ensures
+returns-4 c = let m = c.before.before.before.before.before in arm m.before 0 _ m.in-0.is refl (omega arith) c.ipred_dc_b-else-side-eq4.ensures
 
-returns-5 : tie.Need-returns-5
+returns-5 : tie.Need-returns-then-side-eq4-2
 unfolding predicted
 returns-5 c = let m = c.before.before.before.before.before in
-    arm m.before 1 4 m.match.keys2 c.before.before.before.before.if3.true (omega arith) c.before.before.ipred-hor-b.ensures
+    arm m.before 1 4 m.in-1.is c.if-side-eq4-2.true (omega arith) c.ipred_hor_b.ensures
 
-returns-6 : tie.Need-returns-6
+returns-6 : tie.Need-returns-else-side-eq4-2
 unfolding predicted
-returns-6 c = let m = c.before.before.before.before.before in arm m.before 1 _ m.match.keys2 refl (omega arith) c.before.before.ipred-hor-b2.ensures
+returns-6 c = let m = c.before.before.before.before.before in arm m.before 1 _ m.in-1.is refl (omega arith) c.ipred_hor_b-else-side-eq4-2.ensures
 
-returns-7 : tie.Need-returns-7
+returns-7 : tie.Need-returns-then-side-eq4-3
 unfolding predicted
 returns-7 c = let m = c.before.before.before.before.before in
-    arm m.before 2 4 m.match.keys3 c.before.before.before.before.if4.true (omega arith) c.before.before.ipred-vert.ensures
+    arm m.before 2 4 m.in-2.is c.if-side-eq4-3.true (omega arith) c.ipred_vert.ensures
 
-returns-8 : tie.Need-returns-8
+returns-8 : tie.Need-returns-else-side-eq4-3
 unfolding predicted
-returns-8 c = let m = c.before.before.before.before.before in arm m.before 2 _ m.match.keys3 refl (omega arith) c.before.before.ipred-vert2.ensures
+returns-8 c = let m = c.before.before.before.before.before in arm m.before 2 _ m.in-2.is refl (omega arith) c.ipred_vert-else-side-eq4-3.ensures
 
-returns-9 : tie.Need-returns-9
+returns-9 : tie.Need-returns-then-side-eq4-4
 unfolding predicted
 returns-9 c = let m = c.before.before.before.before.before in
-    arm m.before 3 4 m.match.keys4 c.before.before.before.before.if5.true (omega arith) c.before.before.ipred-ul.ensures
+    arm m.before 3 4 m.in-3.is c.if-side-eq4-4.true (omega arith) c.ipred_ul.ensures
 
-returns-10 : tie.Need-returns-10
+returns-10 : tie.Need-returns-else-side-eq4-4
 unfolding predicted
-returns-10 c = let m = c.before.before.before.before.before in arm m.before 3 _ m.match.keys4 refl (omega arith) c.before.before.ipred-ul2.ensures
+returns-10 c = let m = c.before.before.before.before.before in arm m.before 3 _ m.in-3.is refl (omega arith) c.ipred_ul-else-side-eq4-4.ensures
 
-returns-11 : tie.Need-returns-11
+returns-11 : tie.Need-returns-then-side-eq4-5
 unfolding predicted
 returns-11 c = let m = c.before.before.before.before.before in
-    arm m.before 4 4 m.match.keys5 c.before.before.before.before.if6.true (omega arith) c.before.before.ipred-ur.ensures
+    arm m.before 4 4 m.in-4.is c.if-side-eq4-5.true (omega arith) c.ipred_ur.ensures
 
-returns-12 : tie.Need-returns-12
+returns-12 : tie.Need-returns-else-side-eq4-5
 unfolding predicted
-returns-12 c = let m = c.before.before.before.before.before in arm m.before 4 _ m.match.keys5 refl (omega arith) c.before.before.ipred-ur2.ensures
+returns-12 c = let m = c.before.before.before.before.before in arm m.before 4 _ m.in-4.is refl (omega arith) c.ipred_ur-else-side-eq4-5.ensures
 
 pub predict_spec : {M : Type 1} → statement M
 predict_spec =

@@ -9,34 +9,34 @@ use Rattle.ipred.proofs.Sums.{sum_none, sum_more}
 use Rattle.ipred.proofs.sum_of.Statement.{statement}
 use Rattle.ipred.proofs.sum_of.Tie as tie
 
-abbrev invariant-loop : tie.invariant-loop
+abbrev invariant-loop : tie.invariant-loop-j
 invariant-loop run from n sum₀ j₀ sum j = (j ≤ n) × (sum ≡ sum_below (λ (k : ℕ). get_or run (from + k) 0) j) × (sum ≤ 65535 * j)
 
-abbrev decreases-loop : tie.decreases-loop
+abbrev decreases-loop : tie.decreases-loop-j
 decreases-loop run from n sum₀ j₀ sum j = n - j
 
-loop_holds : tie.Need-loop-init invariant-loop decreases-loop
+loop_holds : tie.Need-loop-j-init invariant-loop decreases-loop
 loop_holds c = (omega arith, sym (sum_none _), omega arith)
 
 -- a sample of the run, as a 16-bit number
-small : (c : tie.After-shared-slice-known invariant-loop decreases-loop) → get_or c.before.before.before.args.run.now (c.before.before.before.args.from + c.before.before.loop.j) 0 ≤ 65535
-small c = omega (arith, c.shared-slice-known.given (c.before.before.before.args.from + c.before.before.loop.j))
+small : (c : tie.After-shared_slice_known-1 invariant-loop decreases-loop) → get_or c.before.before.before.args.run.now (c.before.before.before.args.from + c.before.before.loop.j) 0 ≤ 65535
+small c = omega (arith, c.shared_slice_known-1.given (c.args.from + c.loop-j.j))
 
-cast_sum : tie.Need-overflow-cast-sum invariant-loop decreases-loop
+cast_sum : tie.Need-overflow_cast-sum invariant-loop decreases-loop
 cast_sum c = omega (arith, small c)
 
-add_sum_2 : tie.Need-overflow-add-sum-2 invariant-loop decreases-loop
+add_sum_2 : tie.Need-overflow_add-sum-in-loop-j invariant-loop decreases-loop
 add_sum_2 c = omega (arith, small c)
 
-loop_again : tie.Need-loop-preserved invariant-loop decreases-loop
+loop_again : tie.Need-loop-j-preserved invariant-loop decreases-loop
 loop_again c =
-    let h = c.before.before.loop in
+    let h = c.loop-j in
     (search rules, rw h.invariant.1 (sym (sum_more _ _)), omega (arith, small c))
 
 returns : tie.Need-returns invariant-loop decreases-loop
 returns c =
-    let h = c.before.loop in
-    let e : h.j ≡ c.before.before.args.n = omega arith in
+    let h = c.loop-j in
+    let e : h.j ≡ c.args.n = omega arith in
     (h.invariant.1 ∙ rw e, omega arith)
 
 pub sum_of_spec : {M : Type 1} → statement M

@@ -9,8 +9,8 @@ returns : tie.Need-returns
 returns c =
     let s = c.before.before.before.before.before.before in
     line_steps s.args.a s.args.b s.args.c s.args.d s.args.st _ _ _ _ _ _ s.requires.0 s.requires.1 s.requires.2 s.requires.3
-    c.before.before.before.before.before.rise.ensures.0 c.before.before.before.before.rise2.ensures.0
-    c.before.before.before.ease.ensures.0 c.before.before.ease2.ensures.0 c.before.nudge.ensures c.nudge2.ensures
+    c.rise-u.ensures.0 c.rise-v.ensures.0
+    c.ease-e.ensures.0 c.ease-f.ensures.0 c.nudge.ensures c.nudge-2.ensures
 
 pub lane_spec : {M : Type 1} → statement M
 lane_spec =

@@ -8,8 +8,8 @@ use Rattle.lanes.proofs.lane_at.Tie as tie
 returns : tie.Need-returns
 returns c =
     c.lane.ensures
-    ∙ (λ i. line_of (c.before.before.before.before.before.before.before.held.ensures.0 i) (c.before.before.before.before.before.held2.ensures.0 i)
-    (c.before.before.before.held3.ensures.0 i) (c.before.held4.ensures.0 i) c.before.before.before.before.before.before.before.before.before.args.st)
+    ∙ (λ i. line_of (c.held.ensures.0 i) (c.held-2.ensures.0 i)
+    (c.held-3.ensures.0 i) (c.held-4.ensures.0 i) c.args.st)
 
 pub lane_at_spec : {M : Type 1} → statement M
 lane_at_spec =

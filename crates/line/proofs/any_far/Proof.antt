@@ -11,16 +11,16 @@ returns : tie.Need-returns
 unfolding any_far
 returns c =
     let s = c.before.before.before.before.before.before.before.before.before.before.before.before.before.before.before.before.before.before.before in
-    let f = s.struct_told.given in
-    let g = c.before.before.before.before.before.before.before.before.before.before.before.before.before.before.before.before.before.struct-told3.given in
-    let q = read s.before.args.q f.0.1 f.1.0.1 f.1.1.0.1 f.1.1.1.0.1 f.1.1.1.1.0.1 f.1.1.1.1.1.0.1 in
-    let p = read s.before.args.p g.0.1 g.1.0.1 g.1.1.0.1 g.1.1.1.0.1 g.1.1.1.1.0.1 g.1.1.1.1.1.0.1 in
+    let f = s.struct_told-1.given in
+    let g = c.struct_told-3-1.given in
+    let q = read s.args.q f.0.1 f.1.0.1 f.1.1.0.1 f.1.1.1.0.1 f.1.1.1.1.0.1 f.1.1.1.1.1.0.1 in
+    let p = read s.args.p g.0.1 g.1.0.1 g.1.1.0.1 g.1.1.1.0.1 g.1.1.1.1.0.1 g.1.1.1.1.1.0.1 in
     (λ i.
-    (c.before.before.before.before.before.before.before.before.before.before.before.before.before.before.before.counted-far.ensures
+    (c.counted_far.ensures
     ∙ (λ j. far (counted_as (q.refi0 j) (q.x0 j)) (counted_as (p.refi0 j) (p.x0 j)))) i
-    || (c.before.before.before.before.before.before.before.before.before.before.counted-far2.ensures ∙ (λ j. far (counted_as (q.refi0 j) (q.y0 j)) (counted_as (p.refi0 j) (p.y0 j)))) i
-    || (c.before.before.before.before.before.counted-far3.ensures ∙ (λ j. far (counted_as (q.refi1 j) (q.x1 j)) (counted_as (p.refi1 j) (p.x1 j)))) i
-    || (c.counted-far4.ensures ∙ (λ j. far (counted_as (q.refi1 j) (q.y1 j)) (counted_as (p.refi1 j) (p.y1 j)))) i)
+    || (c.counted_far-2.ensures ∙ (λ j. far (counted_as (q.refi0 j) (q.y0 j)) (counted_as (p.refi0 j) (p.y0 j)))) i
+    || (c.counted_far-3.ensures ∙ (λ j. far (counted_as (q.refi1 j) (q.x1 j)) (counted_as (p.refi1 j) (p.x1 j)))) i
+    || (c.counted_far-4.ensures ∙ (λ j. far (counted_as (q.refi1 j) (q.y1 j)) (counted_as (p.refi1 j) (p.y1 j)))) i)
 
 pub any_far_spec : {M : Type 1} → statement M
 any_far_spec = tie.close (tie.spec (λ c κs. search rules) (λ c κs. search rules) (λ c κs. search rules) (λ c κs. search rules) returns)

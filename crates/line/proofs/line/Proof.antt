@@ -8,16 +8,16 @@ returns : tie.Need-returns
 returns c =
     let e = c.before.before.before.before in
     let h = e.before.before in
-    let a = h.before.before.args in
+    let a = h.args in
     line_made a.a a.b a.c a.d a.st _ _ _ _ _ _ _ _
-    h.before.gap.ensures.0
-    h.limit.ensures.0
-    e.before.gap2.ensures.0
-    e.reach.ensures.0
-    c.before.before.before.moved.ensures
-    c.before.before.moved2.ensures
-    c.before.moved3.ensures
-    c.moved4.ensures
+    h.gap.ensures.0
+    h.limit-h.ensures.0
+    e.gap-2.ensures.0
+    e.reach-e.ensures.0
+    c.moved.ensures
+    c.moved-2.ensures
+    c.moved-3.ensures
+    c.moved-4.ensures
 
 pub line_spec : {M : Type 1} → statement M
 line_spec =
@@ -30,9 +30,9 @@ line_spec =
     (λ c κs. search rules)
     (λ c κs. eighth _ c.gap.ensures.1)
     (λ c κs. search rules)
-    (λ c κs. c.before.limit.ensures.1)
-    (λ c κs. c.reach.ensures.1)
-    (λ c κs. c.before.before.before.limit.ensures.1)
-    (λ c κs. c.before.before.before.before.limit.ensures.1)
-    (λ c κs. c.before.before.before.reach.ensures.1)
+    (λ c κs. c.limit-h.ensures.1)
+    (λ c κs. c.reach-e.ensures.1)
+    (λ c κs. c.limit-h.ensures.1)
+    (λ c κs. c.limit-h.ensures.1)
+    (λ c κs. c.reach-e.ensures.1)
     returns)

@@ -3,11 +3,11 @@ use borrow.Author.Rules.{rules}
 use Rattle.line.proofs.mask_of.Statement.{statement}
 use Rattle.line.proofs.mask_of.Tie as tie
 
-returns : tie.Need-returns
-returns c = rw c.enum_told.given.1
+returns : tie.Need-returns-in-Luma
+returns c = rw c.in-Luma.is
 
-returns-2 : tie.Need-returns-2
-returns-2 c = rw c.enum-told2.given.1
+returns-2 : tie.Need-returns-in-Chroma
+returns-2 c = rw c.in-Chroma.is
 
 pub mask_of_spec : {M : Type 1} → statement M
 mask_of_spec = tie.close (tie.spec (λ c. search rules) (λ c. search rules) returns returns-2)

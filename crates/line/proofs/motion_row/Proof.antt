@@ -11,20 +11,20 @@ use Rattle.line.proofs.motion_row.Statement.{statement}
 use Rattle.line.proofs.motion_row.Tie as tie
 
 -- the row, of what the tests joined are
-row : (c : tie.After-any-far) (near : Bool) → ((c.before.before.before.before.same-refs.result || c.before.before.same-refs2.result) && not c.any-far.result) ≡ near
+row : (c : tie.After-any_far-near) (near : Bool) → ((c.before.before.before.before.same_refs.result || c.before.before.same_refs2.result) && not c.any_far.result) ≡ near
     → pick {A = ℕ} near 3 2 ≡ motion_row c.before.before.before.before.before.args.q c.before.before.before.before.before.args.p
 row c near e =
     let s = c.before.before.before.before in
-    let q = s.before.args.q in
-    by_tests q s.before.args.p _ _ _ near s.same-refs.ensures
-    (c.before.before.same-refs2.ensures ∙ ap (same_refs q) c.before.before.before.crossed.ensures)
-    (c.any-far.ensures ∙ ap (any_far q) c.before.facing.ensures) e
+    let q = s.args.q in
+    by_tests q s.args.p _ _ _ near s.same_refs-straight.ensures
+    (c.same_refs-across.ensures ∙ ap (same_refs q) c.crossed.ensures)
+    (c.any_far-near.ensures ∙ ap (any_far q) c.facing.ensures) e
 
-returns : tie.Need-returns
-returns c = (row c.before _ c.if1.true, omega arith)
+returns : tie.Need-returns-then-straight-across
+returns c = (row c.before _ c.if-straight-across.true, omega arith)
 
-returns-2 : tie.Need-returns-2
-returns-2 c = (row c.before _ c.if1.false, omega arith)
+returns-2 : tie.Need-returns-else-straight-across
+returns-2 c = (row c.before _ c.if-straight-across.false, omega arith)
 
 pub motion_row_spec : {M : Type 1} → statement M
 motion_row_spec =

@@ -7,4 +7,4 @@ pub moved_spec : {M : Type 1} → statement M
 moved_spec =
     tie.close
     (tie.spec (λ c κs. search rules) (λ c κs. search rules)
-    (λ c. rw c.before.if1.true c.down.ensures) (λ c. rw c.before.if1.false c.up.ensures))
+    (λ c. rw c.if-lower.true c.down.ensures) (λ c. rw c.if-lower.false c.up.ensures))

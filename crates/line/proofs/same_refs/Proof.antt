@@ -11,13 +11,13 @@ returns : tie.Need-returns
 unfolding same_refs
 returns c =
     let s = c.before.before.before.before.before in
-    let f = s.struct_told.given in
-    let g = c.before.before.before.before.struct-told2.given in
-    let q = read s.before.args.q f.0.1 f.1.0.1 f.1.1.0.1 f.1.1.1.0.1 f.1.1.1.1.0.1 f.1.1.1.1.1.0.1 in
-    let p = read s.before.args.p g.0.1 g.1.0.1 g.1.1.0.1 g.1.1.1.0.1 g.1.1.1.1.0.1 g.1.1.1.1.1.0.1 in
+    let f = s.struct_told-1.given in
+    let g = c.struct_told-2-1.given in
+    let q = read s.args.q f.0.1 f.1.0.1 f.1.1.0.1 f.1.1.1.0.1 f.1.1.1.1.0.1 f.1.1.1.1.1.0.1 in
+    let p = read s.args.p g.0.1 g.1.0.1 g.1.1.0.1 g.1.1.1.0.1 g.1.1.1.1.0.1 g.1.1.1.1.1.0.1 in
     (λ i.
-    (c.before.before.before.same-refi.ensures ∙ (λ j. eq_z (q.refi0 j) (p.refi0 j))) i
-    && (c.same-refi2.ensures ∙ (λ j. eq_z (q.refi1 j) (p.refi1 j))) i)
+    (c.same_refi.ensures ∙ (λ j. eq_z (q.refi0 j) (p.refi0 j))) i
+    && (c.same_refi-2.ensures ∙ (λ j. eq_z (q.refi1 j) (p.refi1 j))) i)
 
 pub same_refs_spec : {M : Type 1} → statement M
 same_refs_spec = tie.close (tie.spec (λ c κs. search rules) (λ c κs. search rules) returns)

@@ -12,9 +12,9 @@ cell level row column p q r = omega arith
 
 returns : tie.Need-returns
 returns c = (
-  ap₂ (λ (m n : ℕ). 256 * c.before.before.before.before.before.before.args.level + (16 * (m % 16) + n % 16))
-      c.before.pel2scu2.ensures c.before.before.before.before.pel2scu.ensures,
-  cell _ _ _ c.before.before.before.before.before.before.requires.2 (omega arith) (omega arith),
+  ap₂ (λ (m n : ℕ). 256 * c.args.level + (16 * (m % 16) + n % 16))
+      c.pel2scu-row.ensures c.pel2scu-column.ensures,
+  cell _ _ _ c.requires.2 (omega arith) (omega arith),
 )
 
 pub byte_place_spec : {M : Type 1} → statement M

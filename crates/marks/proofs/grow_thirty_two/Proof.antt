@@ -18,82 +18,82 @@ use Rattle.marks.proofs.Marking.{room_one, next_room, part_block}
 use Rattle.marks.proofs.grow_thirty_two.Statement.{statement}
 use Rattle.marks.proofs.grow_thirty_two.Tie as tie
 
-abbrev invariant-loop : tie.invariant-loop
+abbrev invariant-loop : tie.invariant-loop-part
 invariant-loop src from count w h at out₀ n marked₀ part₀ out marked part =
     (part ≤ 4)
     × ((m : ℕ) → marked₀ ≡ Counted m
     → Grew (descents (part_of (w / 4) (h / 4) (3 - 1) (at.x.0 / 4) (at.y.0 / 4)) part (drop m (bits_from src from count))) (bits_from src from count) out₀ m out marked)
 
-abbrev decreases-loop : tie.decreases-loop
+abbrev decreases-loop : tie.decreases-loop-part
 decreases-loop src from count w h at out₀ n marked₀ part₀ out marked part = 4 - part
 
 -- its root's digits
 abbrev digits : (c : tie.Start invariant-loop decreases-loop) → List ℕ
 digits c = bits_from c.args.src.now c.args.from c.args.count
 
-own_digit_requires : tie.Need-own-digit-requires invariant-loop decreases-loop
-own_digit_requires c κs = let p = c.before.before.requires in (p.0, omega arith, p.1, room_one (halved p.0 (omega arith)) _ _ p.2)
+own_digit_requires : tie.Need-own_digit-own-requires invariant-loop decreases-loop
+own_digit_requires c κs = let p = c.requires in (p.0, omega arith, p.1, room_one (halved p.0 (omega arith)) _ _ p.2)
 
 -- not cut: its own digit is all that it has
-returns : tie.Need-returns invariant-loop decreases-loop
-returns c = c.before.before.own-digit.ensures.whole (not-true _ c.if1.true)
+returns : tie.Need-returns-then-not-own invariant-loop decreases-loop
+returns c = c.own_digit-own.ensures.whole (not-true _ c.if-not-own.true)
 
 -- the loop over the four parts
-loop_holds : tie.Need-loop-init invariant-loop decreases-loop
+loop_holds : tie.Need-loop-part-init invariant-loop decreases-loop
 loop_holds c = let a = c.before.before.before.before.before in (zero-le, λ m e. no_part (digits a) a.requires.0 _ m e)
 
 -- a part that is refused ends the block
-returns-2 : tie.Need-returns-2 invariant-loop decreases-loop
+returns-2 : tie.Need-returns-in_default invariant-loop decreases-loop
 returns-2 c =
     let a = c.before.before.before.before.before.before.before.before.before in
-    let d = c.before.before.before.before.before.before.own-digit.ensures.divided (not-false _ c.before.before.before.before.if1.false) in
+    let d = c.own_digit-own.ensures.divided (not-false _ c.if-not-own.false) in
     divided_then d
-    (part_refused (digits a) a.requires.0 (omega arith) _ (c.before.before.before.loop.invariant.1 _ d.answer) _ c.before.before.loop-test.true c.enum_told.given.1)
+    (part_refused (digits a) a.requires.0 (omega arith) _ (c.loop-part.invariant.1 _ d.answer) _ c.loop-part-test.true c.in_default.is)
 
-part_of_requires : tie.Need-part-of-requires invariant-loop decreases-loop
+part_of_requires : tie.Need-part_of-place-requires invariant-loop decreases-loop
 part_of_requires c κs =
-    let z = halved c.before.before.before.before.before.before.before.before.before.before.requires.0 (omega arith) in
-    (z.right, z.bottom, c.before.before.before.loop-test.true)
+    let z = halved c.requires.0 (omega arith) in
+    (z.right, z.bottom, c.loop-part-test.true)
 
-grow_sixteen_requires : tie.Need-grow-sixteen-requires invariant-loop decreases-loop
+grow_sixteen_requires : tie.Need-grow_sixteen-marked-requires invariant-loop decreases-loop
 grow_sixteen_requires c κs =
     let a = c.before.before.before.before.before.before.before.before.before.before.before.before in
     let p = a.requires in
     let z = halved p.0 (omega arith) in
-    let v = c.before.before.before.before.before.before.loop.invariant in
-    let l = c.before.before.before.before.before.loop-test.true in
-    let q = c.before.part_of_lem.ensures in
+    let v = c.loop-part.invariant in
+    let l = c.loop-part-test.true in
+    let q = c.part_of-place.ensures in
     let own = c.before.before.before.before.before.before.before in
-    let d = own.before.before.own-digit.ensures.divided (not-false _ own.if1.false) in
-    let f = few_taken (digits a) p.0 c.before.before.before.before.before.before.loop.part d.count in
-    let e = grew_count c.before.before.before.marked.given.1 (v.1 _ d.answer) in
+    let d = own.own_digit-own.ensures.divided (not-false _ own.if-not-own.false) in
+    let f = few_taken (digits a) p.0 c.loop-part.part d.count in
+    let e = grew_count c.in-Done.is (v.1 _ d.answer) in
     let r = next_room _ _ _ _ _ 85 l f e (omega (arith, d.own.count, z.room, p.2)) in
     (part_block z _ _ _ l q.0 q.1, p.1, r)
 
 -- a part more
-add_part : tie.Need-overflow-add-part invariant-loop decreases-loop
-add_part c = record { fits = counted _ c.before.before.before.before.before.before.loop-test.true }
+add_part : tie.Need-overflow_add-part invariant-loop decreases-loop
+add_part c = record { fits = counted _ c.loop-part-test.true }
 
-loop_less : tie.Need-loop-smaller invariant-loop decreases-loop
-loop_less c = fewer _ c.before.before.before.before.before.before.loop-test.true
+loop_less : tie.Need-loop-part-smaller invariant-loop decreases-loop
+loop_less c = fewer _ c.loop-part-test.true
 
-loop_again : tie.Need-loop-preserved invariant-loop decreases-loop
+loop_again : tie.Need-loop-part-preserved invariant-loop decreases-loop
 loop_again c =
     let a = c.before.before.before.before.before.before.before.before.before.before.before.before.before in
     let p = a.requires in
-    let v = c.before.before.before.before.before.before.before.loop.invariant in
-    let l = c.before.before.before.before.before.before.loop-test.true in
-    let q = c.before.before.part_of_lem.ensures in
-    let g = c.grow-sixteen.ensures in
-    (within _ l, λ k e. part_more (digits a) p.0 (omega arith) _ (v.1 k e) c.before.before.before.before.marked.given.1 q.0 q.1 g)
+    let v = c.loop-part.invariant in
+    let l = c.loop-part-test.true in
+    let q = c.part_of-place.ensures in
+    let g = c.grow_sixteen-marked.ensures in
+    (within _ l, λ k e. part_more (digits a) p.0 (omega arith) _ (v.1 k e) c.in-Done.is q.0 q.1 g)
 
 -- all four
-returns-3 : tie.Need-returns-3 invariant-loop decreases-loop
+returns-3 : tie.Need-returns invariant-loop decreases-loop
 returns-3 c =
     let a = c.before.before.before.before.before.before.before in
-    let d = c.before.before.before.before.own-digit.ensures.divided (not-false _ c.before.before.if1.false) in
-    let v = c.before.loop.invariant in
-    divided_then d (part_all (digits a) a.requires.0 (omega arith) _ (v.1 _ d.answer) c.loop-test.false v.0)
+    let d = c.own_digit-own.ensures.divided (not-false _ c.if-not-own.false) in
+    let v = c.loop-part.invariant in
+    divided_then d (part_all (digits a) a.requires.0 (omega arith) _ (v.1 _ d.answer) c.loop-part-test.false v.0)
 
 pub grow_thirty_two_spec : {M : Type 1} → statement M
 grow_thirty_two_spec =

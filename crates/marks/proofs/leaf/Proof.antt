@@ -7,18 +7,18 @@ use Rattle.marks.specs.Stored.{counted}
 use Rattle.marks.proofs.leaf.Statement.{statement}
 use Rattle.marks.proofs.leaf.Tie as tie
 
-returns : tie.Need-returns
-returns c = ap (λ (v : Walk). counted c.before.before.args.n v.answer) (sym (past_x c.before.before.requires c.if1.true))
+returns : tie.Need-returns-then-w-x
+returns c = ap (λ (v : Walk). counted c.args.n v.answer) (sym (past_x c.requires c.if-w-x.true))
 
-returns-2 : tie.Need-returns-2
+returns-2 : tie.Need-returns-then-h-y
 returns-2 c =
     let s = c.before.before.before.before in
-    ap (λ (v : Walk). counted s.args.n v.answer) (sym (past_y s.requires c.before.before.if1.false c.if2.true))
+    ap (λ (v : Walk). counted s.args.n v.answer) (sym (past_y s.requires c.if-w-x.false c.if-h-y.true))
 
-returns-3 : tie.Need-returns-3
+returns-3 : tie.Need-returns
 returns-3 c =
     let s = c.before.before.before.before in
-    ap (λ (v : Walk). counted s.args.n v.answer) (sym (inside s.requires c.before.before.if1.false c.if2.false))
+    ap (λ (v : Walk). counted s.args.n v.answer) (sym (inside s.requires c.if-w-x.false c.if-h-y.false))
 
 pub leaf_spec : {M : Type 1} → statement M
 leaf_spec = tie.close (tie.spec (λ c. search rules) returns (λ c. search rules) returns-2 returns-3)

@@ -16,55 +16,55 @@ use Rattle.marks.proofs.Calls.{list_refused, list_done, lengths_told}
 use Rattle.marks.proofs.list_marks.Statement.{statement}
 use Rattle.marks.proofs.list_marks.Tie as tie
 
-size_told : (c : tie.Else1) → Sized c.before.before.before.before.args.w c.before.before.before.before.args.h
-size_told c = sized _ _ (sym c.before.Size-ok.ensures ∙ not-false _ c.if1.false)
+size_told : (c : tie.Else-not-size_ok) → Sized c.before.before.before.before.args.w c.before.before.before.before.args.h
+size_told c = sized _ _ (sym c.size_ok.ensures ∙ c.if-not-size_ok.false)
 
 -- the test of the lengths, as the rule has it
-lengths : (c : tie.After-roots-in) → let a = c.before.before.before.before.before.args in
-    (eqb (length a.splits.now) (1024 * c.roots-in.result) && eqb (length a.out.now) 85) ≡ list-call.lengths_ok a.w a.h (length a.splits.now) (length a.out.now)
+lengths : (c : tie.After-roots_in-roots) → let a = c.before.before.before.before.before.args in
+    (eqb (length a.splits.now) (1024 * c.roots_in.result) && eqb (length a.out.now) 85) ≡ list-call.lengths_ok a.w a.h (length a.splits.now) (length a.out.now)
 unfolding list-call.lengths_ok
-lengths c = ap (λ (n : ℕ). eqb (length c.before.before.before.before.before.args.splits.now) (1024 * n) && eqb
-    (length c.before.before.before.before.before.args.out.now) 85) c.roots-in.ensures.0
+lengths c = ap (λ (n : ℕ). eqb (length c.args.splits.now) (1024 * n) && eqb
+    (length c.args.out.now) 85) c.roots_in-roots.ensures.0
 
-in_picture : (c : tie.Else3) → c.before.before.before.before.before.before.before.args.root < root_count
+in_picture : (c : tie.Else-roots-root) → c.before.before.before.before.before.before.before.args.root < root_count
     c.before.before.before.before.before.before.before.args.w c.before.before.before.before.before.before.before.args.h
-in_picture c = omega (arith, c.if3.false, c.before.before.roots-in.ensures.0)
+in_picture c = omega (arith, c.if-roots-root.false, c.roots_in-roots.ensures.0)
 
-outside : (c : tie.Then3) → root_count c.before.before.before.before.before.before.before.args.w
+outside : (c : tie.Then-roots-root) → root_count c.before.before.before.before.before.before.before.args.w
     c.before.before.before.before.before.before.before.args.h ≤ c.before.before.before.before.before.before.before.args.root
-outside c = omega (arith, c.if3.true, c.before.before.roots-in.ensures.0)
+outside c = omega (arith, c.if-roots-root.true, c.roots_in-roots.ensures.0)
 
-returns : tie.Need-returns
+returns : tie.Need-returns-then-not-size_ok
 unfolding list-call.check
-returns c = list_refused _ Size (stops _ _ _ _ c.before.Size-ok.ensures c.if1.true)
+returns c = list_refused _ Size (stops _ _ _ _ c.size_ok.ensures c.if-not-size_ok.true-raw)
 
-returns-2 : tie.Need-returns-2
+returns-2 : tie.Need-returns-then-not-splits-roots
 unfolding list-call.check
 returns-2 c =
     list_refused _ Length
-    (goes_on _ _ _ _ _ c.before.before.before.Size-ok.ensures c.before.before.if1.false (stops _ _ _ _ (lengths c.before) c.if2.true))
+    (goes_on _ _ _ _ _ c.size_ok.ensures c.if-not-size_ok.false-raw (stops _ _ _ _ (lengths c.before) c.if-not-splits-roots.true-raw))
 
-returns-3 : tie.Need-returns-3
+returns-3 : tie.Need-returns-then-roots-root
 unfolding list-call.check
 returns-3 c =
     list_refused _ Block
-    (goes_on _ _ _ _ _ c.before.before.before.before.Size-ok.ensures c.before.before.before.if1.false
-    (goes_on _ _ _ _ _ (lengths c.before.before) c.before.if2.false
+    (goes_on _ _ _ _ _ c.size_ok.ensures c.if-not-size_ok.false-raw
+    (goes_on _ _ _ _ _ (lengths c.before.before) c.if-not-splits-roots.false-raw
     (at_refusal _ _ _ (le-ltb _ _ (outside c)))))
 
-root_marks_requires : tie.Need-root-marks-requires
+root_marks_requires : tie.Need-root_marks-requires
 root_marks_requires c κs =
-    let l = lengths_told _ _ _ _ (sym (lengths c.before.before.before) ∙ not-false _ c.before.before.if2.false) in
+    let l = lengths_told _ _ _ _ (sym (lengths c.before.before.before) ∙ c.if-not-splits-roots.false) in
     (size_told c.before.before.before.before, l.0, in_picture c.before, l.1)
 
-returns-4 : tie.Need-returns-4
+returns-4 : tie.Need-returns
 unfolding list-call.check
 returns-4 c =
     list_done _ _ _
-    (goes_on _ _ _ _ _ c.before.before.before.before.before.before.before.before.Size-ok.ensures c.before.before.before.before.before.before.before.if1.false
-    (goes_on _ _ _ _ _ (lengths c.before.before.before.before.before.before) c.before.before.before.before.before.if2.false
+    (goes_on _ _ _ _ _ c.size_ok.ensures c.if-not-size_ok.false-raw
+    (goes_on _ _ _ _ _ (lengths c.before.before.before.before.before.before) c.if-not-splits-roots.false-raw
     (past_refusal _ _ _ _ (lt-ltb _ _ (in_picture c.before.before.before.before)) refl)))
-    c.before.before.root-marks.ensures
+    c.root_marks.ensures
 
 pub list_marks_spec : {M : Type 1} → statement M
 list_marks_spec =

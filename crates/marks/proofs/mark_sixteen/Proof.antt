@@ -15,62 +15,62 @@ use Rattle.marks.proofs.Marking.{room_one, next_room, open_count, open_whole, op
 use Rattle.marks.proofs.mark_sixteen.Statement.{statement}
 use Rattle.marks.proofs.mark_sixteen.Tie as tie
 
-abbrev invariant-loop : tie.invariant-loop
+abbrev invariant-loop : tie.invariant-loop-part
 invariant-loop bytes w h at out₀ n count₀ part₀ out count part =
     (part ≤ 4)
     × (length out ≡ length out₀)
     × Listed (joined (parts (mend_byte bytes (w / 4) (h / 4)) (w / 4) (h / 4) (3 - 2) (at.x.0 / 4) (at.y.0 / 4)) part) out₀ count₀ out count
 
-abbrev decreases-loop : tie.decreases-loop
+abbrev decreases-loop : tie.decreases-loop-part
 decreases-loop bytes w h at out₀ n count₀ part₀ out count part = 4 - part
 
-own_mark_requires : tie.Need-own-mark-requires invariant-loop decreases-loop
-own_mark_requires c κs = let p = c.before.before.before.requires in (p.0, omega arith, p.1, room_one (halved p.0 (omega arith)) _ _ p.2)
+own_mark_requires : tie.Need-own_mark-own-requires invariant-loop decreases-loop
+own_mark_requires c κs = let p = c.requires in (p.0, omega arith, p.1, room_one (halved p.0 (omega arith)) _ _ p.2)
 
 -- not cut: its own mark is all that it has
-same_length : tie.Need-same-length invariant-loop decreases-loop
-same_length c = c.before.before.before.before.own-mark.auto.1.1.1.1.1.1.0
+same_length : tie.Need-shape_of-out-then-not-own invariant-loop decreases-loop
+same_length c = c.own_mark-own.auto.1.1.1.1.1.1.0
 
-returns : tie.Need-returns invariant-loop decreases-loop
+returns : tie.Need-returns-then-not-own invariant-loop decreases-loop
 returns c =
     let a = c.before.before.before.before.before.before.before.before in
-    open_whole a.args.bytes.now a.requires.0 c.before.before.before.before.own-mark.ensures (not-true _ c.if1.true)
+    open_whole a.args.bytes.now a.requires.0 c.own_mark-own.ensures (not-true _ c.if-not-own.true)
 
 -- the loop over the four parts
-loop_holds : tie.Need-loop-init invariant-loop decreases-loop
+loop_holds : tie.Need-loop-part-init invariant-loop decreases-loop
 loop_holds c = let a = c.before.before.before.before.before.before.before.before in (zero-le, refl, no_part a.args.bytes.now a.requires.0 _ _)
 
-part_of_requires : tie.Need-part-of-requires invariant-loop decreases-loop
-part_of_requires c κs = let z = halved c.before.before.before.before.before.before.before.before.before.before.requires.0 (omega arith) in (z.right, z.bottom, c.loop-test.true)
+part_of_requires : tie.Need-part_of-place-requires invariant-loop decreases-loop
+part_of_requires c κs = let z = halved c.requires.0 (omega arith) in (z.right, z.bottom, c.loop-part-test.true)
 
-own_mark_requires_2 : tie.Need-own-mark-requires-2 invariant-loop decreases-loop
+own_mark_requires_2 : tie.Need-own_mark-eight-requires invariant-loop decreases-loop
 own_mark_requires_2 c κs =
     let a = c.before.before.before.before.before.before.before.before.before.before.before.before in
     let p = a.requires in
     let z = halved p.0 (omega arith) in
-    let v = c.before.before.before.loop.invariant in
-    let l = c.before.before.loop-test.true in
-    let q = c.before.part_of_lem.ensures in
-    let m = c.before.before.before.before.before.before.before.before.own-mark in
+    let v = c.loop-part.invariant in
+    let l = c.loop-part-test.true in
+    let q = c.part_of-place.ensures in
+    let m = c.own_mark-own in
     let k = open_count a.args.bytes.now p.0 m.ensures in
     let r = m.auto.1.1.1.1.1.1.0 in
     let b = part_block z _ _ _ l q.0 q.1 in
-    let f = few_parts a.args.bytes.now p.0 c.before.before.before.loop.part in
+    let f = few_parts a.args.bytes.now p.0 c.loop-part.part in
     (b, omega arith, p.1, room_one (halved b (omega arith)) _ _ (next_room _ _ _ _ _ _ l f v.2.count (omega (arith, v.1, r, k, z.room, p.2))))
 
-add_part : tie.Need-overflow-add-part invariant-loop decreases-loop
-add_part c = record { fits = counted _ c.before.before.before.before.before.loop-test.true }
+add_part : tie.Need-overflow_add-part invariant-loop decreases-loop
+add_part c = record { fits = counted _ c.loop-part-test.true }
 
-loop_less : tie.Need-loop-smaller invariant-loop decreases-loop
-loop_less c = fewer _ c.before.before.before.before.before.loop-test.true
+loop_less : tie.Need-loop-part-smaller invariant-loop decreases-loop
+loop_less c = fewer _ c.loop-part-test.true
 
-loop_again : tie.Need-loop-preserved invariant-loop decreases-loop
+loop_again : tie.Need-loop-part-preserved invariant-loop decreases-loop
 loop_again c =
     let a = c.before.before.before.before.before.before.before.before.before.before.before.before.before.before.before in
-    let v = c.before.before.before.before.before.before.loop.invariant in
-    let l = c.before.before.before.before.before.loop-test.true in
-    let q = c.before.before.before.before.part_of_lem.ensures in
-    let m = c.before.before.own-mark2 in
+    let v = c.loop-part.invariant in
+    let l = c.loop-part-test.true in
+    let q = c.part_of-place.ensures in
+    let m = c.own_mark-eight in
     let b = part_block (halved a.requires.0 (omega arith)) _ _ _ l q.0 q.1 in (
       within _ l,
       m.auto.1.1.1.1.1.1.0 ∙ v.1,
@@ -78,15 +78,15 @@ loop_again c =
     )
 
 -- all four
-same_length_2 : tie.Need-same-length-2 invariant-loop decreases-loop
-same_length_2 c = c.before.loop.invariant.1 ∙ c.before.before.before.before.before.before.own-mark.auto.1.1.1.1.1.1.0
+same_length_2 : tie.Need-shape_of-out invariant-loop decreases-loop
+same_length_2 c = c.loop-part.invariant.1 ∙ c.own_mark-own.auto.1.1.1.1.1.1.0
 
-returns-2 : tie.Need-returns-2 invariant-loop decreases-loop
+returns-2 : tie.Need-returns invariant-loop decreases-loop
 returns-2 c =
     let a = c.before.before.before.before.before.before.before.before.before.before in
-    let v = c.before.loop.invariant in
-    open_cut a.args.bytes.now a.requires.0 c.before.before.before.before.before.before.own-mark.ensures (not-false _ c.before.before.if1.false)
-    (part_all a.args.bytes.now a.requires.0 (omega arith) _ v.2 c.loop-test.false v.0)
+    let v = c.loop-part.invariant in
+    open_cut a.args.bytes.now a.requires.0 c.own_mark-own.ensures (not-false _ c.if-not-own.false)
+    (part_all a.args.bytes.now a.requires.0 (omega arith) _ v.2 c.loop-part-test.false v.0)
 
 pub mark_sixteen_spec : {M : Type 1} → statement M
 mark_sixteen_spec =

@@ -17,50 +17,50 @@ abbrev digits : (c : tie.Start) → List ℕ
 digits c = bits_from c.args.src.now c.args.from c.args.count
 
 -- the block starts in the picture
-inside : (c : tie.Else1) → let a = c.before.before.before.before.args in (a.at.x.0 < a.w) × (a.at.y.0 < a.h)
-inside c = started _ _ _ _ c.if1.false
+inside : (c : tie.Else-w-at) → let a = c.before.before.before.before.args in (a.at.x.0 < a.w) × (a.at.y.0 < a.h)
+inside c = started _ _ _ _ c.if-w-at.false
 
 -- a digit was read
-some : (c : tie.After-get-bit) → let a = c.before.before.before.before.before.before in a.args.n < length (digits a)
-some c = let a = c.before.before.before.before.before.before.args in subst (λ (m : ℕ). a.n < m) (sym (digits_long _ a.from a.count)) c.before.if2.false
+some : (c : tie.After-get_bit-byte) → let a = c.before.before.before.before.before.before in a.args.n < length (digits a)
+some c = let a = c.args in subst (λ (m : ℕ). a.n < m) (sym (digits_long _ a.from a.count)) c.if-count-n.false
 
-digit : (c : tie.After-get-bit) → let a = c.before.before.before.before.before.before in c.get-bit.result ≡ get_or (digits a) a.args.n 0
-digit c = let a = c.before.before.before.before.before.before.args in c.get-bit.ensures ∙ digit_at_lem _ a.from a.count _ c.before.if2.false
+digit : (c : tie.After-get_bit-byte) → let a = c.before.before.before.before.before.before in c.get_bit.result ≡ get_or (digits a) a.args.n 0
+digit c = let a = c.args in c.get_bit-byte.ensures ∙ digit_at_lem _ a.from a.count _ c.if-count-n.false
 
-small : (c : tie.After-get-bit) → c.get-bit.result < 2
-small c = subst (λ (b : ℕ). b < 2) (sym c.get-bit.ensures) (bit_small _ _)
+small : (c : tie.After-get_bit-byte) → c.get_bit.result < 2
+small c = subst (λ (b : ℕ). b < 2) (sym c.get_bit-byte.ensures) (bit_small _ _)
 
-returns : tie.Need-returns
-returns c = let a = c.before.before.before.before in began_whole (grew_quiet _ _ (skip (digits a) a.args.n a.requires.0 c.if1.true))
+returns : tie.Need-returns-then-w-at
+returns c = let a = c.before.before.before.before in began_whole (grew_quiet _ _ (skip (digits a) a.args.n a.requires.0 c.if-w-at.true))
 
-returns-2 : tie.Need-returns-2
+returns-2 : tie.Need-returns-then-count-n
 returns-2 c =
     let a = c.before.before.before.before.before in
     let i = inside c.before in
-    let l = subst (λ (m : ℕ). m ≤ a.args.n) (sym (digits_long _ a.args.from a.args.count)) c.if2.true in
+    let l = subst (λ (m : ℕ). m ≤ a.args.n) (sym (digits_long _ a.args.from a.args.count)) c.if-count-n.true in
     began_whole (grew_as (short (digits a) _ a.requires.0 a.requires.1 i.0 i.1 l) (grew_short _ _))
 
-put_mark_requires : tie.Need-put-mark-requires
-put_mark_requires c κs = (c.before.byte-place.ensures.1, small c.before.before, search rules)
+put_mark_requires : tie.Need-put_mark-next-requires
+put_mark_requires c κs = (c.byte_place-place.ensures.1, small c.before.before, search rules)
 
-returns-3 : tie.Need-returns-3
+returns-3 : tie.Need-returns-then-byte-eq0
 returns-3 c =
     let a = c.before.before.before.before.before.before.before.before.before.before.before in
     let i = inside c.before.before.before.before.before.before.before in
     let b = c.before.before.before.before.before in
-    let p = c.before.before.before.before.byte-place.ensures.0 in
+    let p = c.byte_place-place.ensures.0 in
     began_whole
-    (grew_as (whole (digits a) _ a.requires.0 a.requires.1 i.0 i.1 (some b) _ _ p (digit b) c.before.if3.true)
-    (grew_leaf c.before.before.put-mark.ensures c.leaf.ensures))
+    (grew_as (whole (digits a) _ a.requires.0 a.requires.1 i.0 i.1 (some b) _ _ p (digit b) c.if-byte-eq0.true)
+    (grew_leaf c.put_mark-next.ensures c.leaf.ensures))
 
-returns-4 : tie.Need-returns-4
+returns-4 : tie.Need-returns
 returns-4 c =
     let a = c.before.before.before.before.before.before.before.before.before.before in
     let i = inside c.before.before.before.before.before.before in
     let b = c.before.before.before.before in
     began_cut
-    (divided (digits a) _ a.requires.0 a.requires.1 i.0 i.1 (some b) _ _ c.before.before.before.byte-place.ensures.0 (digit b)
-    c.before.put-mark.ensures (only_one _ (small b) c.if3.false))
+    (divided (digits a) _ a.requires.0 a.requires.1 i.0 i.1 (some b) _ _ c.byte_place-place.ensures.0 (digit b)
+    c.put_mark-next.ensures (only_one _ (small b) c.if-byte-eq0.false))
 
 pub own_digit_spec : {M : Type 1} → statement M
 own_digit_spec =

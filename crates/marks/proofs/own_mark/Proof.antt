@@ -7,20 +7,20 @@ use Rattle.marks.proofs.Marking.{opened_none, opened}
 use Rattle.marks.proofs.own_mark.Statement.{statement}
 use Rattle.marks.proofs.own_mark.Tie as tie
 
-returns : tie.Need-returns
-returns c = opened_none c.before.before.before.before.before.args.bytes.now c.before.before.before.before.before.requires.0 c.if1.true _ _
+returns : tie.Need-returns-then-w-at
+returns c = opened_none c.args.bytes.now c.requires.0 c.if-w-at.true _ _
 
 -- the block starts in the picture
-inside : (c : tie.Else1) → let a = c.before.before.before.before.before.args in (a.at.x.0 < a.w) × (a.at.y.0 < a.h)
-inside c = started _ _ _ _ c.if1.false
+inside : (c : tie.Else-w-at) → let a = c.before.before.before.before.before.args in (a.at.x.0 < a.w) × (a.at.y.0 < a.h)
+inside c = started _ _ _ _ c.if-w-at.false
 
-returns-2 : tie.Need-returns-2
+returns-2 : tie.Need-returns
 returns-2 c =
     let a = c.before.before.before.before.before.before.before.before.before.before.before.before in
     let i = inside c.before.before.before.before.before.before.before in
-    let m = c.before.before.before.before.mended.ensures in
-    let b = c.before.before.before.before.before.before.byte-place.ensures in
-    opened a.args.bytes.now a.requires.0 a.requires.1 i.0 i.1 _ _ b.0 m.0 c.before.before.put-mark.ensures m.1
+    let m = c.mended-byte.ensures in
+    let b = c.byte_place-place.ensures in
+    opened a.args.bytes.now a.requires.0 a.requires.1 i.0 i.1 _ _ b.0 m.0 c.put_mark.ensures m.1
 
 pub own_mark_spec : {M : Type 1} → statement M
 own_mark_spec =

@@ -18,7 +18,7 @@ part_of_spec =
     tie.close
     (tie.spec
     (λ c. omega (arith, column c, row c, c.requires))
-    (λ c. omega (arith, column c.before, row c.before, c.before.requires))
-    (λ c. omega (arith, column c.before, row c.before, c.before.requires))
-    (λ c. omega (arith, column c.before.before, row c.before.before, c.before.before.requires))
+    (λ c. omega (arith, column c.before, row c.before, c.requires))
+    (λ c. omega (arith, column c.before, row c.before, c.requires))
+    (λ c. omega (arith, column c.before.before, row c.before.before, c.requires))
     (λ c. search rules))

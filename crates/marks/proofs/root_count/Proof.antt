@@ -10,14 +10,14 @@ use Rattle.laws.specs.Index.{pick}
 use Rattle.marks.proofs.root_count.Statement.{statement}
 use Rattle.marks.proofs.root_count.Tie as tie
 
-returns : tie.Need-returns
-returns c = ap (λ (t : Bool). pick t (root_count c.before.before.args.w c.before.before.args.h) 0) (sym (sym c.before.Size-ok.ensures ∙ not-true _ c.if1.true))
+returns : tie.Need-returns-then-not-size_ok
+returns c = ap (λ (t : Bool). pick t (root_count c.args.w c.args.h) 0) (sym (sym c.size_ok.ensures ∙ c.if-not-size_ok.true))
 
-returns-2 : tie.Need-returns-2
+returns-2 : tie.Need-returns
 returns-2 c =
-    c.roots-in.ensures.0
-    ∙ ap (λ (t : Bool). pick t (root_count c.before.before.before.args.w c.before.before.before.args.h) 0)
-    (sym (sym c.before.before.Size-ok.ensures ∙ not-false _ c.before.if1.false))
+    c.roots_in.ensures.0
+    ∙ ap (λ (t : Bool). pick t (root_count c.args.w c.args.h) 0)
+    (sym (sym c.size_ok.ensures ∙ c.if-not-size_ok.false))
 
 pub root_count_spec : {M : Type 1} → statement M
 root_count_spec =
@@ -25,5 +25,5 @@ root_count_spec =
     (tie.spec
     (λ c κs. search rules)
     returns
-    (λ c κs. sized _ _ (sym c.before.Size-ok.ensures ∙ not-false _ c.if1.false))
+    (λ c κs. sized _ _ (sym c.size_ok.ensures ∙ c.if-not-size_ok.false))
     returns-2)

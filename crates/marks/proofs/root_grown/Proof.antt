@@ -12,27 +12,27 @@ use Rattle.marks.proofs.root_grown.Statement.{statement}
 use Rattle.marks.proofs.root_grown.Tie as tie
 
 -- how many digits there are
-count_is : (c : tie.Joined1) → c.if1.count ≡ c.before.before.args.to - c.before.before.args.from
-count_is c = ⊎_elim (λ u. omega (arith, u)) (λ u. omega (arith, u)) c.if1.branch
+count_is : (c : tie.Joined-from-to) → c.if1.count ≡ c.before.before.args.to - c.before.before.args.from
+count_is c = ⊎_elim (λ u. omega (arith, u)) (λ u. omega (arith, u)) c.if-from-to.branch
 
-root_place_requires : tie.Need-root-place-requires
+root_place_requires : tie.Need-root_place-at-requires
 root_place_requires c κs =
-    let p = c.before.before.requires in
-    (omega (arith, p.0), p.0.wide, omega (arith, p.1, few_roots c.before.before.args.w c.before.before.args.h p.0.wide p.0.high))
+    let p = c.requires in
+    (omega (arith, p.0), p.0.wide, omega (arith, p.1, few_roots c.args.w c.args.h p.0.wide p.0.high))
 
-grow_sixty_four_requires : tie.Need-grow-sixty-four-requires
+grow_sixty_four_requires : tie.Need-grow_sixty_four-requires
 unfolding blocks_in
 grow_sixty_four_requires c κs =
-    let p = c.before.before.before.before.requires in
-    let q = c.before.root-place.ensures in
-    (root_at p.0 _ p.1 q.0 q.1, ⊎_elim (λ u. omega (arith, u)) (λ u. omega (arith, u)) c.before.before.if1.branch, omega arith)
+    let p = c.requires in
+    let q = c.root_place-at.ensures in
+    (root_at p.0 _ p.1 q.0 q.1, ⊎_elim (λ u. omega (arith, u)) (λ u. omega (arith, u)) c.if-from-to.branch, omega arith)
 
 returns : tie.Need-returns
 returns c =
     let a = c.before.before.before.before.before in
-    let q = c.before.before.root-place.ensures in
+    let q = c.root_place-at.ensures in
     grew_between _ _ a.args.i a.args.from a.args.to a.args.src.now
-    (count_is c.before.before.before) (grew_as (root_grown a.requires.0 a.args.i _ q.0 q.1) c.grow-sixty-four.ensures)
+    (count_is c.before.before.before) (grew_as (root_grown a.requires.0 a.args.i _ q.0 q.1) c.grow_sixty_four.ensures)
 
 pub root_grown_spec : {M : Type 1} → statement M
 root_grown_spec = tie.close (tie.spec (λ c. search rules) root_place_requires grow_sixty_four_requires returns)

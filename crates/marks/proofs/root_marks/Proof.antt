@@ -13,27 +13,27 @@ use Rattle.marks.proofs.root_marks.Tie as tie
 small : (c : tie.Start) → c.args.i < 4096
 small c = omega (arith, c.requires.2, few_roots c.args.w c.args.h c.requires.0.wide c.requires.0.high)
 
-mul_start : tie.Need-overflow-mul-start
+mul_start : tie.Need-overflow_mul-start
 mul_start c = omega (arith, small c.before.before)
 
-add_end : tie.Need-overflow-add-end
+add_end : tie.Need-overflow_add-end
 add_end c = omega (arith, small c.before.before)
 
-root_place_requires : tie.Need-root-place-requires
-root_place_requires c κs = let p = c.before.before.requires in (omega (arith, p.0), p.0.wide, small c.before.before)
+root_place_requires : tie.Need-root_place-at-requires
+root_place_requires c κs = let p = c.requires in (omega (arith, p.0), p.0.wide, small c.before.before)
 
-mark_sixty_four_requires : tie.Need-mark-sixty-four-requires
+mark_sixty_four_requires : tie.Need-mark_sixty_four-requires
 unfolding blocks_in
 mark_sixty_four_requires c κs =
-    let p = c.before.before.before.before.before.requires in
-    let q = c.before.before.root-place.ensures in
+    let p = c.requires in
+    let q = c.root_place-at.ensures in
     (root_at p.0 _ p.2 q.0 q.1, bytes_long p.0 _ _ p.2 p.1, omega (arith, p.3))
 
 returns : tie.Need-returns
 returns c =
     let a = c.before.before.before.before.before.before.before.before in
-    let q = c.before.before.before.before.before.root-place.ensures in
-    listed_as (root_listed a.requires.0 a.args.i a.args.splits.now q.0 q.1) c.before.before.mark-sixty-four.ensures
+    let q = c.root_place-at.ensures in
+    listed_as (root_listed a.requires.0 a.args.i a.args.splits.now q.0 q.1) c.mark_sixty_four.ensures
 
 pub root_marks_spec : {M : Type 1} → statement M
 root_marks_spec =

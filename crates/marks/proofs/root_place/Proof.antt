@@ -7,16 +7,16 @@ use borrow.Author.Rules.{rules}
 use Rattle.marks.proofs.root_place.Statement.{statement}
 use Rattle.marks.proofs.root_place.Tie as tie
 
-mul_t5 : tie.Need-overflow-mul-t5
-mul_t5 c = omega (arith, mod-le c.before.args.i c.roots-along.result, c.before.requires)
+mul_t5 : tie.Need-overflow_mul-result
+mul_t5 c = omega (arith, mod-le c.args.i c.roots_along-across.result, c.requires)
 
-mul_t8 : tie.Need-overflow-mul-t8
-mul_t8 c = omega (arith, div-le_self c.before.args.i c.roots-along.result, c.before.requires)
+mul_t8 : tie.Need-overflow_mul-result-2
+mul_t8 c = omega (arith, div-le_self c.args.i c.roots_along-across.result, c.requires)
 
 returns : tie.Need-returns
 returns c = (
-  ap (λ (n : ℕ). 64 * (c.before.args.i % n)) c.roots-along.ensures,
-  ap (λ (n : ℕ). 64 * (c.before.args.i / n)) c.roots-along.ensures,
+  ap (λ (n : ℕ). 64 * (c.args.i % n)) c.roots_along-across.ensures,
+  ap (λ (n : ℕ). 64 * (c.args.i / n)) c.roots_along-across.ensures,
 )
 
 pub root_place_spec : {M : Type 1} → statement M

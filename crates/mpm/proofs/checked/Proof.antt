@@ -30,42 +30,42 @@ rest2 i = unless (unit_ok i.w i.h i.x i.y) (Refused Block) (rest3 i)
 abbrev rest1 : Input → Answer
 rest1 i = unless (lengths_ok i.w i.h (length i.words) (length i.modes) (length i.table)) (Refused Length) (rest2 i)
 
-past1 : (c : tie.Else1) (r : Answer) → let i = of c.before.before.before.before.before in r ≡ rest1 i → r ≡ check i
+past1 : (c : tie.Else-not-size_ok) (r : Answer) → let i = of c.before.before.before.before.before in r ≡ rest1 i → r ≡ check i
 unfolding check
-past1 c r p = goes_on _ _ _ _ r c.before.Size-ok.ensures c.if1.false p
+past1 c r p = goes_on _ _ _ _ r c.size_ok.ensures c.if-not-size_ok.false-raw p
 
-past2 : (c : tie.Else2) (r : Answer) → let i = of c.before.before.before.before.before.before.before in r ≡ rest2 i → r ≡ check i
-past2 c r p = past1 c.before.before r (goes_on _ _ _ _ r c.before.lengths-ok.ensures c.if2.false p)
+past2 : (c : tie.Else-not-lengths_ok) (r : Answer) → let i = of c.before.before.before.before.before.before.before in r ≡ rest2 i → r ≡ check i
+past2 c r p = past1 c.before.before r (goes_on _ _ _ _ r c.lengths_ok.ensures c.if-not-lengths_ok.false-raw p)
 
-past3 : (c : tie.Else3) (r : Answer) → let i = of c.before.before.before.before.before.before.before.before.before in r ≡ rest3 i → r ≡ check i
-past3 c r p = past2 c.before.before r (goes_on _ _ _ _ r c.before.unit_ok.ensures c.if3.false p)
+past3 : (c : tie.Else-not-unit_ok) (r : Answer) → let i = of c.before.before.before.before.before.before.before.before.before in r ≡ rest3 i → r ≡ check i
+past3 c r p = past2 c.before.before r (goes_on _ _ _ _ r c.unit_ok.ensures c.if-not-unit_ok.false-raw p)
 
-returns : tie.Need-returns
+returns : tie.Need-returns-then-not-size_ok
 unfolding check
-returns c = stops _ _ _ _ c.before.Size-ok.ensures c.if1.true
+returns c = stops _ _ _ _ c.size_ok.ensures c.if-not-size_ok.true-raw
 
-lengths_ok_requires : tie.Need-lengths-ok-requires
+lengths_ok_requires : tie.Need-lengths_ok-requires
 lengths_ok_requires c κs =
-    let s = sized _ _ (sym c.before.Size-ok.ensures ∙ not-false _ c.if1.false) in
+    let s = sized _ _ (sym c.size_ok.ensures ∙ c.if-not-size_ok.false) in
     (s.wide, s.high)
 
-returns-2 : tie.Need-returns-2
-returns-2 c = past1 c.before.before _ (stops _ _ _ _ c.before.lengths-ok.ensures c.if2.true)
+returns-2 : tie.Need-returns-then-not-lengths_ok
+returns-2 c = past1 c.before.before _ (stops _ _ _ _ c.lengths_ok.ensures c.if-not-lengths_ok.true-raw)
 
-returns-3 : tie.Need-returns-3
-returns-3 c = past2 c.before.before _ (stops _ _ _ _ c.before.unit_ok.ensures c.if3.true)
+returns-3 : tie.Need-returns-then-not-unit_ok
+returns-3 c = past2 c.before.before _ (stops _ _ _ _ c.unit_ok.ensures c.if-not-unit_ok.true-raw)
 
-modes_ok_requires : tie.Need-modes-ok-requires
+modes_ok_requires : tie.Need-modes_ok-requires
 modes_ok_requires c κs =
-    let k = placed _ _ _ _ (sym c.before.unit_ok.ensures ∙ not-false _ c.if3.false) in
+    let k = placed _ _ _ _ (sym c.unit_ok.ensures ∙ c.if-not-unit_ok.false) in
     let d = c.before.before in
-    unit_of_lem _ _ _ _ _ _ _ (sym d.before.lengths-ok.ensures ∙ not-false _ d.if2.false) k.column k.row
+    unit_of_lem _ _ _ _ _ _ _ (sym d.lengths_ok.ensures ∙ d.if-not-lengths_ok.false) k.column k.row
 
-returns-4 : tie.Need-returns-4
-returns-4 c = past3 c.before.before _ (stops _ _ _ _ c.before.modes_ok_lem.ensures c.if4.true)
+returns-4 : tie.Need-returns-then-not-modes_ok
+returns-4 c = past3 c.before.before _ (stops _ _ _ _ c.modes_ok.ensures c.if-not-modes_ok.true-raw)
 
-returns-5 : tie.Need-returns-5
-returns-5 c = past3 c.before.before _ (goes_on _ _ _ _ _ c.before.modes_ok_lem.ensures c.if4.false refl)
+returns-5 : tie.Need-returns
+returns-5 c = past3 c.before.before _ (goes_on _ _ _ _ _ c.modes_ok.ensures c.if-not-modes_ok.false-raw refl)
 
 pub checked_spec : {M : Type 1} → statement M
 checked_spec =

@@ -6,7 +6,7 @@ use Rattle.def.proofs.Units.{few_units}
 use Rattle.mpm.proofs.lengths_ok.Statement.{statement}
 use Rattle.mpm.proofs.lengths_ok.Tie as tie
 
-mul_units : tie.Need-overflow-mul-units
+mul_units : tie.Need-overflow_mul-units
 mul_units c = omega (arith, few_units c.args.w c.args.h c.requires.0 c.requires.1)
 
 returns : tie.Need-returns

@@ -6,13 +6,13 @@ use Rattle.mpm.proofs.Modes.{mode_small}
 use Rattle.mpm.proofs.mode_index.Statement.{statement}
 use Rattle.mpm.proofs.mode_index.Tie as tie
 
-returns : tie.Need-returns
-returns c = (rw (eq-eqb _ _ c.if1.true), omega arith)
+returns : tie.Need-returns-then-mode-eq255
+returns c = (rw (eq-eqb _ _ c.if-mode-eq255.true), omega arith)
 
-returns-2 : tie.Need-returns-2
+returns-2 : tie.Need-returns
 returns-2 c =
-    let f = ne_eqb _ _ c.if1.false in
-    (rw f, omega (arith, mode_small c.before.args.mode f c.before.requires))
+    let f = ne_eqb _ _ c.if-mode-eq255.false in
+    (rw f, omega (arith, mode_small c.args.mode f c.requires))
 
 pub mode_index_spec : {M : Type 1} → statement M
 mode_index_spec = tie.close (tie.spec returns (λ c. search rules) returns-2)

@@ -8,7 +8,7 @@ returns : tie.Need-returns
 unfolding modes_ok
 returns c =
     let l = c.before.before in
-    rw (l.mode-ok.ensures, l.before.left-mode.ensures, c.mode-ok2.ensures, c.before.up-mode.ensures)
+    rw (l.mode_ok.ensures, l.left_mode.ensures, c.mode_ok-2.ensures, c.up_mode.ensures)
 
 pub modes_ok_spec : {M : Type 1} → statement M
 modes_ok_spec =

@@ -7,17 +7,17 @@ use Rattle.mpm.proofs.Modes.{left_ok, up_ok}
 use Rattle.mpm.proofs.row_start.Statement.{statement}
 use Rattle.mpm.proofs.row_start.Tie as tie
 
-mode_index_requires : tie.Need-mode-index-requires
-mode_index_requires c κs = ap mode_ok c.left-mode.ensures ∙ left_ok _ _ _ _ _ c.before.before.before.requires.1
+mode_index_requires : tie.Need-mode_index-l-requires
+mode_index_requires c κs = ap mode_ok c.left_mode.ensures ∙ left_ok _ _ _ _ _ c.requires.1
 
-mode_index_requires_2 : tie.Need-mode-index-requires-2
-mode_index_requires_2 c κs = ap mode_ok c.up-mode.ensures ∙ up_ok _ _ _ _ _ c.before.before.before.before.before.requires.1
+mode_index_requires_2 : tie.Need-mode_index-u-requires
+mode_index_requires_2 c κs = ap mode_ok c.up_mode.ensures ∙ up_ok _ _ _ _ _ c.requires.1
 
 returns : tie.Need-returns
 unfolding row_start
 returns c =
     let l = c.before.before in
-    (rw (l.mode-index.ensures.0 ∙ ap mode_index l.before.left-mode.ensures, c.mode-index2.ensures.0 ∙ ap mode_index c.before.up-mode.ensures), omega arith)
+    (rw (l.mode_index-l.ensures.0 ∙ ap mode_index l.left_mode.ensures, c.mode_index-u.ensures.0 ∙ ap mode_index c.up_mode.ensures), omega arith)
 
 pub row_start_spec : {M : Type 1} → statement M
 row_start_spec =

@@ -12,11 +12,11 @@ returns c =
     let corner = up.before in
     let left = corner.before in
     record {
-      left = left.left-arm.ensures;
-      corner = corner.corner-arm.ensures;
-      up = up.up-arm.ensures;
+      left = left.left_arm-left.ensures;
+      corner = corner.corner_arm-corner.ensures;
+      up = up.up_arm-up.ensures;
       units = refl;
-      n = n.in-component.ensures ∙ unit_scaled left.before.args.block.component;
+      n = n.in_component-n.ensures ∙ unit_scaled left.args.block.component;
     }
 
 pub border_of_spec : {M : Type 1} → statement M

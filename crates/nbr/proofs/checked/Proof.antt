@@ -37,52 +37,52 @@ rest2 b run = unless (block_ok b.w b.h b.x.0 b.y.0 b.side) (Refused refusal.Bloc
 abbrev rest1 : Block → (plane words run : ℕ) → Answer
 rest1 b plane words run = unless (lengths_ok b.component b.w b.h plane words) (Refused Length) (rest2 b run)
 
-past1 : (c : tie.Else1) (r : Answer) → let s = c.before.before in r ≡ rest1 s.args.block s.args.plane s.args.words s.args.run → r ≡ found s
+past1 : (c : tie.Else-not-size_ok) (r : Answer) → let s = c.before.before in r ≡ rest1 s.args.block s.args.plane s.args.words s.args.run → r ≡ found s
 unfolding form_of
-past1 c r p = goes_on _ _ _ _ r c.before.Size-ok.ensures c.if1.false p
+past1 c r p = goes_on _ _ _ _ r c.size_ok.ensures c.if-not-size_ok.false-raw p
 
-past2 : (c : tie.Else2) (r : Answer) → let s = c.before.before.before.before in r ≡ rest2 s.args.block s.args.run → r ≡ found s
-past2 c r p = past1 c.before.before r (goes_on _ _ _ _ r c.before.lengths-ok.ensures c.if2.false p)
+past2 : (c : tie.Else-not-lengths_ok) (r : Answer) → let s = c.before.before.before.before in r ≡ rest2 s.args.block s.args.run → r ≡ found s
+past2 c r p = past1 c.before.before r (goes_on _ _ _ _ r c.lengths_ok.ensures c.if-not-lengths_ok.false-raw p)
 
-past3 : (c : tie.Else3) (r : Answer) → let s = c.before.before.before.before.before.before in r ≡ rest3 s.args.block s.args.run → r ≡ found s
-past3 c r p = past2 c.before.before r (goes_on _ _ _ _ r c.before.block_ok_lem.ensures c.if3.false p)
+past3 : (c : tie.Else-not-block_ok) (r : Answer) → let s = c.before.before.before.before.before.before in r ≡ rest3 s.args.block s.args.run → r ≡ found s
+past3 c r p = past2 c.before.before r (goes_on _ _ _ _ r c.block_ok.ensures c.if-not-block_ok.false-raw p)
 
-returns : tie.Need-returns
+returns : tie.Need-returns-then-not-size_ok
 unfolding form_of
-returns c = stops _ _ _ _ c.before.Size-ok.ensures c.if1.true
+returns c = stops _ _ _ _ c.size_ok.ensures c.if-not-size_ok.true-raw
 
-lengths_ok_requires : tie.Need-lengths-ok-requires
+lengths_ok_requires : tie.Need-lengths_ok-requires
 lengths_ok_requires c κs =
-    let s = sized _ _ (sym c.before.Size-ok.ensures ∙ not-false _ c.if1.false) in
+    let s = sized _ _ (sym c.size_ok.ensures ∙ c.if-not-size_ok.false) in
     (s.wide, s.high)
 
-returns-2 : tie.Need-returns-2
-returns-2 c = past1 c.before.before _ (stops _ _ _ _ c.before.lengths-ok.ensures c.if2.true)
+returns-2 : tie.Need-returns-then-not-lengths_ok
+returns-2 c = past1 c.before.before _ (stops _ _ _ _ c.lengths_ok.ensures c.if-not-lengths_ok.true-raw)
 
-returns-3 : tie.Need-returns-3
-returns-3 c = past2 c.before.before _ (stops _ _ _ _ c.before.block_ok_lem.ensures c.if3.true)
+returns-3 : tie.Need-returns-then-not-block_ok
+returns-3 c = past2 c.before.before _ (stops _ _ _ _ c.block_ok.ensures c.if-not-block_ok.true-raw)
 
 -- the block's side in the component is small
-short : (c : tie.After-in-component) → c.in-component.result ≤ 64
+short : (c : tie.After-in_component) → c.in_component.result ≤ 64
 short c =
-    let k = blocked _ _ _ _ _ (sym c.before.before.block_ok_lem.ensures ∙ not-false _ c.before.if3.false) in
-    rw c.in-component.ensures (scaled_le c.before.before.before.before.before.before.before.args.block.component _ 64 k.most)
+    let k = blocked _ _ _ _ _ (sym c.block_ok.ensures ∙ c.if-not-block_ok.false) in
+    rw c.in_component.ensures (scaled_le c.args.block.component _ 64 k.most)
 
-mul_if4 : tie.Need-overflow-mul-if4
+mul_if4 : tie.Need-overflow_mul-in_component
 mul_if4 c = omega (arith, short c)
 
-add_if4 : tie.Need-overflow-add-if4
+add_if4 : tie.Need-overflow_add-in_component
 add_if4 c = omega (arith, short c)
 
-returns-4 : tie.Need-returns-4
+returns-4 : tie.Need-returns-then-run-in_component
 returns-4 c =
     past3 c.before.before _
-    (at_refusal _ _ _ (ne_eqb _ _ (λ e. c.if4.true (e ∙ sym (ap (λ (n : ℕ). 4 * n + 1) c.before.in-component.ensures)))))
+    (at_refusal _ _ _ (ne_eqb _ _ (λ e. c.if-run-in_component.true (e ∙ sym (ap (λ (n : ℕ). 4 * n + 1) c.in_component.ensures)))))
 
-returns-5 : tie.Need-returns-5
+returns-5 : tie.Need-returns
 returns-5 c =
     past3 c.before.before _
-    (past_refusal _ _ _ _ (eq-eqb _ _ (c.if4.false ∙ ap (λ (n : ℕ). 4 * n + 1) c.before.in-component.ensures)) refl)
+    (past_refusal _ _ _ _ (eq-eqb _ _ (c.if-run-in_component.false ∙ ap (λ (n : ℕ). 4 * n + 1) c.in_component.ensures)) refl)
 
 pub checked_spec : {M : Type 1} → statement M
 checked_spec =

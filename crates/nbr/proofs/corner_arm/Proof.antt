@@ -7,27 +7,27 @@ use Rattle.nbr.proofs.corner_arm.Statement.{statement}
 use Rattle.nbr.proofs.corner_arm.Tie as tie
 
 -- the block's numbers
-frame : (c : tie.After-in-component3) → let d = c.before.before.before.before in
+frame : (c : tie.After-in_component-row) → let d = c.before.before.before.before in
     let a = d.before.before.args in Frame a.block.w a.block.h d.before.pel2scu.result.0 d.pel2scu2.result.0
-    c.before.before.in-component.result c.before.in-component2.result c.in-component3.result
+    c.before.before.in_component.result c.before.in_component2.result c.in_component3.result
 frame c =
     let d = c.before.before.before.before in
-    framed d.before.before.args.block.component _ _ _ _ _ _ _ _ _ _ d.before.before.requires d.before.pel2scu.ensures d.pel2scu2.ensures
-    c.before.before.in-component.ensures c.before.in-component2.ensures c.in-component3.ensures
+    framed d.args.block.component _ _ _ _ _ _ _ _ _ _ d.requires d.pel2scu-u.ensures d.pel2scu-v.ensures
+    c.in_component-across.ensures c.in_component-column.ensures c.in_component-row.ensures
 
 -- it has a corner
-some : (c : tie.After-in-component3) → let d = c.before.before.before.before in Cornered d.before.pel2scu.result.0 d.pel2scu2.result.0
-some c = cornered _ _ c.before.before.before.if1.false
+some : (c : tie.After-in_component-row) → let d = c.before.before.before.before in Cornered d.before.pel2scu.result.0 d.pel2scu2.result.0
+some c = cornered _ _ c.if-u-v.false
 
-returns : tie.Need-returns
+returns : tie.Need-returns-then-u-v
 returns c =
     let d = c.before.before in
-    c.no_arm.ensures ∙ corner_none d.before.before.args.block.component _ _ _ _ _ d.before.pel2scu.ensures d.pel2scu2.ensures c.before.if1.true
+    c.no_arm.ensures ∙ corner_none d.args.block.component _ _ _ _ _ d.pel2scu-u.ensures d.pel2scu-v.ensures c.if-u-v.true
 
-sub_flat : tie.Need-overflow-sub-flat
+sub_flat : tie.Need-overflow_sub-column
 sub_flat c = (frame c).left (some c).some_left
 
-sub_flat_2 : tie.Need-overflow-sub-flat-2
+sub_flat_2 : tie.Need-overflow_sub-row
 sub_flat_2 c = (frame c).above (some c).some_above_lem
 
 flat_requires : tie.Need-flat-requires
@@ -38,13 +38,13 @@ flat_requires_2 c κs =
     let f = frame c.before in
     (omega arith, omega arith, omega arith)
 
-returns-2 : tie.Need-returns-2
+returns-2 : tie.Need-returns
 returns-2 c =
     let k = c.before.before in
     let d = k.before.before.before.before in
-    corner_made d.before.before.args.block.component _ d.before.before.args.block.h _ _ _ _ _ _ _ _ _ d.before.pel2scu.ensures d.pel2scu2.ensures
-    k.before.before.in-component.ensures k.before.in-component2.ensures k.in-component3.ensures (some k).right (some k).down
-    c.before.flat.ensures c.flat2.ensures
+    corner_made d.args.block.component _ d.args.block.h _ _ _ _ _ _ _ _ _ d.pel2scu-u.ensures d.pel2scu-v.ensures
+    k.in_component-across.ensures k.in_component-column.ensures k.in_component-row.ensures (some k).right (some k).down
+    c.flat.ensures c.flat-2.ensures
 
 pub corner_arm_spec : {M : Type 1} → statement M
 corner_arm_spec =

@@ -9,10 +9,10 @@ use Rattle.nbr.proofs.flat.Tie as tie
 product : (c : tie.Start) → c.args.r * c.args.n ≤ 4096 * 4096
 product c = mul-le-mul c.requires.2 c.requires.0
 
-mul_result : tie.Need-overflow-mul-result
+mul_result : tie.Need-overflow_mul-result
 mul_result c = omega (arith, product c)
 
-add_result : tie.Need-overflow-add-result
+add_result : tie.Need-overflow_add-result
 add_result c = omega (arith, product c)
 
 pub flat_spec : {M : Type 1} → statement M

@@ -6,9 +6,9 @@ use Rattle.nbr.proofs.join_all.Tie as tie
 
 returns : tie.Need-returns
 returns c =
-    let left = c.before.before.join-near in
-    let corner = c.before.join-near2 in
-    let up = c.join-near3 in
+    let left = c.join_near in
+    let corner = c.join_near-2 in
+    let up = c.join_near-3 in
     all_pass _ _ left.result corner.result up.result left.ensures corner.ensures up.ensures
 
 pub join_all_spec : {M : Type 1} → statement M

@@ -15,34 +15,34 @@ module _ (s : tie.Start) (m : ℕ) (e : s.args.border.n ≡ m) where
   asked a h = (omega (arith, s.requires.0.small), omega arith, subst (λ (k : ℕ). InPlane a k s.args.plane.now) e h)
 
 -- not 4
-two : (c : tie.Else1) → c.before.before.before.args.border.n ≡ 2
-two c = c.before.before.before.requires.0.sizes c.if1.false
+two : (c : tie.Else-n-eq4) → c.before.before.before.args.border.n ≡ 2
+two c = c.requires.0.sizes c.if-n-eq4.false
 
-join_near_requires_2 : tie.Need-join-near-requires-2
-join_near_requires_2 c κs = asked c.before.before.before 4 c.if1.true c.before.before.before.args.border.left c.before.before.before.requires.0.left_in
+join_near_requires_2 : tie.Need-join_near-requires
+join_near_requires_2 c κs = asked c.before.before.before 4 c.if-n-eq4.true c.args.border.left c.requires.0.left_in
 
-join_near_requires_3 : tie.Need-join-near-requires-3
-join_near_requires_3 c κs = let s = c.before.before.before.before in asked s 4 c.before.if1.true s.args.border.up s.requires.0.up_in
+join_near_requires_3 : tie.Need-join_near-requires-then-n-eq4
+join_near_requires_3 c κs = let s = c.before.before.before.before in asked s 4 c.if-n-eq4.true s.args.border.up s.requires.0.up_in
 
-returns : tie.Need-returns
+returns : tie.Need-returns-then-n-eq4
 returns c =
-    let corner = c.before.before.before.join-near in
-    let left = c.before.join-near2 in
-    let up = c.join-near3 in
-    few_pass _ _ left.result corner.result up.result 4 c.before.before.before.before.before.requires.1 c.before.before.if1.true left.ensures corner.ensures up.ensures
+    let corner = c.join_near-corner in
+    let left = c.join_near in
+    let up = c.join_near-then-n-eq4 in
+    few_pass _ _ left.result corner.result up.result 4 c.requires.1 c.if-n-eq4.true left.ensures corner.ensures up.ensures
 
-join_near_requires_4 : tie.Need-join-near-requires-4
-join_near_requires_4 c κs = asked c.before.before.before 2 (two c) c.before.before.before.args.border.left c.before.before.before.requires.0.left_in
+join_near_requires_4 : tie.Need-join_near-requires-2
+join_near_requires_4 c κs = asked c.before.before.before 2 (two c) c.args.border.left c.requires.0.left_in
 
-join_near_requires_5 : tie.Need-join-near-requires-5
-join_near_requires_5 c κs = asked c.before.before.before.before 2 (two c.before) c.before.before.before.before.args.border.up c.before.before.before.before.requires.0.up_in
+join_near_requires_5 : tie.Need-join_near-requires-3
+join_near_requires_5 c κs = asked c.before.before.before.before 2 (two c.before) c.args.border.up c.requires.0.up_in
 
-returns-2 : tie.Need-returns-2
+returns-2 : tie.Need-returns
 returns-2 c =
-    let corner = c.before.before.before.join-near in
-    let left = c.before.join-near4 in
-    let up = c.join-near5 in
-    few_pass _ _ left.result corner.result up.result 2 c.before.before.before.before.before.requires.1 (two c.before.before) left.ensures corner.ensures up.ensures
+    let corner = c.join_near-corner in
+    let left = c.join_near-2 in
+    let up = c.join_near-3 in
+    few_pass _ _ left.result corner.result up.result 2 c.requires.1 (two c.before.before) left.ensures corner.ensures up.ensures
 
 pub join_few_spec : {M : Type 1} → statement M
 join_few_spec =

@@ -10,23 +10,23 @@ use Rattle.nbr.proofs.Joins.{Joined, join_none}
 use Rattle.nbr.proofs.join_samples.Statement.{statement}
 use Rattle.nbr.proofs.join_samples.Tie as tie
 
-abbrev invariant-loop : tie.invariant-loop
+abbrev invariant-loop : tie.invariant-loop-j
 invariant-loop plane from step n all₀ j₀ all j = (j ≤ n) × Joined (λ (j : ℕ). get_or plane (from + j * step) 0) all j
 
-abbrev decreases-loop : tie.decreases-loop
+abbrev decreases-loop : tie.decreases-loop-j
 decreases-loop plane from step n all₀ j₀ all j = n - j
 
 -- the sample of a turn is within the plane
-here : (c : tie.In-loop invariant-loop decreases-loop) → let a = c.before.before.args in a.from + c.before.loop.j * a.step < length a.plane.now
-here c = c.before.before.requires _ (omega arith)
+here : (c : tie.In-loop-j invariant-loop decreases-loop) → let a = c.before.before.args in a.from + c.before.loop.j * a.step < length a.plane.now
+here c = c.requires _ (omega arith)
 
-loop_again : tie.Need-loop-preserved invariant-loop decreases-loop
+loop_again : tie.Need-loop-j-preserved invariant-loop decreases-loop
 loop_again c =
     let h = c.before.before in
-    (search rules, joined h.loop.all _ ∙ rw h.loop.invariant.1 (sym (scan_step _ h.loop.j)))
+    (search rules, joined h.loop-j.all _ ∙ rw h.loop-j.invariant.1 (sym (scan_step _ h.loop-j.j)))
 
 returns : tie.Need-returns invariant-loop decreases-loop
-returns c = let e : c.before.loop.j ≡ c.before.before.args.n = omega arith in c.before.loop.invariant.1 ∙ rw e
+returns c = let e : c.loop-j.j ≡ c.args.n = omega arith in c.loop-j.invariant.1 ∙ rw e
 
 pub join_samples_spec : {M : Type 1} → statement M
 join_samples_spec =

@@ -10,27 +10,27 @@ use Rattle.nbr.proofs.Joins.{Joined, join_none, join_part}
 use Rattle.nbr.proofs.join_units.Statement.{statement}
 use Rattle.nbr.proofs.join_units.Tie as tie
 
-abbrev invariant-loop : tie.invariant-loop
+abbrev invariant-loop : tie.invariant-loop-i
 invariant-loop plane words arm units n constrained all₀ i₀ all i = (i ≤ units) × Joined (arm_at arm n constrained plane words) all (i * n)
 
-abbrev decreases-loop : tie.decreases-loop
+abbrev decreases-loop : tie.decreases-loop-i
 decreases-loop plane words arm units n constrained all₀ i₀ all i = units - i
 
-loop_holds : tie.Need-loop-init invariant-loop decreases-loop
-loop_holds c = let a = c.before.before.args in (omega arith, rw (zero-mul a.n) (join_none (arm_at a.arm a.n a.constrained a.plane.now a.words.now)))
+loop_holds : tie.Need-loop-i-init invariant-loop decreases-loop
+loop_holds c = let a = c.args in (omega arith, rw (zero-mul a.n) (join_none (arm_at a.arm a.n a.constrained a.plane.now a.words.now)))
 
-loop_again : tie.Need-loop-preserved invariant-loop decreases-loop
+loop_again : tie.Need-loop-i-preserved invariant-loop decreases-loop
 loop_again c =
     let h = c.before.before in
-    let a = h.before.before.before.args in
-    let i = h.loop.i in (
+    let a = h.args in
+    let i = h.loop-i.i in (
       search rules,
-      rw (next_row i a.n) (join_part (arm_at a.arm a.n a.constrained a.plane.now a.words.now) _ h.loop.all (i * a.n)
-          c.join-unit.result a.n (λ j p. refl) c.join-unit.ensures h.loop.invariant.1),
+      rw (next_row i a.n) (join_part (arm_at a.arm a.n a.constrained a.plane.now a.words.now) _ h.loop-i.all (i * a.n)
+          c.join_unit-all.result a.n (λ j p. refl) c.join_unit-all.ensures h.loop-i.invariant.1),
     )
 
 returns : tie.Need-returns invariant-loop decreases-loop
-returns c = let e : c.before.loop.i ≡ c.before.before.before.before.args.units = omega arith in c.before.loop.invariant.1 ∙ rw e
+returns c = let e : c.loop-i.i ≡ c.args.units = omega arith in c.loop-i.invariant.1 ∙ rw e
 
 pub join_units_spec : {M : Type 1} → statement M
 join_units_spec =

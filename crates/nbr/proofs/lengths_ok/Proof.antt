@@ -9,22 +9,22 @@ use Rattle.nbr.proofs.Sides.{scaled_le}
 use Rattle.nbr.proofs.lengths_ok.Statement.{statement}
 use Rattle.nbr.proofs.lengths_ok.Tie as tie
 
-mul_result : tie.Need-overflow-mul-result
+mul_result : tie.Need-overflow_mul-result
 mul_result c =
     let s = c.before.before in
-    let p : c.before.in-component.result ≤ 4096 = rw c.before.in-component.ensures (scaled_le s.args.block.component _ _ s.requires.0) in
-    let q : c.in-component2.result ≤ 4096 = rw c.in-component2.ensures (scaled_le s.args.block.component _ _ s.requires.1) in
-    let r : c.before.in-component.result * c.in-component2.result ≤ 4096 * 4096 = mul-le-mul p q in
+    let p : c.in_component-w.result ≤ 4096 = rw c.in_component-w.ensures (scaled_le s.args.block.component _ _ s.requires.0) in
+    let q : c.in_component-h.result ≤ 4096 = rw c.in_component-h.ensures (scaled_le s.args.block.component _ _ s.requires.1) in
+    let r : c.in_component-w.result * c.in_component-h.result ≤ 4096 * 4096 = mul-le-mul p q in
     omega arith
 
-mul_result_2 : tie.Need-overflow-mul-result-2
+mul_result_2 : tie.Need-overflow_mul-result-2
 mul_result_2 c =
     let s = c.before.before.before.before in
     omega (arith, few_units s.args.block.w s.args.block.h s.requires.0 s.requires.1)
 
 returns : tie.Need-returns
 unfolding lengths_ok
-returns c = rw (c.before.before.before.in-component.ensures, c.before.before.in-component2.ensures)
+returns c = rw (c.in_component-w.ensures, c.in_component-h.ensures)
 
 pub lengths_ok_spec : {M : Type 1} → statement M
 lengths_ok_spec = tie.close (tie.spec (λ c κs. search rules) (λ c κs. search rules) mul_result mul_result_2 returns)

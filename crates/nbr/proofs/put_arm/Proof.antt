@@ -21,20 +21,20 @@ module _ (s : tie.Start) (k : ℕ) (e : s.args.n ≡ k) where
   put l h = rw e h
 
 -- not 4
-two : (c : tie.Else1) → c.before.before.before.before.args.n ≡ 2
-two c = c.before.before.before.before.requires.2 c.if1.false
+two : (c : tie.Else-n-eq4) → c.before.before.before.before.args.n ≡ 2
+two c = c.requires.2 c.if-n-eq4.false
 
-put_units_requires : tie.Need-put-units-requires
-put_units_requires c κs = asked c.before.before.before.before.before 4 c.before.if1.true
+put_units_requires : tie.Need-put_units-requires
+put_units_requires c κs = asked c.before.before.before.before.before 4 c.if-n-eq4.true
 
-put_units_requires_2 : tie.Need-put-units-requires-2
+put_units_requires_2 : tie.Need-put_units-requires-else-n-eq4
 put_units_requires_2 c κs = asked c.before.before.before.before.before 2 (two c.before)
 
-returns : tie.Need-returns
-returns c = put c.before.before.before.before.before.before.before.before 4 c.before.before.before.before.if1.true _ c.before.before.put-units.ensures
+returns : tie.Need-returns-then-n-eq4
+returns c = put c.before.before.before.before.before.before.before.before 4 c.if-n-eq4.true _ c.put_units.ensures
 
-returns-2 : tie.Need-returns-2
-returns-2 c = put c.before.before.before.before.before.before.before.before 2 (two c.before.before.before.before) _ c.before.before.put-units2.ensures
+returns-2 : tie.Need-returns-else-n-eq4
+returns-2 c = put c.before.before.before.before.before.before.before.before 2 (two c.before.before.before.before) _ c.put_units-else-n-eq4.ensures
 
 pub put_arm_spec : {M : Type 1} → statement M
 put_arm_spec = tie.close (tie.spec put_units_requires put_units_requires_2 (λ c. search rules) returns (λ c. search rules) returns-2)

@@ -19,69 +19,69 @@ module _ (s : tie.Start) (m : ℕ) (e : s.args.border.n ≡ m) where
   long = rw (s.pre.2, e) at s.pre.1
 
 -- where each branch comes from
-abbrev of_four : (c : tie.Then1) → tie.Start
+abbrev of_four : (c : tie.Then-n-eq4) → tie.Start
 of_four c = c.before.before.before.before
 
-abbrev of_two : (c : tie.Else1) → tie.Start
+abbrev of_two : (c : tie.Else-n-eq4) → tie.Start
 of_two c = c.before.before.before.before
 
 -- not 4
-two : (c : tie.Else1) → (of_two c).args.border.n ≡ 2
-two c = (of_two c).requires.0.sizes c.if1.false
+two : (c : tie.Else-n-eq4) → (of_two c).args.border.n ≡ 2
+two c = (of_two c).requires.0.sizes c.if-n-eq4.false
 
-put_units_requires : tie.Need-put-units-requires
+put_units_requires : tie.Need-put_units-requires
 put_units_requires c κs =
     let d = c.before in
     let s = of_four d in
-    (read s 4 d.if1.true _ s.pre.0.left_within, omega (arith, long s 4 d.if1.true))
+    (read s 4 d.if-n-eq4.true _ s.pre.0.left_within, omega (arith, long s 4 d.if-n-eq4.true))
 
-put_units_requires_2 : tie.Need-put-units-requires-2
+put_units_requires_2 : tie.Need-put_units-requires-then-n-eq4
 put_units_requires_2 c κs =
     let d = c.before.before.before.before.before in
-    let left = c.before.before.before.put-units.auto.1.1.1.1.1.1.0 in
-    ((of_four d).requires.0.corner_within, omega (arith, long (of_four d) 4 d.if1.true, left))
+    let left = c.put_units.auto.1.1.1.1.1.1.0 in
+    ((of_four d).requires.0.corner_within, omega (arith, long (of_four d) 4 d.if-n-eq4.true, left))
 
-put_units_requires_3 : tie.Need-put-units-requires-3
+put_units_requires_3 : tie.Need-put_units-requires-then-n-eq4-2
 put_units_requires_3 c κs =
     let d = c.before.before.before.before.before.before.before.before.before in
     let s = of_four d in
-    let left = c.before.before.before.before.before.before.before.put-units.auto.1.1.1.1.1.1.0 in
-    let corner = c.before.before.before.put-units2.auto.1.1.1.1.1.1.0 in
-    (read s 4 d.if1.true _ s.pre.0.up_within, omega (arith, long s 4 d.if1.true, left, corner))
+    let left = c.put_units.auto.1.1.1.1.1.1.0 in
+    let corner = c.put_units-then-n-eq4.auto.1.1.1.1.1.1.0 in
+    (read s 4 d.if-n-eq4.true _ s.pre.0.up_within, omega (arith, long s 4 d.if-n-eq4.true, left, corner))
 
-returns : tie.Need-returns
+returns : tie.Need-returns-then-n-eq4
 returns c =
     let d = c.before.before.before.before.before.before.before.before.before.before.before.before in
-    let left = c.before.before.before.before.before.before.before.before.before.before.put-units.ensures in
-    let corner = c.before.before.before.before.before.before.put-units2.ensures in
-    few_written _ _ _ _ _ _ _ _ 4 (of_four d).requires.2 d.if1.true left corner c.before.before.put-units3.ensures
+    let left = c.put_units.ensures in
+    let corner = c.put_units-then-n-eq4.ensures in
+    few_written _ _ _ _ _ _ _ _ 4 (of_four d).requires.2 d.if-n-eq4.true left corner c.put_units-then-n-eq4-2.ensures
 
-put_units_requires_4 : tie.Need-put-units-requires-4
+put_units_requires_4 : tie.Need-put_units-requires-2
 put_units_requires_4 c κs =
     let d = c.before in
     let s = of_two d in
     (read s 2 (two d) _ s.pre.0.left_within, omega (arith, long s 2 (two d)))
 
-put_units_requires_5 : tie.Need-put-units-requires-5
+put_units_requires_5 : tie.Need-put_units-requires-3
 put_units_requires_5 c κs =
     let d = c.before.before.before.before.before in
-    let left = c.before.before.before.put-units4.auto.1.1.1.1.1.1.0 in
+    let left = c.put_units-2.auto.1.1.1.1.1.1.0 in
     ((of_two d).requires.0.corner_within, omega (arith, long (of_two d) 2 (two d), left))
 
-put_units_requires_6 : tie.Need-put-units-requires-6
+put_units_requires_6 : tie.Need-put_units-requires-4
 put_units_requires_6 c κs =
     let d = c.before.before.before.before.before.before.before.before.before in
     let s = of_two d in
-    let left = c.before.before.before.before.before.before.before.put-units4.auto.1.1.1.1.1.1.0 in
-    let corner = c.before.before.before.put-units5.auto.1.1.1.1.1.1.0 in
+    let left = c.put_units-2.auto.1.1.1.1.1.1.0 in
+    let corner = c.put_units-3.auto.1.1.1.1.1.1.0 in
     (read s 2 (two d) _ s.pre.0.up_within, omega (arith, long s 2 (two d), left, corner))
 
-returns-2 : tie.Need-returns-2
+returns-2 : tie.Need-returns
 returns-2 c =
     let d = c.before.before.before.before.before.before.before.before.before.before.before.before in
-    let left = c.before.before.before.before.before.before.before.before.before.before.put-units4.ensures in
-    let corner = c.before.before.before.before.before.before.put-units5.ensures in
-    few_written _ _ _ _ _ _ _ _ 2 (of_two d).requires.2 (two d) left corner c.before.before.put-units6.ensures
+    let left = c.put_units-2.ensures in
+    let corner = c.put_units-3.ensures in
+    few_written _ _ _ _ _ _ _ _ 2 (of_two d).requires.2 (two d) left corner c.put_units-4.ensures
 
 pub put_few_spec : {M : Type 1} → statement M
 put_few_spec =

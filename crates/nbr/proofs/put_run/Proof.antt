@@ -5,25 +5,25 @@ use Rattle.nbr.proofs.Borders.{border_long, border_run}
 use Rattle.nbr.proofs.put_run.Statement.{statement}
 use Rattle.nbr.proofs.put_run.Tie as tie
 
-put_few_requires : tie.Need-put-few-requires
+put_few_requires : tie.Need-put_few-requires
 put_few_requires c κs =
     let s = c.before.before.before.before.before in
-    (s.requires.2, border_long s.args.block _ s.requires.0 s.requires.1 s.args.run.now s.requires.3, c.before.if1.true)
+    (s.requires.2, border_long s.args.block _ s.requires.0 s.requires.1 s.args.run.now s.requires.3, c.if-units-eq2.true)
 
-put_all_requires : tie.Need-put-all-requires
+put_all_requires : tie.Need-put_all-requires
 put_all_requires c κs =
     let s = c.before.before.before.before.before in
     (s.requires.2, border_long s.args.block _ s.requires.0 s.requires.1 s.args.run.now s.requires.3)
 
-returns : tie.Need-returns
+returns : tie.Need-returns-then-units-eq2
 returns c =
     let s = c.before.before.before.before.before.before.before.before in
-    c.before.before.put-few.ensures ∙ border_run s.args.block _ s.requires.0 s.requires.1 _ s.requires.3 _ _ _
+    c.put_few.ensures ∙ border_run s.args.block _ s.requires.0 s.requires.1 _ s.requires.3 _ _ _
 
-returns-2 : tie.Need-returns-2
+returns-2 : tie.Need-returns-else-units-eq2
 returns-2 c =
     let s = c.before.before.before.before.before.before.before.before in
-    c.before.before.put_all.ensures ∙ border_run s.args.block _ s.requires.0 s.requires.1 _ s.requires.3 _ _ _
+    c.put_all.ensures ∙ border_run s.args.block _ s.requires.0 s.requires.1 _ s.requires.3 _ _ _
 
 pub put_run_spec : {M : Type 1} → statement M
 put_run_spec = tie.close (tie.spec put_few_requires put_all_requires (λ c. search rules) returns (λ c. search rules) returns-2)

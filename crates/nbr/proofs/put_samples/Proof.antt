@@ -8,26 +8,26 @@ use Rattle.laws.proofs.Planes.{Rowed, rowed_none, rowed_more, rowed_all}
 use Rattle.nbr.proofs.put_samples.Statement.{statement}
 use Rattle.nbr.proofs.put_samples.Tie as tie
 
-abbrev invariant-loop : tie.invariant-loop
+abbrev invariant-loop : tie.invariant-loop-j
 invariant-loop run₀ to plane from step n j₀ run j = (j ≤ n) × Rowed 0 to (λ (j : ℕ). get_or plane (from + j * step) 0) run₀ run j
 
-abbrev decreases-loop : tie.decreases-loop
+abbrev decreases-loop : tie.decreases-loop-j
 decreases-loop run₀ to plane from step n j₀ run j = n - j
 
 -- the sample of a turn is within the plane
-here : (c : tie.In-loop invariant-loop decreases-loop) → let a = c.before.before.args in a.from + c.before.loop.j * a.step < length a.plane.now
-here c = c.before.before.requires.1 _ (omega arith)
+here : (c : tie.In-loop-j invariant-loop decreases-loop) → let a = c.before.before.args in a.from + c.before.loop.j * a.step < length a.plane.now
+here c = c.requires.1 _ (omega arith)
 
-loop_again : tie.Need-loop-preserved invariant-loop decreases-loop
+loop_again : tie.Need-loop-j-preserved invariant-loop decreases-loop
 loop_again c =
     let h = c.before in
-    (search rules, rowed_more _ _ _ _ _ h.before.loop.j _ (omega arith) refl h.before.loop.invariant.1)
+    (search rules, rowed_more _ _ _ _ _ h.loop-j.j _ (omega arith) refl h.loop-j.invariant.1)
 
-same_length : tie.Need-same-length invariant-loop decreases-loop
-same_length c = c.before.loop.invariant.1.long
+same_length : tie.Need-shape_of-run invariant-loop decreases-loop
+same_length c = c.loop-j.invariant.1.long
 
 returns : tie.Need-returns invariant-loop decreases-loop
-returns c = rowed_all _ _ _ _ _ _ c.before.loop.j (omega arith) c.before.loop.invariant.1
+returns c = rowed_all _ _ _ _ _ _ c.loop-j.j (omega arith) c.loop-j.invariant.1
 
 pub put_samples_spec : {M : Type 1} → statement M
 put_samples_spec =

@@ -12,46 +12,46 @@ use Rattle.nbr.specs.Arms.{arm_at}
 use Rattle.nbr.proofs.put_units.Statement.{statement}
 use Rattle.nbr.proofs.put_units.Tie as tie
 
-abbrev invariant-loop : tie.invariant-loop
+abbrev invariant-loop : tie.invariant-loop-i
 invariant-loop plane words arm units n constrained run₀ to i₀ run i = (i ≤ units) × Rowed 0 to (arm_at arm n constrained plane words) run₀ run (i * n)
 
-abbrev decreases-loop : tie.decreases-loop
+abbrev decreases-loop : tie.decreases-loop-i
 decreases-loop plane words arm units n constrained run₀ to i₀ run i = units - i
 
 -- the unit of a turn is within the run
-room : (c : tie.In-loop invariant-loop decreases-loop) → let a = c.before.before.before.before.before.args in a.to + (c.before.loop.i * a.n + a.n) ≤ length a.run.now
+room : (c : tie.In-loop-i invariant-loop decreases-loop) → let a = c.before.before.before.before.before.args in a.to + (c.before.loop.i * a.n + a.n) ≤ length a.run.now
 room c =
-    let a = c.before.before.before.before.before.args in
-    let p : a.to + a.units * a.n ≤ length a.run.now = c.before.before.before.before.before.requires.1 in
-    omega (arith, row_below c.before.loop.i a.n a.units (a.units * a.n) (omega arith) (omega arith))
+    let a = c.args in
+    let p : a.to + a.units * a.n ≤ length a.run.now = c.requires.1 in
+    omega (arith, row_below c.loop-i.i a.n a.units (a.units * a.n) (omega arith) (omega arith))
 
-loop_holds : tie.Need-loop-init invariant-loop decreases-loop
-loop_holds c = (omega arith, rw (zero-mul c.before.before.before.args.n) (rowed_none _ _ _ _))
+loop_holds : tie.Need-loop-i-init invariant-loop decreases-loop
+loop_holds c = (omega arith, rw (zero-mul c.args.n) (rowed_none _ _ _ _))
 
-mul_put_unit : tie.Need-overflow-mul-put-unit invariant-loop decreases-loop
+mul_put_unit : tie.Need-overflow_mul-i invariant-loop decreases-loop
 mul_put_unit c = omega (arith, room c.before)
 
-add_put_unit : tie.Need-overflow-add-put-unit invariant-loop decreases-loop
+add_put_unit : tie.Need-overflow_add-to invariant-loop decreases-loop
 add_put_unit c = omega (arith, room c.before)
 
-put_unit_requires : tie.Need-put-unit-requires invariant-loop decreases-loop
-put_unit_requires c κs = (c.before.before.before.before.before.before.requires.0, omega (arith, room c.before, c.before.before.loop.invariant.1.long))
+put_unit_requires : tie.Need-put_unit-requires invariant-loop decreases-loop
+put_unit_requires c κs = (c.requires.0, omega (arith, room c.before, c.loop-i.invariant.1.long))
 
-loop_again : tie.Need-loop-preserved invariant-loop decreases-loop
+loop_again : tie.Need-loop-i-preserved invariant-loop decreases-loop
 loop_again c =
     let t = c.before.before.before.before in
-    let a = t.before.before.before.before.before.args in
-    let i = t.before.loop.i in
-    (search rules, rw (next_row i a.n, c.before.before.put-unit.ensures) (rowed_part _ _ _ _ _ (i * a.n) a.n _ (omega (arith, room t)) (λ j p. refl) t.before.loop.invariant.1))
+    let a = t.args in
+    let i = t.loop-i.i in
+    (search rules, rw (next_row i a.n, c.put_unit.ensures) (rowed_part _ _ _ _ _ (i * a.n) a.n _ (omega (arith, room t)) (λ j p. refl) t.loop-i.invariant.1))
 
-same_length : tie.Need-same-length invariant-loop decreases-loop
-same_length c = c.before.loop.invariant.1.long
+same_length : tie.Need-shape_of-run invariant-loop decreases-loop
+same_length c = c.loop-i.invariant.1.long
 
 returns : tie.Need-returns invariant-loop decreases-loop
 returns c =
-    let a = c.before.before.before.before.before.args in
-    let e : c.before.loop.i ≡ a.units = omega arith in
-    rowed_all _ _ _ _ _ _ (c.before.loop.i * a.n) (ap (λ (k : ℕ). k * a.n) e) c.before.loop.invariant.1
+    let a = c.args in
+    let e : c.loop-i.i ≡ a.units = omega arith in
+    rowed_all _ _ _ _ _ _ (c.loop-i.i * a.n) (ap (λ (k : ℕ). k * a.n) e) c.loop-i.invariant.1
 
 pub put_units_spec : {M : Type 1} → statement M
 put_units_spec =

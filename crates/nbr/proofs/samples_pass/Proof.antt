@@ -6,29 +6,29 @@ use Rattle.nbr.proofs.Borders.{near_of, near_joined, units_joined}
 use Rattle.nbr.proofs.samples_pass.Statement.{statement}
 use Rattle.nbr.proofs.samples_pass.Tie as tie
 
-join_border_requires : tie.Need-join-border-requires
-join_border_requires c κs = near_of _ _ _ c.before.before.requires.2
+join_border_requires : tie.Need-join_border-requires
+join_border_requires c κs = near_of _ _ _ c.requires.2
 
-returns : tie.Need-returns
+returns : tie.Need-returns-then-join_border-le1023
 returns c =
     let s = c.before.before.before.before in
-    let j = c.before.join-border in
-    near_joined _ _ _ _ _ s.requires.0 s.requires.1 s.requires.2 (j.ensures (le-leb j.result 1023 (omega (arith, c.if1.true))))
+    let j = c.join_border in
+    near_joined _ _ _ _ _ s.requires.0 s.requires.1 s.requires.2 (j.ensures (le-leb j.result 1023 (omega (arith, c.if-join_border-le1023.true))))
 
-returns-2 : tie.Need-returns-2
+returns-2 : tie.Need-returns
 returns-2 c =
     let s = c.before.before.before.before.before.before.before in
-    units_joined _ _ _ _ _ s.requires.0 s.requires.1 c.before.before.join-units.result c.before.join-units2.result c.join-units3.result
-    c.before.before.join-units.ensures c.before.join-units2.ensures c.join-units3.ensures
+    units_joined _ _ _ _ _ s.requires.0 s.requires.1 c.join_units.result c.join_units-2.result c.join_units-3.result
+    c.join_units.ensures c.join_units-2.ensures c.join_units-3.ensures
 
-join_units_requires : tie.Need-join-units-requires
-join_units_requires c κs = c.before.before.before.before.requires.2.left_within
+join_units_requires : tie.Need-join_units-requires
+join_units_requires c κs = c.requires.2.left_within
 
-join_units_requires_2 : tie.Need-join-units-requires-2
-join_units_requires_2 c κs = c.before.before.before.before.before.requires.2.corner_within
+join_units_requires_2 : tie.Need-join_units-requires-2
+join_units_requires_2 c κs = c.requires.2.corner_within
 
-join_units_requires_3 : tie.Need-join-units-requires-3
-join_units_requires_3 c κs = c.before.before.before.before.before.before.requires.2.up_within
+join_units_requires_3 : tie.Need-join_units-requires-3
+join_units_requires_3 c κs = c.requires.2.up_within
 
 pub samples_pass_spec : {M : Type 1} → statement M
 samples_pass_spec =

@@ -262,4 +262,4 @@ read_map_spec 𝓤 𝓛 𝓜 𝓡 =
     entered 𝓤 𝓛.H (triple_of 𝓛 read.signature (read.spec 𝓛 𝓜.mem 𝓡.run))
     (tables 𝓤 𝓛.H 𝓜 𝓡 code.env).C (tables 𝓤 𝓛.H 𝓜 𝓡 code.env).Λ #pack_parts·read-map code.function (code.unfolded 𝓤 𝓛.H 𝓜 𝓡)
     (read_map_meets 𝓛 𝓜.mem 𝓡.run (tables_of 𝓤 𝓛.H 𝓜 (tables 𝓤 𝓛.H 𝓜 𝓡 code.env))
-    (cited 𝓤 𝓛.H (Get 𝓛 𝓜.mem 𝓡.run) 𝓜 𝓡 code.env #unpack·get-map get_def.routine code.calls-unpack::get-map (get_thm.met 𝓤 𝓛 𝓜 𝓡)))
+    (cited 𝓤 𝓛.H (Get 𝓛 𝓜.mem 𝓡.run) 𝓜 𝓡 code.env #unpack·get-map get_def.routine code.calls_unpack::get-map (get_thm.met 𝓤 𝓛 𝓜 𝓡)))

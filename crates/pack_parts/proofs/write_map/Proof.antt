@@ -285,4 +285,4 @@ write_map_spec 𝓤 𝓛 𝓜 𝓡 =
     entered 𝓤 𝓛.H (triple_of 𝓛 write.signature (write.spec 𝓛 𝓜.mem 𝓡.run))
     (tables 𝓤 𝓛.H 𝓜 𝓡 code.env).C (tables 𝓤 𝓛.H 𝓜 𝓡 code.env).Λ #pack_parts·write-map code.function (code.unfolded 𝓤 𝓛.H 𝓜 𝓡)
     (write_map_meets 𝓛 𝓜.mem 𝓡.run (tables_of 𝓤 𝓛.H 𝓜 (tables 𝓤 𝓛.H 𝓜 𝓡 code.env))
-    (cited 𝓤 𝓛.H (Put 𝓛 𝓜.mem 𝓡.run) 𝓜 𝓡 code.env #pack·put-map put-def.routine code.calls-pack::put-map (put-thm.met 𝓤 𝓛 𝓜 𝓡)))
+    (cited 𝓤 𝓛.H (Put 𝓛 𝓜.mem 𝓡.run) 𝓜 𝓡 code.env #pack·put-map put-def.routine code.calls_pack::put-map (put-thm.met 𝓤 𝓛 𝓜 𝓡)))

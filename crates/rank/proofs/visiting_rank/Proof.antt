@@ -8,17 +8,17 @@ use Rattle.rank.proofs.Ranks.{ranks, rank_at, rank_refused, rank_done}
 use Rattle.rank.proofs.visiting_rank.Statement.{statement}
 use Rattle.rank.proofs.visiting_rank.Tie as tie
 
-returns : tie.Need-returns
-returns c = rank_refused _ 0 (le-ltb _ _ c.if1.true)
+returns : tie.Need-returns-then-column-ge16
+returns c = rank_refused _ 0 (le-ltb _ _ c.if-column-ge16.true)
 
-returns-2 : tie.Need-returns-2
-returns-2 c = rank_refused _ 1 (le-ltb _ _ c.if2.true)
+returns-2 : tie.Need-returns-then-row-ge16
+returns-2 c = rank_refused _ 1 (le-ltb _ _ c.if-row-ge16.true)
 
-table_test : tie.Need-returns-3
+table_test : tie.Need-returns
 unfolding ranks tabulate_from spread
 table_test c =
-    let a = c.before.before.args in
-    rank_done _ _ c.before.if1.false c.if2.false (rank_at a.x.0 a.y.0 c.before.if1.false c.if2.false)
+    let a = c.args in
+    rank_done _ _ c.if-column-ge16.false c.if-row-ge16.false (rank_at a.x.0 a.y.0 c.if-column-ge16.false c.if-row-ge16.false)
 
 pub visiting_rank_spec : {M : Type 1} → statement M
 visiting_rank_spec = tie.close (tie.spec returns returns-2 (λ c. search rules) (λ c. search rules) (λ c. search rules) table_test)

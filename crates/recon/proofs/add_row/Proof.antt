@@ -13,29 +13,29 @@ use Rattle.samples.proofs.Samples.{sample_any}
 use Rattle.recon.proofs.add_row.Statement.{statement}
 use Rattle.recon.proofs.add_row.Tie as tie
 
-abbrev invariant-loop : tie.invariant-loop
+abbrev invariant-loop : tie.invariant-loop-j
 invariant-loop rec₀ at pred coef from n j₀ rec j = (j ≤ n) × Rowed 0 at (λ (j : ℕ). sample_z (pos (get_or pred (from + j) 0) +ℤ get_or coef (from + j) (pos 0))) rec₀ rec j
 
-abbrev decreases-loop : tie.decreases-loop
+abbrev decreases-loop : tie.decreases-loop-j
 decreases-loop rec₀ at pred coef from n j₀ rec j = n - j
 
-loop_holds : tie.Need-loop-init invariant-loop decreases-loop
+loop_holds : tie.Need-loop-j-init invariant-loop decreases-loop
 loop_holds c = (omega arith, rowed_none _ _ _ _)
 
 -- the prediction's sample is one
 reconstructed_requires : tie.Need-reconstructed-requires invariant-loop decreases-loop
-reconstructed_requires c κs = sample_any _ _ c.before.before.before.before.before.before.requires.3
+reconstructed_requires c κs = sample_any _ _ c.requires.3
 
-loop_again : tie.Need-loop-preserved invariant-loop decreases-loop
+loop_again : tie.Need-loop-j-preserved invariant-loop decreases-loop
 loop_again c =
-    let h = c.before.before.before.before.loop in
-    (search rules, rowed_more _ _ _ _ _ h.j _ (omega arith) (c.reconstructed.ensures ∙ rw (back w16 _ (record { sfits = c.before.reconstructed-arg.given }))) h.invariant.1)
+    let h = c.loop-j in
+    (search rules, rowed_more _ _ _ _ _ h.j _ (omega arith) (c.reconstructed.ensures ∙ rw (back w16 _ (record { sfits = c.reconstructed-arg-1.given }))) h.invariant.1)
 
-same_length : tie.Need-same-length invariant-loop decreases-loop
-same_length c = c.before.loop.invariant.1.long
+same_length : tie.Need-shape_of-rec invariant-loop decreases-loop
+same_length c = c.loop-j.invariant.1.long
 
 returns : tie.Need-returns invariant-loop decreases-loop
-returns c = rowed_all _ _ _ _ _ _ c.before.loop.j (omega arith) c.before.loop.invariant.1
+returns c = rowed_all _ _ _ _ _ _ c.loop-j.j (omega arith) c.loop-j.invariant.1
 
 pub add_row_spec : {M : Type 1} → statement M
 add_row_spec =

@@ -35,46 +35,46 @@ after2 s = let a = s.args in unless (block_ok a.w a.h a.x.0 a.y.0 a.side) (Refus
 abbrev after1 : tie.Start → Answer
 after1 s = let a = s.args in unless (eqb a.rec (plane_length a.component a.w a.h)) (Refused Length) (after2 s)
 
-past1 : (c : tie.Else1) (x : Answer) → x ≡ after1 c.before.before.before → x ≡ all c.before.before.before
+past1 : (c : tie.Else-not-size_ok) (x : Answer) → x ≡ after1 c.before.before.before → x ≡ all c.before.before.before
 unfolding plane_check
-past1 c x p = goes_on _ _ _ _ x c.before.Size-ok.ensures c.if1.false p
+past1 c x p = goes_on _ _ _ _ x c.size_ok.ensures c.if-not-size_ok.false-raw p
 
-past2 : (c : tie.Else2) (x : Answer) → x ≡ after2 c.before.before.before.before.before → x ≡ all c.before.before.before.before.before
-past2 c x p = past1 c.before.before x (goes_on _ _ _ _ x c.before.plane-length-ok.ensures c.if2.false p)
+past2 : (c : tie.Else-not-plane_length_ok) (x : Answer) → x ≡ after2 c.before.before.before.before.before → x ≡ all c.before.before.before.before.before
+past2 c x p = past1 c.before.before x (goes_on _ _ _ _ x c.plane_length_ok.ensures c.if-not-plane_length_ok.false-raw p)
 
-past3 : (c : tie.Else3) (x : Answer) → x ≡ after3 c.before.before.before.before.before.before.before → x ≡ all c.before.before.before.before.before.before.before
-past3 c x p = past2 c.before.before x (goes_on _ _ _ _ x c.before.block_ok_lem.ensures c.if3.false p)
+past3 : (c : tie.Else-not-block_ok) (x : Answer) → x ≡ after3 c.before.before.before.before.before.before.before → x ≡ all c.before.before.before.before.before.before.before
+past3 c x p = past2 c.before.before x (goes_on _ _ _ _ x c.block_ok.ensures c.if-not-block_ok.false-raw p)
 
-past4 : (c : tie.Else4) (x : Answer) → x ≡ after4 c.before.before.before.before.before.before.before.before.before
+past4 : (c : tie.Else-not-block_lengths_ok) (x : Answer) → x ≡ after4 c.before.before.before.before.before.before.before.before.before
     → x ≡ all c.before.before.before.before.before.before.before.before.before
-past4 c x p = past3 c.before.before x (goes_on _ _ _ _ x c.before.block-lengths-ok.ensures c.if4.false p)
+past4 c x p = past3 c.before.before x (goes_on _ _ _ _ x c.block_lengths_ok.ensures c.if-not-block_lengths_ok.false-raw p)
 
-returns : tie.Need-returns
+returns : tie.Need-returns-then-not-size_ok
 unfolding plane_check
-returns c = stops _ _ _ _ c.before.Size-ok.ensures c.if1.true
+returns c = stops _ _ _ _ c.size_ok.ensures c.if-not-size_ok.true-raw
 
-plane_length_ok_requires : tie.Need-plane-length-ok-requires
+plane_length_ok_requires : tie.Need-plane_length_ok-requires
 plane_length_ok_requires c κs =
-    let s = sized _ _ (sym c.before.Size-ok.ensures ∙ not-false _ c.if1.false) in
+    let s = sized _ _ (sym c.size_ok.ensures ∙ c.if-not-size_ok.false) in
     (s.wide, s.high)
 
-returns-2 : tie.Need-returns-2
-returns-2 c = past1 c.before.before _ (stops _ _ _ _ c.before.plane-length-ok.ensures c.if2.true)
+returns-2 : tie.Need-returns-then-not-plane_length_ok
+returns-2 c = past1 c.before.before _ (stops _ _ _ _ c.plane_length_ok.ensures c.if-not-plane_length_ok.true-raw)
 
-returns-3 : tie.Need-returns-3
-returns-3 c = past2 c.before.before _ (stops _ _ _ _ c.before.block_ok_lem.ensures c.if3.true)
+returns-3 : tie.Need-returns-then-not-block_ok
+returns-3 c = past2 c.before.before _ (stops _ _ _ _ c.block_ok.ensures c.if-not-block_ok.true-raw)
 
-block_lengths_ok_requires : tie.Need-block-lengths-ok-requires
-block_lengths_ok_requires c κs = (blocked _ _ _ _ _ (sym c.before.block_ok_lem.ensures ∙ not-false _ c.if3.false)).most
+block_lengths_ok_requires : tie.Need-block_lengths_ok-requires
+block_lengths_ok_requires c κs = (blocked _ _ _ _ _ (sym c.block_ok.ensures ∙ c.if-not-block_ok.false)).most
 
-returns-4 : tie.Need-returns-4
-returns-4 c = past3 c.before.before _ (stops _ _ _ _ c.before.block-lengths-ok.ensures c.if4.true)
+returns-4 : tie.Need-returns-then-not-block_lengths_ok
+returns-4 c = past3 c.before.before _ (stops _ _ _ _ c.block_lengths_ok.ensures c.if-not-block_lengths_ok.true-raw)
 
-returns-5 : tie.Need-returns-5
-returns-5 c = past4 c.before.before _ (stops _ _ _ _ c.before.samples-ok.ensures c.if5.true)
+returns-5 : tie.Need-returns-then-not-samples_ok
+returns-5 c = past4 c.before.before _ (stops _ _ _ _ c.samples_ok.ensures c.if-not-samples_ok.true-raw)
 
-returns-6 : tie.Need-returns-6
-returns-6 c = past4 c.before.before _ (goes_on _ _ _ _ _ c.before.samples-ok.ensures c.if5.false refl)
+returns-6 : tie.Need-returns
+returns-6 c = past4 c.before.before _ (goes_on _ _ _ _ _ c.samples_ok.ensures c.if-not-samples_ok.false-raw refl)
 
 pub checked_plane_spec : {M : Type 1} → statement M
 checked_plane_spec =

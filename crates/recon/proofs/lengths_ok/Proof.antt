@@ -6,7 +6,7 @@ use Rattle.recon.specs.Recon.{lengths_ok}
 use Rattle.recon.proofs.lengths_ok.Statement.{statement}
 use Rattle.recon.proofs.lengths_ok.Tie as tie
 
-mul_n : tie.Need-overflow-mul-n
+mul_n : tie.Need-overflow_mul-n
 mul_n c = omega (arith, mul-le-mul c.requires c.requires)
 
 returns : tie.Need-returns

@@ -10,24 +10,24 @@ use Rattle.recon.proofs.recon.Statement.{statement}
 use Rattle.recon.proofs.recon.Tie as tie
 
 -- where the checks found nothing
-lent_at : (c : tie.After-enum-told) → let a = c.before.before.before.before.before.args in Lent a.side a.pred.now (length a.coef.now) (length a.rec.now)
-lent_at c = lent _ _ _ _ (sym c.before.before.checked.ensures ∙ c.enum_told.given.1)
+lent_at : (c : tie.In-Done) → let a = c.before.before.before.before.before.args in Lent a.side a.pred.now (length a.coef.now) (length a.rec.now)
+lent_at c = lent _ _ _ _ (sym c.checked.ensures ∙ c.in-Done.is)
 
-mul_recon_row : tie.Need-overflow-mul-recon-row
+mul_recon_row : tie.Need-overflow_mul-side
 mul_recon_row c = let l = lent_at c.before in omega (arith, mul-le-mul l.most l.most)
 
-recon_row_requires : tie.Need-recon-row-requires
+recon_row_requires : tie.Need-recon_row-requires
 recon_row_requires c κs =
     let l = lent_at c.before in
     (omega arith, omega arith, omega arith, l.good)
 
-returns : tie.Need-returns
-returns c = block_refused _ _ c.before.before.before.checked.ensures _ c.before.r.given.1
+returns : tie.Need-returns-in-Refused
+returns c = block_refused _ _ c.checked.ensures _ c.in-Refused.is
 
-returns-2 : tie.Need-returns-2
+returns-2 : tie.Need-returns-in-Done
 returns-2 c =
     let told = c.before.before.before.before in
-    block_done _ _ told.before.before.checked.ensures _ told.enum_told.given.1 (lent_at told).rec_long c.before.before.recon-row.ensures
+    block_done _ _ told.checked.ensures _ told.in-Done.is (lent_at told).rec_long c.recon_row.ensures
 
 pub recon_spec : {M : Type 1} → statement M
 recon_spec =

@@ -4,17 +4,17 @@ use borrow.Author.Rules.{rules}
 use Rattle.recon.proofs.recon_block.Statement.{statement}
 use Rattle.recon.proofs.recon_block.Tie as tie
 
-recon_small_requires : tie.Need-recon-small-requires
-recon_small_requires c κs = (rw c.before.if1.true at c.before.before.before.before.requires, omega arith)
+recon_small_requires : tie.Need-recon_small-requires
+recon_small_requires c κs = (rw c.if-n-eq4.true at c.requires, omega arith)
 
-recon_small_requires_2 : tie.Need-recon-small-requires-2
-recon_small_requires_2 c κs = (rw c.before.if2.true at c.before.before.before.before.before.requires, omega arith)
+recon_small_requires_2 : tie.Need-recon_small-requires-then-n-eq2
+recon_small_requires_2 c κs = (rw c.if-n-eq2.true at c.requires, omega arith)
 
-returns : tie.Need-returns
-returns c = rw c.before.before.before.before.if1.true c.before.before.recon_small.ensures
+returns : tie.Need-returns-then-n-eq4
+returns c = rw c.if-n-eq4.true c.recon_small.ensures
 
-returns-2 : tie.Need-returns-2
-returns-2 c = rw c.before.before.before.before.if2.true c.before.before.recon-small2.ensures
+returns-2 : tie.Need-returns-then-n-eq2
+returns-2 c = rw c.if-n-eq2.true c.recon_small-then-n-eq2.ensures
 
 pub recon_block_spec : {M : Type 1} → statement M
 recon_block_spec =

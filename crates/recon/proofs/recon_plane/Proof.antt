@@ -10,26 +10,26 @@ use Rattle.recon.proofs.recon_plane.Statement.{statement}
 use Rattle.recon.proofs.recon_plane.Tie as tie
 
 -- where the checks found nothing
-fits_at : (c : tie.After-enum-told) → let a = c.before.before.before.before.before.args in
+fits_at : (c : tie.In-Done) → let a = c.before.before.before.before.before.args in
     Fitting (a.w / scale_of a.component) (a.x.0 / scale_of a.component) (a.y.0 / scale_of a.component)
     (a.side / scale_of a.component) a.pred.now a.coef.now a.rec.now
-fits_at c = fitting _ _ _ _ _ _ _ _ _ (sym c.before.before.checked-plane.ensures ∙ c.enum_told.given.1)
+fits_at c = fitting _ _ _ _ _ _ _ _ _ (sym c.checked_plane.ensures ∙ c.in-Done.is)
 
-recon_block_requires : tie.Need-recon-block-requires
+recon_block_requires : tie.Need-recon_block-requires
 recon_block_requires c κs =
-    rw (c.before.before.in-component3.ensures, c.before.before.before.before.in-component.ensures, c.before.before.before.in-component2.ensures, c.before.in-component4.ensures)
+    rw (c.in_component-wide.ensures, c.in_component-column.ensures, c.in_component-row.ensures, c.in_component-n.ensures)
     (fits_at c.before.before.before.before.before)
 
-returns : tie.Need-returns
-returns c = plane_refused _ _ c.before.before.before.checked-plane.ensures _ c.before.r.given.1
+returns : tie.Need-returns-in-Refused
+returns c = plane_refused _ _ c.checked_plane.ensures _ c.in-Refused.is
 
-returns-2 : tie.Need-returns-2
+returns-2 : tie.Need-returns-in-Done
 returns-2 c =
     let told = c.before.before.before.before.before.before.before.before in
-    plane_done _ _ told.before.before.checked-plane.ensures _ _ _ _
-    c.before.before.before.before.before.in-component3.ensures c.before.before.before.before.before.before.before.in-component.ensures
-    c.before.before.before.before.before.before.in-component2.ensures c.before.before.before.before.in-component4.ensures
-    _ told.enum_told.given.1 c.before.before.recon-block.ensures
+    plane_done _ _ told.checked_plane.ensures _ _ _ _
+    c.in_component-wide.ensures c.in_component-column.ensures
+    c.in_component-row.ensures c.in_component-n.ensures
+    _ told.in-Done.is c.recon_block.ensures
 
 pub recon_plane_spec : {M : Type 1} → statement M
 recon_plane_spec =

@@ -5,15 +5,15 @@ use Rattle.recon.proofs.Rows.{row_known}
 use Rattle.recon.proofs.recon_row.Statement.{statement}
 use Rattle.recon.proofs.recon_row.Tie as tie
 
-returns : tie.Need-returns
+returns : tie.Need-returns-then-coded
 returns c =
-    let a = c.before.before.before.before.before.before.before.args in
-    row_known _ a.pred.now a.coef.now a.rec.now _ true a.at a.n a.from c.before.before.before.before.if1.true c.before.before.add_row.ensures
+    let a = c.args in
+    row_known _ a.pred.now a.coef.now a.rec.now _ true a.at a.n a.from c.if-coded.true c.add_row.ensures
 
-returns-2 : tie.Need-returns-2
+returns-2 : tie.Need-returns-else-coded
 returns-2 c =
-    let a = c.before.before.before.before.before.before.before.args in
-    row_known _ a.pred.now a.coef.now a.rec.now _ false a.at a.n a.from c.before.before.before.before.if1.false c.before.before.copy-row.ensures
+    let a = c.args in
+    row_known _ a.pred.now a.coef.now a.rec.now _ false a.at a.n a.from c.if-coded.false c.copy_row.ensures
 
 pub recon_row_spec : {M : Type 1} → statement M
 recon_row_spec =

@@ -11,10 +11,10 @@ use Rattle.recon.proofs.Rows.{Placed, placed, row_front}
 use Rattle.recon.proofs.recon_small.Statement.{statement}
 use Rattle.recon.proofs.recon_small.Tie as tie
 
-abbrev invariant-loop : tie.invariant-loop
+abbrev invariant-loop : tie.invariant-loop-r
 invariant-loop coded w x y n pred coef rec₀ own r₀ rec r = (r ≤ n) × Rows 0 w x y n (block_at coded pred coef n) rec₀ rec r
 
-abbrev decreases-loop : tie.decreases-loop
+abbrev decreases-loop : tie.decreases-loop-r
 decreases-loop coded w x y n pred coef rec₀ own r₀ rec r = n - r
 
 -- a block of at most 4 by 4 fits the array
@@ -22,57 +22,57 @@ few : (n : ℕ) → n ≤ 4 → n * n ≤ 16
 few n h = mul-le-mul h h
 
 -- in a turn: where the row lies
-row : (c : tie.In-loop invariant-loop decreases-loop) → let a = c.before.before.before.before.before.before.before.args in Placed a.w a.y a.n c.before.loop.r (length a.rec.now)
-row c = placed c.before.loop.r c.before.before.before.before.before.before.before.requires.0 c.loop-test.true
+row : (c : tie.In-loop-r invariant-loop decreases-loop) → let a = c.before.before.before.before.before.before.before.args in Placed a.w a.y a.n c.before.loop.r (length a.rec.now)
+row c = placed c.loop-r.r c.requires.0 c.loop-r-test.true
 
-mul_recon_row : tie.Need-overflow-mul-recon-row invariant-loop decreases-loop
+mul_recon_row : tie.Need-overflow_mul-n invariant-loop decreases-loop
 mul_recon_row c = let s = c.before.before.before in omega (arith, few s.args.n s.requires.1)
 
-recon_row_requires : tie.Need-recon-row-requires invariant-loop decreases-loop
+recon_row_requires : tie.Need-recon_row-requires invariant-loop decreases-loop
 recon_row_requires c κs =
     let s = c.before.before.before in
     (omega (arith, few s.args.n s.requires.1), omega arith, omega arith, s.requires.0.good)
 
-loop_holds : tie.Need-loop-init invariant-loop decreases-loop
+loop_holds : tie.Need-loop-r-init invariant-loop decreases-loop
 loop_holds c = (omega arith, rows_none _ _ _ _ _ _ _)
 
-add_copy_row : tie.Need-overflow-add-copy-row invariant-loop decreases-loop
+add_copy_row : tie.Need-overflow_add-y invariant-loop decreases-loop
 add_copy_row c = omega arith
 
-mul_copy_row : tie.Need-overflow-mul-copy-row invariant-loop decreases-loop
+mul_copy_row : tie.Need-overflow_mul-y invariant-loop decreases-loop
 mul_copy_row c = let p = row c.before in omega arith
 
-add_copy_row_2 : tie.Need-overflow-add-copy-row-2 invariant-loop decreases-loop
+add_copy_row_2 : tie.Need-overflow_add-y-in-loop-r invariant-loop decreases-loop
 add_copy_row_2 c = let p = row c.before in omega arith
 
-mul_copy_row_2 : tie.Need-overflow-mul-copy-row-2 invariant-loop decreases-loop
+mul_copy_row_2 : tie.Need-overflow_mul-r invariant-loop decreases-loop
 mul_copy_row_2 c =
     let s = c.before.before.before.before.before.before.before.before.before in
     let p = row c.before.before in
     omega (arith, few s.args.n s.requires.1)
 
-copy_row_requires : tie.Need-copy-row-requires invariant-loop decreases-loop
+copy_row_requires : tie.Need-copy_row-requires invariant-loop decreases-loop
 copy_row_requires c κs =
     let s = c.before.before.before.before.before.before.before.before.before in
     let p = row c.before.before in
     (omega arith, omega (arith, few s.args.n s.requires.1))
 
-loop_again : tie.Need-loop-preserved invariant-loop decreases-loop
+loop_again : tie.Need-loop-r-preserved invariant-loop decreases-loop
 loop_again c =
     let h = c.before.before.before.before.before.before in
     let s = h.before.before.before.before.before.before in
     let p = row c.before.before.before.before.before in (
       search rules,
-      rows_more _ _ _ _ _ _ _ _ _ h.loop.r _ _ (omega arith) (omega arith) refl
+      rows_more _ _ _ _ _ _ _ _ _ h.loop-r.r _ _ (omega arith) (omega arith) refl
           (λ j q. row_front s.args.coded s.args.pred.now s.args.coef.now (replicate 16 0) _ _ _ (few s.args.n s.requires.1) (omega arith)
-          h.before.before.recon-row.ensures) c.before.before.copy-row.ensures h.loop.invariant.1,
+          h.recon_row.ensures) c.copy_row.ensures h.loop-r.invariant.1,
     )
 
-same_length : tie.Need-same-length invariant-loop decreases-loop
-same_length c = c.before.loop.invariant.1.long
+same_length : tie.Need-shape_of-rec invariant-loop decreases-loop
+same_length c = c.loop-r.invariant.1.long
 
 returns : tie.Need-returns invariant-loop decreases-loop
-returns c = rows_all_lem _ _ _ _ _ _ _ _ c.before.loop.r _ (omega arith) c.before.loop.invariant.1
+returns c = rows_all_lem _ _ _ _ _ _ _ _ c.loop-r.r _ (omega arith) c.loop-r.invariant.1
 
 pub recon_small_spec : {M : Type 1} → statement M
 recon_small_spec =

@@ -16,39 +16,39 @@ use Rattle.recon.proofs.reconstructed.Tie as tie
 
 -- the residual as it is added
 held_at : (c : tie.After-held) → c.held.result ≡ held_z c.before.args.r
-held_at c = c.held.ensures ∙ ap held_z (back w16 _ c.before.ranges.r)
+held_at c = c.held.ensures ∙ ap held_z (back w16 _ c.ranges.r)
 
 small : (c : tie.After-held) → mag c.held.result ≤ 1023
-small c = rw (held_at c) (held_small c.before.args.r)
+small c = rw (held_at c) (held_small c.args.r)
 
 abbrev sum : tie.After-held → ℤ
-sum c = pos c.before.args.p +ℤ c.held.result
+sum c = pos c.args.p +ℤ c.held.result
 
 -- the sum, as the machine reads it
 sum_at : (c : tie.After-held) → to_z w16 (of_z w16 (to_z w16 c.before.args.p +ℤ to_z w16 (of_z w16 c.held.result))) ≡ sum c
-sum_at c = machine_sum _ c.held.result c.before.requires (small c)
+sum_at c = machine_sum _ c.held.result c.requires (small c)
 
 same : (c : tie.After-held) → sample_z (sum c) ≡ sample_z (pos c.before.args.p +ℤ c.before.args.r)
-same c = ap (λ (z : ℤ). sample_z (pos c.before.args.p +ℤ z)) (held_at c) ∙ held_same _ c.before.args.r c.before.requires
+same c = ap (λ (z : ℤ). sample_z (pos c.args.p +ℤ z)) (held_at c) ∙ held_same _ c.args.r c.requires
 
-add_t : tie.Need-overflow-add-t
-add_t c = rw (machine_terms _ c.held.result c.before.requires (small c)) (sum_fits _ c.held.result c.before.requires (small c))
+add_t : tie.Need-overflow_add-t
+add_t c = rw (machine_terms _ c.held.result c.requires (small c)) (sum_fits _ c.held.result c.requires (small c))
 
-within : (c : tie.Else2) → Within 1023 (sum c.before.before)
-within c = held_within 1023 (sum c.before.before) (rw (sum_at c.before.before) at c.before.if1.false) (rw (sum_at c.before.before) at c.if2.false)
+within : (c : tie.Else-t-gt1023) → Within 1023 (sum c.before.before)
+within c = held_within 1023 (sum c.before.before) (rw (sum_at c.before.before) at c.if-t-lt0.false) (rw (sum_at c.before.before) at c.if-t-gt1023.false)
 
-cast_result : tie.Need-overflow-cast-result
+cast_result : tie.Need-overflow_cast-result
 cast_result c = rw (sum_at c.before.before) ((within c).some, record { fits = omega (arith, (within c).most) })
 
-returns : tie.Need-returns
+returns : tie.Need-returns-then-t-lt0
 unfolding sample_z
-returns c = held_low 1023 (sum c.before) (rw (sum_at c.before) at c.if1.true) ∙ same c.before
+returns c = held_low 1023 (sum c.before) (rw (sum_at c.before) at c.if-t-lt0.true) ∙ same c.before
 
-returns-2 : tie.Need-returns-2
+returns-2 : tie.Need-returns-then-t-gt1023
 unfolding sample_z
-returns-2 c = held_high 1023 (sum c.before.before) (rw (sum_at c.before.before) at c.if2.true) ∙ same c.before.before
+returns-2 c = held_high 1023 (sum c.before.before) (rw (sum_at c.before.before) at c.if-t-gt1023.true) ∙ same c.before.before
 
-returns-3 : tie.Need-returns-3
+returns-3 : tie.Need-returns-else-t-gt1023
 unfolding sample_z
 returns-3 c = ap nat_abs (sum_at c.before.before) ∙ (within c).same ∙ same c.before.before
 

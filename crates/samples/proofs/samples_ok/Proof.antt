@@ -12,25 +12,25 @@ use Rattle.samples.proofs.Samples.{joined}
 use Rattle.samples.proofs.samples_ok.Statement.{statement}
 use Rattle.samples.proofs.samples_ok.Tie as tie
 
-abbrev invariant-loop : tie.invariant-loop
+abbrev invariant-loop : tie.invariant-loop-i
 invariant-loop p all₀ i₀ all i = (i ≤ length p) × (sample_ok all ≡ all_below (λ (k : ℕ). sample_ok (get_or p k 0)) i)
 
-abbrev decreases-loop : tie.decreases-loop
+abbrev decreases-loop : tie.decreases-loop-i
 decreases-loop p all₀ i₀ all i = length p - i
 
-loop_holds : tie.Need-loop-init invariant-loop decreases-loop
+loop_holds : tie.Need-loop-i-init invariant-loop decreases-loop
 loop_holds c = (omega arith, sym (scan_none _))
 
-loop_again : tie.Need-loop-preserved invariant-loop decreases-loop
+loop_again : tie.Need-loop-i-preserved invariant-loop decreases-loop
 loop_again c =
-    let h = c.before.before.loop in
+    let h = c.loop-i in
     (search rules, joined h.all _ ∙ rw h.invariant.1 (sym (scan_step _ _)))
 
 returns : tie.Need-returns invariant-loop decreases-loop
 unfolding samples_ok
 returns c =
-    let e : c.before.loop.i ≡ length c.before.before.args.p.now = omega arith in
-    c.before.loop.invariant.1 ∙ rw e
+    let e : c.loop-i.i ≡ length c.args.p.now = omega arith in
+    c.loop-i.invariant.1 ∙ rw e
 
 pub samples_ok_spec : {M : Type 1} → statement M
 samples_ok_spec =

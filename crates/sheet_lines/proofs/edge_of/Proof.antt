@@ -5,14 +5,14 @@ use Rattle.sheet_lines.proofs.Forms.{edge_old, edge_own, edge_no}
 use Rattle.sheet_lines.proofs.edge_of.Statement.{statement}
 use Rattle.sheet_lines.proofs.edge_of.Tie as tie
 
-returns : tie.Need-returns
-returns c = edge_old _ (sym c.before.same_line.ensures ∙ c.if1.true)
+returns : tie.Need-returns-then-same_line
+returns c = edge_old _ (sym c.same_line.ensures ∙ c.if-same_line.true)
 
-returns-2 : tie.Need-returns-2
-returns-2 c = edge_own _ (sym c.before.before.before.before.same_line.ensures ∙ c.before.before.before.if1.false) (sym c.before.same-line2.ensures ∙ c.if2.true)
+returns-2 : tie.Need-returns-then-same_line-2
+returns-2 c = edge_own _ (sym c.same_line.ensures ∙ c.if-same_line.false) (sym c.same_line-2.ensures ∙ c.if-same_line-2.true)
 
-returns-3 : tie.Need-returns-3
-returns-3 c = edge_no _ (sym c.before.before.before.before.same_line.ensures ∙ c.before.before.before.if1.false) (sym c.before.same-line2.ensures ∙ c.if2.false)
+returns-3 : tie.Need-returns
+returns-3 c = edge_no _ (sym c.same_line.ensures ∙ c.if-same_line.false) (sym c.same_line-2.ensures ∙ c.if-same_line-2.false)
 
 pub edge_of_spec : {M : Type 1} → statement M
 edge_of_spec =

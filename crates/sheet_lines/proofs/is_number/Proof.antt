@@ -27,14 +27,14 @@ module _ (l : List ℕ) where
   unfolding is_number
   rest b e p q = rw (e, le-leb 1 (length l) p, le-leb (length l) 4 q)
 
-returns : tie.Need-returns
-returns c = no_digit _ c.if1.true
+returns : tie.Need-returns-then-n-lt1
+returns c = no_digit _ c.if-n-lt1.true
 
-returns-2 : tie.Need-returns-2
-returns-2 c = too_many _ c.if2.true
+returns-2 : tie.Need-returns-then-n-gt4
+returns-2 c = too_many _ c.if-n-gt4.true
 
-returns-3 : tie.Need-returns-3
-returns-3 c = rest _ _ c.all-between.ensures (omega arith) (omega arith)
+returns-3 : tie.Need-returns
+returns-3 c = rest _ _ c.all_between.ensures (omega arith) (omega arith)
 
 pub is_number_spec : {M : Type 1} → statement M
 is_number_spec = tie.close (tie.spec returns returns-2 (λ c. search rules) (λ c κs. search rules) returns-3)

@@ -9,30 +9,30 @@ use Rattle.sheet_lines.proofs.line_at.Statement.{statement}
 use Rattle.sheet_lines.proofs.line_at.Tie as tie
 
 -- the line ends within the text
-fits : (c : tie.After-line-length) → let a = c.before.before.args in a.at + c.line_length.result ≤ length a.s.now
-fits c = let a = c.before.before.args in omega (arith, c.line_length.ensures, line_fits a.s.now a.at c.before.before.requires)
+fits : (c : tie.After-line_length) → let a = c.before.before.args in a.at + c.line_length.result ≤ length a.s.now
+fits c = let a = c.args in omega (arith, c.line_length.ensures, line_fits a.s.now a.at c.requires)
 
-add_end : tie.Need-overflow-add-end
+add_end : tie.Need-overflow_add-end
 add_end c = omega (arith, fits c)
 
-returns : tie.Need-returns
-returns c = field_cut _ _ _ _ c.before.line_length.ensures (not-true _ c.if1.true)
+returns : tie.Need-returns-then-not-end-s
+returns c = field_cut _ _ _ _ c.line_length.ensures c.if-not-end-s.true
 
 part_value_of_end : tie.Need-slice-bounds-value-of-end
 part_value_of_end c = fits c.before
 
-add_t16 : tie.Need-overflow-add-t16
+add_t16 : tie.Need-overflow_add-result
 add_t16 c = omega (arith, fits c.before.before.before.before.before.before)
 
-returns-2 : tie.Need-returns-2
+returns-2 : tie.Need-returns-in-Malformed
 returns-2 c =
     let u = c.before.before.before.before in
-    field_no _ _ _ _ u.before.line_length.ensures _ (not-false _ u.if1.false) c.before.before.value_of_lem.ensures c.enum_told.given.1
+    field_no _ _ _ _ u.line_length.ensures _ u.if-not-end-s.false c.value_of.ensures c.in-Malformed.is
 
-returns-3 : tie.Need-returns-3
+returns-3 : tie.Need-returns-in-Is
 returns-3 c =
     let u = c.before.before.before.before.before in
-    field_is _ _ _ _ u.before.line_length.ensures _ (not-false _ u.if1.false) c.before.before.before.value_of_lem.ensures _ c.before.value.given.1
+    field_is _ _ _ _ u.line_length.ensures _ u.if-not-end-s.false c.value_of.ensures _ c.in-Is.is
 
 pub line_at_spec : {M : Type 1} → statement M
 line_at_spec =

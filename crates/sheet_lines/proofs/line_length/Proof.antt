@@ -9,26 +9,26 @@ use Rattle.sheet_lines.proofs.Reading.{line_stop, line_on, line_end}
 use Rattle.sheet_lines.proofs.line_length.Statement.{statement}
 use Rattle.sheet_lines.proofs.line_length.Tie as tie
 
-abbrev invariant-loop : tie.invariant-loop
+abbrev invariant-loop : tie.invariant-loop-i
 invariant-loop s at i₀ i = (at ≤ i) × (length (line_from s at) ≡ (i - at) + length (line_from s i))
 
-abbrev decreases-loop : tie.decreases-loop
+abbrev decreases-loop : tie.decreases-loop-i
 decreases-loop s at i₀ i = length s - i
 
-returns : tie.Need-returns invariant-loop decreases-loop
+returns : tie.Need-returns-then-s-i-eq10 invariant-loop decreases-loop
 returns c =
-    let l = c.before.before.before.loop in
-    let s = c.before.before.before.before.args.s.now in
-    omega (arith, ap length (line_stop s l.i (omega arith) c.if1.true))
+    let l = c.loop-i in
+    let s = c.args.s.now in
+    omega (arith, ap length (line_stop s l.i (omega arith) c.if-s-i-eq10.true))
 
-loop_again : tie.Need-loop-preserved invariant-loop decreases-loop
+loop_again : tie.Need-loop-i-preserved invariant-loop decreases-loop
 loop_again c =
-    let l = c.before.before.before.loop in
-    let s = c.before.before.before.before.args.s.now in
-    (omega arith, omega (arith, ap length (line_on s l.i (omega arith) c.if1.false)))
+    let l = c.loop-i in
+    let s = c.args.s.now in
+    (omega arith, omega (arith, ap length (line_on s l.i (omega arith) c.if-s-i-eq10.false)))
 
-returns-2 : tie.Need-returns-2 invariant-loop decreases-loop
-returns-2 c = omega (arith, ap length (line_end c.before.before.args.s.now c.before.loop.i (omega arith)))
+returns-2 : tie.Need-returns invariant-loop decreases-loop
+returns-2 c = omega (arith, ap length (line_end c.args.s.now c.loop-i.i (omega arith)))
 
 pub line_length_spec : {M : Type 1} → statement M
 line_length_spec =

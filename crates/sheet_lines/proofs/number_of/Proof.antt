@@ -9,27 +9,27 @@ use Rattle.sheet_lines.proofs.number_of.Statement.{statement}
 use Rattle.sheet_lines.proofs.number_of.Tie as tie
 
 -- where the line begins with the key
-keyed : (c : tie.Else1) → let a = c.before.before.before.before.args in starts_with a.key.now a.line.now ≡ true
-keyed c = sym c.before.starts_with.ensures ∙ not-false _ c.if1.false
+keyed : (c : tie.Else-not-starts_with) → let a = c.before.before.before.before.args in starts_with a.key.now a.line.now ≡ true
+keyed c = sym c.starts_with.ensures ∙ c.if-not-starts_with.false
 
-returns : tie.Need-returns
-returns c = number_no_key _ _ (sym c.before.starts_with.ensures ∙ not-true _ c.if1.true)
+returns : tie.Need-returns-then-not-starts_with
+returns c = number_no_key _ _ (sym c.starts_with.ensures ∙ c.if-not-starts_with.true)
 
-sub_digits : tie.Need-overflow-sub-digits
+sub_digits : tie.Need-slice_bounds-digits-count
 sub_digits c = key_fits _ _ (keyed c)
 
 part_digits_start : tie.Need-slice-bounds-digits-start
 part_digits_start c = key_fits _ _ (keyed c)
 
-returns-2 : tie.Need-returns-2
-returns-2 c = number_no_digits _ _ (keyed c.before.before.before) (sym c.before.is_number.ensures ∙ not-true _ c.if2.true)
+returns-2 : tie.Need-returns-then-not-is_number
+returns-2 c = number_no_digits _ _ (keyed c.before.before.before) (sym c.is_number.ensures ∙ c.if-not-is_number.true)
 
-decimal_value_requires : tie.Need-decimal-value-requires
-decimal_value_requires c κs = sym c.before.is_number.ensures ∙ not-false _ c.if2.false
+decimal_value_requires : tie.Need-decimal_value-requires
+decimal_value_requires c κs = sym c.is_number.ensures ∙ c.if-not-is_number.false
 
-returns-3 : tie.Need-returns-3
+returns-3 : tie.Need-returns
 returns-3 c =
-    number_is _ _ _ (keyed c.before.before.before.before) (sym c.before.before.is_number.ensures ∙ not-false _ c.before.if2.false) c.decimal-value.ensures
+    number_is _ _ _ (keyed c.before.before.before.before) (sym c.is_number.ensures ∙ c.if-not-is_number.false) c.decimal_value.ensures
 
 pub number_of_spec : {M : Type 1} → statement M
 number_of_spec =

@@ -7,84 +7,84 @@ use Rattle.sheet_lines.proofs.Ladder.{Said, said, unsaid, start_zero, bad_0, bad
 use Rattle.sheet_lines.proofs.read.Statement.{statement}
 use Rattle.sheet_lines.proofs.read.Tie as tie
 
-line_0 : (c : tie.After-known-told) → Said Width c.before.before.before.before.before.args.input.now 0 c.before.w.given.0.0 c.before.w.given.0.1.0
-line_0 c = said Width _ 0 0 _ (start_zero _) c.before.before.before.line_at_lem.ensures _ _ c.before.w.given.1
+line_0 : (c : tie.In-At) → Said Width c.before.before.before.before.before.args.input.now 0 c.before.w.given.0.0 c.before.w.given.0.1.0
+line_0 c = said Width _ 0 0 _ (start_zero _) c.line_at.ensures _ _ c.in-At.is
 
-line_1 : (c : tie.After-known-told2) → Said Height c.before.before.before.before.before.before.before.before.before.args.input.now 1
+line_1 : (c : tie.In-At-line_at) → Said Height c.before.before.before.before.before.before.before.before.before.args.input.now 1
     c.before.h.given.0.0 c.before.h.given.0.1.0
-line_1 c = said Height _ 1 _ _ (line_0 c.before.before.before.before).next c.before.before.before.line-at2.ensures _ _ c.before.h.given.1
+line_1 c = said Height _ 1 _ _ (line_0 c.before.before.before.before).next c.line_at-2.ensures _ _ c.in-At-line_at.is
 
-line_2 : (c : tie.After-known-told3) → Said Limit c.before.before.before.before.before.before.before.before.before.before.before.before.before.args.input.now 2
+line_2 : (c : tie.In-At-line_at-2) → Said Limit c.before.before.before.before.before.before.before.before.before.before.before.before.before.args.input.now 2
     c.before.limit.given.0.0 c.before.limit.given.0.1.0
-line_2 c = said Limit _ 2 _ _ (line_1 c.before.before.before.before).next c.before.before.before.line-at3.ensures _ _ c.before.limit.given.1
+line_2 c = said Limit _ 2 _ _ (line_1 c.before.before.before.before).next c.line_at-3.ensures _ _ c.in-At-line_at-2.is
 
-line_3 : (c : tie.After-known-told4)
+line_3 : (c : tie.In-At-line_at-3)
     → Said Edge c.before.before.before.before.before.before.before.before.before.before.before.before.before.before.before.before.before.args.input.now 3
     c.before.edge.given.0.0 c.before.edge.given.0.1.0
-line_3 c = said Edge _ 3 _ _ (line_2 c.before.before.before.before).next c.before.before.before.line-at4.ensures _ _ c.before.edge.given.1
+line_3 c = said Edge _ 3 _ _ (line_2 c.before.before.before.before).next c.line_at-4.ensures _ _ c.in-At-line_at-3.is
 
-line_4 : (c : tie.After-known-told5) → Said Splits
+line_4 : (c : tie.In-At-line_at-4) → Said Splits
     c.before.before.before.before.before.before.before.before.before.before.before.before.before.before.before.before.before.before.before.before.before.args.input.now 4
     c.before.end.given.0.0 c.before.end.given.0.1.0
-line_4 c = said Splits _ 4 _ _ (line_3 c.before.before.before.before).next c.before.before.before.line-at5.ensures _ _ c.before.end.given.1
+line_4 c = said Splits _ 4 _ _ (line_3 c.before.before.before.before).next c.line_at-5.ensures _ _ c.in-At-line_at-4.is
 
-returns : tie.Need-returns
-returns c = gives _ _ (bad_0 _ (unsaid Width _ 0 0 _ (start_zero _) c.before.before.line_at_lem.ensures c.enum_told.given.1))
+returns : tie.Need-returns-in_default
+returns c = gives _ _ (bad_0 _ (unsaid Width _ 0 0 _ (start_zero _) c.line_at.ensures c.in_default.is))
 
-line_at_requires_2 : tie.Need-line-at-requires-2
+line_at_requires_2 : tie.Need-line_at-requires-2
 line_at_requires_2 c κs = (line_0 c).inside
 
-returns-2 : tie.Need-returns-2
+returns-2 : tie.Need-returns-in_default-line_at
 returns-2 c =
     let c₀ = line_0 c.before.before.before in
-    gives _ _ (bad_1 _ c₀.ok (unsaid Height _ 1 _ _ c₀.next c.before.before.line-at2.ensures c.enum-told2.given.1))
+    gives _ _ (bad_1 _ c₀.ok (unsaid Height _ 1 _ _ c₀.next c.line_at-2.ensures c.in_default-line_at.is))
 
-line_at_requires_3 : tie.Need-line-at-requires-3
+line_at_requires_3 : tie.Need-line_at-requires-3
 line_at_requires_3 c κs = (line_1 c).inside
 
-returns-3 : tie.Need-returns-3
+returns-3 : tie.Need-returns-in_default-line_at-2
 returns-3 c =
     let u = c.before.before.before in
     let c₁ = line_1 u in
-    gives _ _ (bad_2 _ (line_0 u.before.before.before.before).ok c₁.ok (unsaid Limit _ 2 _ _ c₁.next c.before.before.line-at3.ensures c.enum-told3.given.1))
+    gives _ _ (bad_2 _ (line_0 u.before.before.before.before).ok c₁.ok (unsaid Limit _ 2 _ _ c₁.next c.line_at-3.ensures c.in_default-line_at-2.is))
 
-line_at_requires_4 : tie.Need-line-at-requires-4
+line_at_requires_4 : tie.Need-line_at-requires-4
 line_at_requires_4 c κs = (line_2 c).inside
 
-returns-4 : tie.Need-returns-4
+returns-4 : tie.Need-returns-in_default-line_at-3
 returns-4 c =
     let u = c.before.before.before in
     let v = u.before.before.before.before in
     let c₂ = line_2 u in
-    gives _ _ (bad_3 _ (line_0 v.before.before.before.before).ok (line_1 v).ok c₂.ok (unsaid Edge _ 3 _ _ c₂.next c.before.before.line-at4.ensures c.enum-told4.given.1))
+    gives _ _ (bad_3 _ (line_0 v.before.before.before.before).ok (line_1 v).ok c₂.ok (unsaid Edge _ 3 _ _ c₂.next c.line_at-4.ensures c.in_default-line_at-3.is))
 
-line_at_requires_5 : tie.Need-line-at-requires-5
+line_at_requires_5 : tie.Need-line_at-requires-5
 line_at_requires_5 c κs = (line_3 c).inside
 
-returns-5 : tie.Need-returns-5
+returns-5 : tie.Need-returns-in_default-line_at-4
 returns-5 c =
     let u = c.before.before.before in
     let v = u.before.before.before.before in
     let w = v.before.before.before.before in
     let c₃ = line_3 u in
     gives _ _ (bad_4 _ (line_0 w.before.before.before.before).ok (line_1 w).ok (line_2 v).ok c₃.ok
-    (unsaid Splits _ 4 _ _ c₃.next c.before.before.line-at5.ensures c.enum-told5.given.1))
+    (unsaid Splits _ 4 _ _ c₃.next c.line_at-5.ensures c.in_default-line_at-4.is))
 
-returns-6 : tie.Need-returns-6
+returns-6 : tie.Need-returns-then-end-input
 returns-6 c =
     let t = c.before in
     let u = t.before.before.before.before in
     let v = u.before.before.before.before in
     let w = v.before.before.before.before in
-    gives _ _ (extra _ (line_0 w.before.before.before.before).ok (line_1 w).ok (line_2 v).ok (line_3 u).ok (line_4 t).ok _ (line_4 t).next c.if1.true)
+    gives _ _ (extra _ (line_0 w.before.before.before.before).ok (line_1 w).ok (line_2 v).ok (line_3 u).ok (line_4 t).ok _ (line_4 t).next c.if-end-input.true)
 
-add_from : tie.Need-overflow-add-from
+add_from : tie.Need-overflow_add-from
 add_from c = omega (arith, (line_3 c.before.before.before.before.before).inside)
 
-sub_to : tie.Need-overflow-sub-to
+sub_to : tie.Need-overflow_sub-to
 sub_to c = (line_4 c.before).some
 
-returns-7 : tie.Need-returns-7
+returns-7 : tie.Need-returns
 returns-7 c =
     let t = c.before in
     let u = t.before.before.before.before in
@@ -92,7 +92,7 @@ returns-7 c =
     let w = v.before.before.before.before in
     let x = w.before.before.before.before in
     gives _ _ (whole _ (line_0 x).ok (line_1 w).ok (line_2 v).ok (line_3 u).ok (line_4 t).ok _ _ _ _ _ _ (line_0 x).value (line_1 w).value
-    (line_2 v).value (line_3 u).value (line_3 u).next (line_4 t).next c.if1.false)
+    (line_2 v).value (line_3 u).value (line_3 u).next (line_4 t).next c.if-end-input.false)
 
 pub read_spec : {M : Type 1} → statement M
 read_spec =

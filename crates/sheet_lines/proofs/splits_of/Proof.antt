@@ -9,23 +9,23 @@ use Rattle.sheet_lines.proofs.Forms.{key_fits, splits_no_key, splits_is, splits_
 use Rattle.sheet_lines.proofs.splits_of.Statement.{statement}
 use Rattle.sheet_lines.proofs.splits_of.Tie as tie
 
-keyed : (c : tie.Else1) → starts_with splits_key c.before.before.before.before.args.line.now ≡ true
-keyed c = sym c.before.starts_with.ensures ∙ not-false _ c.if1.false
+keyed : (c : tie.Else-not-starts_with) → starts_with splits_key c.before.before.before.before.args.line.now ≡ true
+keyed c = sym c.starts_with.ensures ∙ c.if-not-starts_with.false
 
-returns : tie.Need-returns
-returns c = splits_no_key _ (sym c.before.starts_with.ensures ∙ not-true _ c.if1.true)
+returns : tie.Need-returns-then-not-starts_with
+returns c = splits_no_key _ (sym c.starts_with.ensures ∙ c.if-not-starts_with.true)
 
-sub_all_between : tie.Need-overflow-sub-all-between
+sub_all_between : tie.Need-slice_bounds-all_between-count
 sub_all_between c = key_fits splits_key _ (keyed c)
 
 part_all_between_start : tie.Need-slice-bounds-all-between-start
 part_all_between_start c = key_fits splits_key _ (keyed c)
 
-returns-2 : tie.Need-returns-2
-returns-2 c = splits_is _ (keyed c.before.before.before) (sym c.before.all-between.ensures ∙ c.if2.true)
+returns-2 : tie.Need-returns-then-all_between
+returns-2 c = splits_is _ (keyed c.before.before.before) (sym c.all_between.ensures ∙ c.if-all_between.true)
 
-returns-3 : tie.Need-returns-3
-returns-3 c = splits_no _ (keyed c.before.before.before) (sym c.before.all-between.ensures ∙ c.if2.false)
+returns-3 : tie.Need-returns
+returns-3 c = splits_no _ (keyed c.before.before.before) (sym c.all_between.ensures ∙ c.if-all_between.false)
 
 pub splits_of_spec : {M : Type 1} → statement M
 splits_of_spec =

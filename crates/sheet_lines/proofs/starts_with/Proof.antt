@@ -9,23 +9,23 @@ use Rattle.sheet_lines.proofs.Reading.{key_none, key_out, key_other, key_on}
 use Rattle.sheet_lines.proofs.starts_with.Statement.{statement}
 use Rattle.sheet_lines.proofs.starts_with.Tie as tie
 
-abbrev invariant-loop : tie.invariant-loop
+abbrev invariant-loop : tie.invariant-loop-i
 invariant-loop line key i₀ i = starts_with key line ≡ starts_with (drop i key) (drop i line)
 
-abbrev decreases-loop : tie.decreases-loop
+abbrev decreases-loop : tie.decreases-loop-i
 decreases-loop line key i₀ i = length key - i
 
-returns : tie.Need-returns invariant-loop decreases-loop
-returns c = let l = c.before.before.loop in sym (l.invariant ∙ key_out _ _ l.i (omega arith) (omega arith))
+returns : tie.Need-returns-then-line-i invariant-loop decreases-loop
+returns c = let l = c.loop-i in sym (l.invariant ∙ key_out _ _ l.i (omega arith) (omega arith))
 
-returns-2 : tie.Need-returns-2 invariant-loop decreases-loop
-returns-2 c = let l = c.before.before.before.before.before.loop in sym (l.invariant ∙ key_other _ _ l.i (omega arith) (omega arith) c.if2.true)
+returns-2 : tie.Need-returns-then-key-i invariant-loop decreases-loop
+returns-2 c = let l = c.loop-i in sym (l.invariant ∙ key_other _ _ l.i (omega arith) (omega arith) c.if-key-i.true)
 
-loop_again : tie.Need-loop-preserved invariant-loop decreases-loop
-loop_again c = let l = c.before.before.before.before.before.loop in l.invariant ∙ key_on _ _ l.i (omega arith) (omega arith) c.if2.false
+loop_again : tie.Need-loop-i-preserved invariant-loop decreases-loop
+loop_again c = let l = c.loop-i in l.invariant ∙ key_on _ _ l.i (omega arith) (omega arith) c.if-key-i.false
 
-returns-3 : tie.Need-returns-3 invariant-loop decreases-loop
-returns-3 c = let l = c.before.loop in sym (l.invariant ∙ key_none _ _ l.i (omega arith))
+returns-3 : tie.Need-returns invariant-loop decreases-loop
+returns-3 c = let l = c.loop-i in sym (l.invariant ∙ key_none _ _ l.i (omega arith))
 
 pub starts_with_spec : {M : Type 1} → statement M
 starts_with_spec =

@@ -13,20 +13,20 @@ use Rattle.sheet_lines.proofs.value_of.Tie as tie
 as_kind : (l : List ℕ) (v : Value) (k k' : Kind) → k ≡ k' → v ≡ value_by (form_of k') (says_of k') l → v ≡ value_by (form_of k) (says_of k) l
 as_kind l v k k' e p = p ∙ ap (λ (j : Kind). value_by (form_of j) (says_of j) l) (sym e)
 
-returns : tie.Need-returns
-returns c = as_kind _ _ _ _ c.before.before.enum_told.given.1 c.number_of_lem.ensures
+returns : tie.Need-returns-in-Width
+returns c = as_kind _ _ _ _ c.in-Width.is c.number_of.ensures
 
-returns-2 : tie.Need-returns-2
-returns-2 c = as_kind _ _ _ _ c.before.before.enum-told2.given.1 c.number-of2.ensures
+returns-2 : tie.Need-returns-in-Height
+returns-2 c = as_kind _ _ _ _ c.in-Height.is c.number_of-in-Height.ensures
 
-returns-3 : tie.Need-returns-3
-returns-3 c = as_kind _ _ _ _ c.before.before.enum-told3.given.1 c.number-of3.ensures
+returns-3 : tie.Need-returns-in-Limit
+returns-3 c = as_kind _ _ _ _ c.in-Limit.is c.number_of-in-Limit.ensures
 
-returns-4 : tie.Need-returns-4
-returns-4 c = as_kind _ _ _ _ c.before.enum-told4.given.1 c.edge_of_lem.ensures
+returns-4 : tie.Need-returns-in-Edge
+returns-4 c = as_kind _ _ _ _ c.in-Edge.is c.edge_of.ensures
 
-returns-5 : tie.Need-returns-5
-returns-5 c = as_kind _ _ _ _ c.before.enum-told5.given.1 c.splits_of.ensures
+returns-5 : tie.Need-returns-in-Splits
+returns-5 c = as_kind _ _ _ _ c.in-Splits.is c.splits_of.ensures
 
 pub value_of_spec : {M : Type 1} → statement M
 value_of_spec =

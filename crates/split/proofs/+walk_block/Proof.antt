@@ -33,11 +33,11 @@ walk_block_at t = and 2 walk-block-kinds.ps (is 2 walk-block-kinds.ps μ-walk-bl
 abbrev walk_block_below : ℕ → In 2 walk-block-kinds.ps
 walk_block_below t = and 2 walk-block-kinds.ps (falls 2 walk-block-kinds.ps ◌<◌ μ-walk-block t) walk-block.Pre
 
-abbrev walk_block_Inv_loop : walk-block-lts.invariant-loop
+abbrev walk_block_Inv_loop : walk-block-lts.invariant-loop-part
 walk_block_Inv_loop bytes w h x y side level out₀ n byte half count₀ part₀ out count part =
     (part ≤ 4) × (length out ≡ length out₀) × Cut bytes w h x.0 y.0 side level half × Turned bytes w h x.0 y.0 level out₀ n out part count
 
-abbrev walk_block_μ_loop : walk-block-lts.decreases-loop
+abbrev walk_block_μ_loop : walk-block-lts.decreases-loop-part
 walk_block_μ_loop bytes w h x y side level out₀ n byte half count₀ part₀ out count part = 4 - part
 
 abbrev calls : ℕ → walk-block-lts.Claims
@@ -56,14 +56,14 @@ calls t = (
 
 -- the block starts in the picture
 abbrev Inside : ℕ → Type 0
-Inside t = walk-block-lts.Else1 (calls t) (walk_block_at t) walk-block.Post walk_block_Inv_loop walk_block_μ_loop
+Inside t = walk-block-lts.Else-w-x (calls t) (walk_block_at t) walk-block.Post walk_block_Inv_loop walk_block_μ_loop
 
 inside : (t : ℕ) (e : Inside t) → let a = e.before.before.before.before.before.args in (a.x.0 < a.w) × (a.y.0 < a.h)
-inside t e = started _ _ _ _ e.if1.left
+inside t e = started _ _ _ _ e.if-w-x.left
 
 -- a part is about to be walked
 abbrev Next : ℕ → Type 0
-Next t = walk-block-lts.After-part-at (calls t) (walk_block_at t) walk-block.Post walk_block_Inv_loop walk_block_μ_loop
+Next t = walk-block-lts.After-part_at-place (calls t) (walk_block_at t) walk-block.Post walk_block_Inv_loop walk_block_μ_loop
 
 -- it is a block of its own, and there is room for its leaves
 part_asks : (t : ℕ) (c : Next t) →
@@ -72,14 +72,14 @@ part_asks : (t : ℕ) (c : Next t) →
     Block a.w a.h c.part_at.result.x.0 c.part_at.result.y.0 (a.side / 2) (a.level + 1)
     × (3 * (p.count + a.side / 2 / 4 * (a.side / 2 / 4)) ≤ length p.out)
 part_asks t c =
-    let v = c.before.before.loop.invariant in
-    let l = c.before.loop-test.true in
-    let p = c.before.before.before.before.before.before.before.before.before.before.before.requires.1 in
-    (part_block v.2 _ _ _ l c.part_at.ensures.0 c.part_at.ensures.1, part_room v.2 v.3 _ l (omega (arith, v.1, p.3)))
+    let v = c.loop-part.invariant in
+    let l = c.loop-part-test.true in
+    let p = c.requires.1 in
+    (part_block v.2 _ _ _ l c.part_at-place.ensures.0 c.part_at-place.ensures.1, part_room v.2 v.3 _ l (omega (arith, v.1, p.3)))
 
 -- a part was walked: where the two ways meet
 abbrev Met : ℕ → Type 0
-Met t = walk-block-lts.Joined4 (calls t) (walk_block_at t) walk-block.Post walk_block_Inv_loop walk_block_μ_loop
+Met t = walk-block-lts.Joined-level-eq2 (calls t) (walk_block_at t) walk-block.Post walk_block_Inv_loop walk_block_μ_loop
 
 part_walked : (t : ℕ) (j : Met t) →
     let a = j.before.before.before.before.before.before.before.before.before.before.before.before.args in
@@ -91,7 +91,7 @@ part_walked t j =
     ⊎_elim
     (λ u. rw (u.5, u.6) (u.2.kept.1.1.1.1.1.0, rw u.0.taken u.2.ensures))
     (λ u. rw (u.5, u.6) (u.2.kept.1.1.1.1.1.1.1.0, u.2.ensures))
-    j.if4.came
+    j.if-level-eq2.came
 
 pub +walk-block-spec : {M : Type 1} → statement M
 +walk-block-spec = close μ-walk-block λ t. walk-block-lts.spec (calls t)
@@ -100,66 +100,66 @@ pub +walk-block-spec : {M : Type 1} → statement M
     walk_block_Inv_loop
     walk_block_μ_loop
     -- outside the picture, to the right or below: nothing is met
-    (λ c. stored_as (skip _ c.before.before.before.before.before.requires.1.0 c.if1.true) (stored_nothing _ _))
+    (λ c. stored_as (skip _ c.requires.1.0 c.if-w-x.true) (stored_nothing _ _))
     -- the byte: neither 0 nor 1. e is where the block is known to start inside
-    (λ c κs. let p = c.before.before.before.before.before.requires.1 in (p.2, p.0.right, p.0.bottom, has_byte p.1))
+    (λ c κs. let p = c.requires.1 in (p.2, p.0.right, p.0.bottom, has_byte p.1))
     (λ c.
     let e = c.before.before in
     let i = inside t e in
-    let p = e.before.before.before.before.before.requires.1 in
-    stored_as (at_bad _ p.0 i.0 i.1 (has_byte p.1) _ c.before.get-split-mode.ensures c.if2.true) (stored_refused _ _ _))
+    let p = e.requires.1 in
+    stored_as (at_bad _ p.0 i.0 i.1 (has_byte p.1) _ c.get_split_mode-byte.ensures c.if-byte-gt1.true) (stored_refused _ _ _))
     -- 0: a leaf
-    (λ c κs. let p = c.before.before.before.before.before.before.before.before.before.requires.1 in (p.0, room_one p.0 _ _ p.3))
-    (λ c. c.before.before.put-leaf.auto.1.1.1.1.1.1.0)
+    (λ c κs. let p = c.requires.1 in (p.0, room_one p.0 _ _ p.3))
+    (λ c. c.put_leaf.auto.1.1.1.1.1.1.0)
     (λ c.
     let g = c.before.before.before.before.before.before in
     let e = g.before in
     let i = inside t e in
-    let p = e.before.before.before.before.before.requires.1 in
-    stored_as (at_leaf _ p.0 i.0 i.1 (has_byte p.1) _ g.get-split-mode.ensures c.before.before.before.before.if3.true) c.before.before.put-leaf.ensures)
+    let p = e.requires.1 in
+    stored_as (at_leaf _ p.0 i.0 i.1 (has_byte p.1) _ g.get_split_mode-byte.ensures c.if-byte-eq0.true) c.put_leaf.ensures)
     -- 1: the loop over the four parts
     (λ c.
     let g = c.before.before in
     let e = g.before in
     let i = inside t e in
-    let p = e.before.before.before.before.before.requires.1 in
-    (zero-le, refl, cut _ p.0 i.0 i.1 (has_byte p.1) _ g.get-split-mode.ensures (only_one _ c.before.if2.false c.if3.false), no_part _ _ _ _ _ _ _ _))
-    (λ c κs. let v = c.before.loop.invariant.2 in (v.right, v.bottom, c.loop-test.true))
+    let p = e.requires.1 in
+    (zero-le, refl, cut _ p.0 i.0 i.1 (has_byte p.1) _ g.get_split_mode-byte.ensures (only_one _ c.if-byte-gt1.false c.if-byte-eq0.false), no_part _ _ _ _ _ _ _ _))
+    (λ c κs. let v = c.loop-part.invariant.2 in (v.right, v.bottom, c.loop-part-test.true))
     -- what the next part asks, of side 8
     (λ c κs.
     let n = c.before.before in
     let q = part_asks t n in
     let s = n.before.before.before.before.before.before.before.before.before.before.before in
-    let e : s.args.level + 1 ≡ 3 = omega (arith, c.before.if4.true) in
+    let e : s.args.level + 1 ≡ 3 = omega (arith, c.if-level-eq2.true) in
     (as_eight q.0 e, s.requires.1.2, room_eight q.0 e _ _ q.1))
     -- and as a block that is walked: half the side
-    (λ c. record { fits = deeper _ (has_byte c.before.before.before.before.before.before.before.before.before.before.before.before.requires.1.1) })
+    (λ c. record { fits = deeper _ (has_byte c.requires.1.1) })
     (λ c κs.
     let n = c.before.before in
     let q = part_asks t n in
     let s = n.before.before.before.before.before.before.before.before.before.before.before in
     let p = s.requires in
-    (subst (λ (m : ℕ). s.args.side / 2 < m) p.0 n.before.before.loop.invariant.2.less, (q.0, not_eight _ p.1.1 c.before.if4.false, p.1.2, q.1)))
+    (subst (λ (m : ℕ). s.args.side / 2 < m) p.0 n.loop-part.invariant.2.less, (q.0, not_eight _ p.1.1 c.if-level-eq2.false, p.1.2, q.1)))
     (λ c. search rules)
     (λ c. search rules)
     -- a part that is refused ends the walk
-    (λ c. let j = c.before.before.before in (part_walked t j).0 ∙ j.before.before.before.loop.invariant.1)
+    (λ c. let j = c.before.before.before in (part_walked t j).0 ∙ j.loop-part.invariant.1)
     (λ c.
     let j = c.before.before.before in
-    let v = j.before.before.before.loop.invariant in
-    part_refused v.2 v.3 _ _ j.before.part_at.ensures.0 j.before.part_at.ensures.1 _ _ (part_walked t j).1 _
-    j.before.before.loop-test.true c.before.walked2.given.1)
+    let v = j.loop-part.invariant in
+    part_refused v.2 v.3 _ _ j.part_at-place.ensures.0 j.part_at-place.ensures.1 _ _ (part_walked t j).1 _
+    j.loop-part-test.true c.in-Refused.is)
     -- a part more
-    (λ c. record { fits = counted _ c.before.before.before.before.before.loop-test.true })
-    (λ c. fewer _ c.before.before.before.before.before.loop-test.true)
+    (λ c. record { fits = counted _ c.loop-part-test.true })
+    (λ c. fewer _ c.loop-part-test.true)
     (λ c.
     let j = c.before.before.before in
-    let v = j.before.before.before.loop.invariant in (
-      within _ j.before.before.loop-test.true,
+    let v = j.loop-part.invariant in (
+      within _ j.loop-part-test.true,
       (part_walked t j).0 ∙ v.1,
       v.2,
-      part_more v.2 v.3 _ _ j.before.part_at.ensures.0 j.before.part_at.ensures.1 _ _ (part_walked t j).1 _ c.before.walked.given.1,
+      part_more v.2 v.3 _ _ j.part_at-place.ensures.0 j.part_at-place.ensures.1 _ _ (part_walked t j).1 _ c.in-Done.is,
     ))
     -- all four
-    (λ c. c.before.loop.invariant.1)
-    (λ c. let v = c.before.loop.invariant in whole v.2 v.3 c.loop-test.false v.0)
+    (λ c. c.loop-part.invariant.1)
+    (λ c. let v = c.loop-part.invariant in whole v.2 v.3 c.loop-part-test.false v.0)

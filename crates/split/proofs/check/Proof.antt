@@ -12,33 +12,33 @@ use Rattle.split.proofs.Outcomes.{check_gives}
 use Rattle.split.proofs.check.Statement.{statement}
 use Rattle.split.proofs.check.Tie as tie
 
-returns : tie.Need-returns
+returns : tie.Need-returns-then-not-size_ok
 unfolding check-call.check
-returns c = check_gives _ (Refused Size) (stops _ _ _ _ c.before.Size-ok.ensures c.if1.true)
+returns c = check_gives _ (Refused Size) (stops _ _ _ _ c.size_ok.ensures c.if-not-size_ok.true-raw)
 
-root_count_requires : tie.Need-root-count-requires
-root_count_requires c κs = let z = sized _ _ (sym c.before.Size-ok.ensures ∙ not-false _ c.if1.false) in (z.wide, z.high)
+root_count_requires : tie.Need-root_count-requires
+root_count_requires c κs = let z = sized _ _ (sym c.size_ok.ensures ∙ c.if-not-size_ok.false) in (z.wide, z.high)
 
-returns-2 : tie.Need-returns-2
+returns-2 : tie.Need-returns-then-splits-root_count
 unfolding check-call.check
 returns-2 c =
     let d = c.before.before in
     check_gives _ (Refused Length)
-    (goes_on _ _ _ _ _ d.before.Size-ok.ensures d.if1.false
-    (at_refusal _ _ _ (ne_eqb _ _ (λ e. c.if2.true (e ∙ ap (λ (n : ℕ). 1024 * n) (sym c.before.root-count.ensures.0))))))
+    (goes_on _ _ _ _ _ d.size_ok.ensures d.if-not-size_ok.false-raw
+    (at_refusal _ _ _ (ne_eqb _ _ (λ e. c.if-splits-root_count.true (e ∙ ap (λ (n : ℕ). 1024 * n) (sym c.root_count.ensures.0))))))
 
-walk_picture_requires : tie.Need-walk-picture-requires
+walk_picture_requires : tie.Need-walk_picture-requires
 walk_picture_requires c κs =
     let d = c.before.before in
-    (sized _ _ (sym d.before.Size-ok.ensures ∙ not-false _ d.if1.false), c.if2.false ∙ ap (λ (n : ℕ). 1024 * n) c.before.root-count.ensures.0)
+    (sized _ _ (sym d.size_ok.ensures ∙ d.if-not-size_ok.false), c.if-splits-root_count.false ∙ ap (λ (n : ℕ). 1024 * n) c.root_count.ensures.0)
 
-returns-3 : tie.Need-returns-3
+returns-3 : tie.Need-returns
 unfolding check-call.check
 returns-3 c =
     let d = c.before.before.before in
-    check_gives _ c.walk-picture.result
-    (goes_on _ _ _ _ _ d.before.Size-ok.ensures d.if1.false
-    (past_refusal _ _ _ _ (eq-eqb _ _ (c.before.if2.false ∙ ap (λ (n : ℕ). 1024 * n) c.before.before.root-count.ensures.0)) c.walk-picture.ensures))
+    check_gives _ c.walk_picture.result
+    (goes_on _ _ _ _ _ d.size_ok.ensures d.if-not-size_ok.false-raw
+    (past_refusal _ _ _ _ (eq-eqb _ _ (c.if-splits-root_count.false ∙ ap (λ (n : ℕ). 1024 * n) c.root_count.ensures.0)) c.walk_picture.ensures))
 
 pub check_spec : {M : Type 1} → statement M
 check_spec =

@@ -6,8 +6,8 @@ use Rattle.split.proofs.get_split_mode.Tie as tie
 
 returns : tie.Need-returns
 returns c =
-    let a = c.before.before.before.before.before.before.before.before.args in
-    byte_at_centre a.bytes.now a.level c.before.before.before.before.before.pel2scu.ensures c.before.before.pel2scu2.ensures
+    let a = c.args in
+    byte_at_centre a.bytes.now a.level c.pel2scu-column.ensures c.pel2scu-row.ensures
 
 pub get_split_mode_spec : {M : Type 1} → statement M
 get_split_mode_spec =

@@ -6,7 +6,7 @@ use Rattle.split.proofs.leaves.Statement.{statement}
 use Rattle.split.proofs.leaves.Tie as tie
 
 returns : tie.Need-returns
-returns c = c.before.before.root-leaves.ensures ∙ by_root _ _ _ _ _ _ _ c.before.before.before.before.root-number.ensures
+returns c = c.root_leaves.ensures ∙ by_root _ _ _ _ _ _ _ c.root_number.ensures
 
 pub leaves_spec : {M : Type 1} → statement M
 leaves_spec = tie.close (tie.spec (λ c κs. search rules) (λ c κs. search rules) (λ c. search rules) returns)

@@ -15,47 +15,47 @@ use Rattle.split.proofs.Stores.{stored_as}
 use Rattle.split.proofs.met_leaves.Statement.{statement}
 use Rattle.split.proofs.met_leaves.Tie as tie
 
-size_told : (c : tie.Else1) → Sized c.before.before.before.before.args.w c.before.before.before.before.args.h
-size_told c = sized _ _ (sym c.before.Size-ok.ensures ∙ not-false _ c.if1.false)
+size_told : (c : tie.Else-not-size_ok) → Sized c.before.before.before.before.args.w c.before.before.before.before.args.h
+size_told c = sized _ _ (sym c.size_ok.ensures ∙ c.if-not-size_ok.false)
 
-returns : tie.Need-returns
+returns : tie.Need-returns-then-not-size_ok
 unfolding leaves-call.check_of
-returns c = met_refused _ _ _ _ _ _ _ _ (stops _ _ _ _ c.before.Size-ok.ensures c.if1.true)
+returns c = met_refused _ _ _ _ _ _ _ _ (stops _ _ _ _ c.size_ok.ensures c.if-not-size_ok.true-raw)
 
-returns-2 : tie.Need-returns-2
+returns-2 : tie.Need-returns-then-not-leaves_lengths_ok
 unfolding leaves-call.check_of
 returns-2 c =
     let d = c.before.before in
     met_refused _ _ _ _ _ _ _ _
-    (goes_on _ _ _ _ _ d.before.Size-ok.ensures d.if1.false (stops _ _ _ _ c.before.leaves-lengths-ok.ensures c.if2.true))
+    (goes_on _ _ _ _ _ d.size_ok.ensures d.if-not-size_ok.false-raw (stops _ _ _ _ c.leaves_lengths_ok.ensures c.if-not-leaves_lengths_ok.true-raw))
 
-returns-3 : tie.Need-returns-3
+returns-3 : tie.Need-returns-then-root_count-i
 unfolding leaves-call.check_of
 returns-3 c =
     let e = c.before.before in
     let d = e.before.before in
-    let a = d.before.before.before.before.args in
-    let none : root_count a.w a.h ≤ a.i = omega (arith, c.if3.true, c.before.root-count.ensures.0) in
+    let a = d.args in
+    let none : root_count a.w a.h ≤ a.i = omega (arith, c.if-root_count-i.true, c.root_count.ensures.0) in
     met_refused _ _ _ _ _ _ _ _
-    (goes_on _ _ _ _ _ d.before.Size-ok.ensures d.if1.false
-    (goes_on _ _ _ _ _ e.before.leaves-lengths-ok.ensures e.if2.false (at_refusal _ _ _ (root_fits (size_told d) a.i ∙ le-ltb _ _ none))))
+    (goes_on _ _ _ _ _ d.size_ok.ensures d.if-not-size_ok.false-raw
+    (goes_on _ _ _ _ _ e.leaves_lengths_ok.ensures e.if-not-leaves_lengths_ok.false-raw (at_refusal _ _ _ (root_fits (size_told d) a.i ∙ le-ltb _ _ none))))
 
-module _ (c : tie.Else3) where
+module _ (c : tie.Else-root_count-i) where
   -- a root has the number, where all tests passed
   in_picture : let a = c.before.before.before.before.before.before.before.before.args in a.i < root_count a.w a.h
-  in_picture = omega (arith, c.if3.false, c.before.root-count.ensures.0)
+  in_picture = omega (arith, c.if3.false, c.before.root_count.ensures.0)
 
-walk_root_requires : tie.Need-walk-root-requires
+walk_root_requires : tie.Need-walk_root-requires
 walk_root_requires c κs =
     let e = c.before.before.before in
     let d = e.before.before in (
       size_told d,
-      (lengths_told _ _ _ _ (sym e.before.leaves-lengths-ok.ensures ∙ not-false _ e.if2.false)).0,
+      (lengths_told _ _ _ _ (sym e.leaves_lengths_ok.ensures ∙ e.if-not-leaves_lengths_ok.false)).0,
       in_picture c.before,
-      d.before.before.before.before.requires,
+      d.requires,
     )
 
-returns-4 : tie.Need-returns-4
+returns-4 : tie.Need-returns
 unfolding leaves-call.check_of
 returns-4 c =
     let f = c.before.before.before.before in
@@ -64,10 +64,10 @@ returns-4 c =
     let s = d.before.before.before.before in
     let back = index_back s.args.w s.args.i in
     met_walked _ _ _ _ _ _ _ _ _ s.requires
-    (goes_on _ _ _ _ _ d.before.Size-ok.ensures d.if1.false
-    (goes_on _ _ _ _ _ e.before.leaves-lengths-ok.ensures e.if2.false
+    (goes_on _ _ _ _ _ d.size_ok.ensures d.if-not-size_ok.false-raw
+    (goes_on _ _ _ _ _ e.leaves_lengths_ok.ensures e.if-not-leaves_lengths_ok.false-raw
     (past_refusal _ _ _ _ (root_fits (size_told d) s.args.i ∙ lt-ltb _ _ (in_picture f)) refl)))
-    (stored_as (ap (root_walk s.args.splits.now (s.args.w / 4) (s.args.h / 4)) back) c.before.before.walk-root.ensures)
+    (stored_as (ap (root_walk s.args.splits.now (s.args.w / 4) (s.args.h / 4)) back) c.walk_root.ensures)
 
 pub met_leaves_spec : {M : Type 1} → statement M
 met_leaves_spec =

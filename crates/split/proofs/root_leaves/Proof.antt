@@ -5,21 +5,21 @@ use Rattle.split.proofs.Outcomes.{met_room, leaves_done, leaves_refused}
 use Rattle.split.proofs.root_leaves.Statement.{statement}
 use Rattle.split.proofs.root_leaves.Tie as tie
 
-mul_copy : tie.Need-overflow-mul-copy
-mul_copy c = let r = met_room _ c.before.before.before.before.before.met-leaves.ensures c.before.before.n.given.1 in omega (arith, r.0)
+mul_copy : tie.Need-overflow_mul-n
+mul_copy c = let r = met_room _ c.met_leaves.ensures c.in-Done.is in omega (arith, r.0)
 
 copy_requires : tie.Need-copy-requires
 copy_requires c κs =
-    let m = c.before.before.before.before.before.before.met-leaves in
-    let r = met_room _ m.ensures c.before.before.before.n.given.1 in
+    let m = c.met_leaves in
+    let r = met_room _ m.ensures c.in-Done.is in
     (omega (arith, r.0, m.auto.1.1.1.1.1.0), omega (arith, r.0, r.1))
 
-returns : tie.Need-returns
-returns c = leaves_refused _ _ _ _ c.before.before.before.before.met-leaves.ensures c.before.r.given.1
+returns : tie.Need-returns-in-Refused
+returns c = leaves_refused _ _ _ _ c.met_leaves.ensures c.in-Refused.is
 
-returns-2 : tie.Need-returns-2
-returns-2 c = leaves_done _ _ _ _ _ c.before.before.before.before.before.before.before.before.before.met-leaves.ensures
-    c.before.before.before.before.before.before.n.given.1 c.before.before.copy.ensures
+returns-2 : tie.Need-returns-in-Done
+returns-2 c = leaves_done _ _ _ _ _ c.met_leaves.ensures
+    c.in-Done.is c.copy.ensures
 
 pub root_leaves_spec : {M : Type 1} → statement M
 root_leaves_spec =

@@ -15,7 +15,7 @@ use Rattle.split.proofs.root_number.Statement.{statement}
 use Rattle.split.proofs.root_number.Tie as tie
 
 -- what the code tests is what the contract asks
-module _ (c : tie.After-root-ok) where
+module _ (c : tie.After-root_ok) where
   abbrev s : tie.Start
   s = c.before.before
 
@@ -25,33 +25,33 @@ module _ (c : tie.After-root-ok) where
   tested : ok ≡ (c.before.Size-ok.result && c.root_ok.result)
   tested = ap₂ ◌&&◌ (sym c.before.Size-ok.ensures) (sym c.root_ok.ensures)
 
-module _ (c : tie.After-roots-along) where
-  abbrev t : tie.After-root-ok
+module _ (c : tie.After-roots_along) where
+  abbrev t : tie.After-root_ok
   t = c.before.before
 
   passed : ok t ≡ true
   passed = tested t ∙ c.before.if1.true
 
-  number : let a = (s t).args in a.y.0 / 64 * c.roots-along.result + a.x.0 / 64 ≤ 4096
+  number : let a = (s t).args in a.y.0 / 64 * c.roots_along.result + a.x.0 / 64 ≤ 4096
   number =
       let a = (s t).args in
       let l = size_ok a.w a.h ∷ root_ok a.w a.h a.x.0 a.y.0 ∷ [] in
       let z = sized _ _ (all_at l 0 passed) in
       let r = root_told _ _ _ _ (all_at l 1 passed) in
       let small : root_index a.w a.x.0 a.y.0 ≤ 4096 = omega (arith, index_in z _ _ r.2 r.3, few_roots _ _ z.wide z.high) in
-      subst (λ (m : ℕ). a.y.0 / 64 * m + a.x.0 / 64 ≤ 4096) (sym c.roots-along.ensures) small
+      subst (λ (m : ℕ). a.y.0 / 64 * m + a.x.0 / 64 ≤ 4096) (sym c.roots_along.ensures) small
 
-mul_result : tie.Need-overflow-mul-result
+mul_result : tie.Need-overflow_mul-result
 mul_result c = omega (arith, number c)
 
-add_result : tie.Need-overflow-add-result
+add_result : tie.Need-overflow_add-result
 add_result c = omega (arith, number c)
 
-returns : tie.Need-returns
-returns c = rw (passed c, c.roots-along.ensures)
+returns : tie.Need-returns-then-size_ok-root_ok
+returns c = rw (passed c, c.roots_along.ensures)
 
-returns-2 : tie.Need-returns-2
-returns-2 c = let e : ok c.before ≡ false = tested c.before ∙ c.if1.false in rw e
+returns-2 : tie.Need-returns
+returns-2 c = let e : ok c.before ≡ false = tested c.before ∙ c.if-size_ok-root_ok.false in rw e
 
 pub root_number_spec : {M : Type 1} → statement M
 root_number_spec =

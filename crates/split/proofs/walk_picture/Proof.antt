@@ -13,47 +13,47 @@ use Rattle.split.proofs.Walks.{turn_none, turn_done, turn_refused}
 use Rattle.split.proofs.walk_picture.Statement.{statement}
 use Rattle.split.proofs.walk_picture.Tie as tie
 
-abbrev invariant-loop : tie.invariant-loop
+abbrev invariant-loop : tie.invariant-loop-i
 invariant-loop w h splits n list₀ i₀ list i = (i ≤ n) × (length list ≡ 768) × ((in_turn (root_walk splits (w / 4) (h / 4)) i).answer ≡ Done)
 
-abbrev decreases-loop : tie.decreases-loop
+abbrev decreases-loop : tie.decreases-loop-i
 decreases-loop w h splits n list₀ i₀ list i = n - i
 
-loop_holds : tie.Need-loop-init invariant-loop decreases-loop
+loop_holds : tie.Need-loop-i-init invariant-loop decreases-loop
 loop_holds c = (omega arith, refl, ap (λ (v : Walk). v.answer) (turn_none _))
 
-walk_root_requires : tie.Need-walk-root-requires invariant-loop decreases-loop
+walk_root_requires : tie.Need-walk_root-requires invariant-loop decreases-loop
 walk_root_requires c κs =
-    let p = c.before.before.before.before.before.requires in
-    (p.0, p.1, omega (arith, c.before.loop-test.true, c.before.before.before.root-count.ensures.0), c.before.before.loop.invariant.1)
+    let p = c.requires in
+    (p.0, p.1, omega (arith, c.loop-i-test.true, c.root_count-n.ensures.0), c.loop-i.invariant.1)
 
-returns : tie.Need-returns invariant-loop decreases-loop
+returns : tie.Need-returns-in-Refused invariant-loop decreases-loop
 returns c =
     let a = c.before.before.before.before.before.before.before.before.before.before in
-    let i = c.before.before.before.before.before.before.before.loop.i in
+    let i = c.loop-i.i in
     let l : i < roots (a.args.w / 4) (a.args.h / 4) = omega (
       arith,
-      c.before.before.before.before.before.before.loop-test.true,
-      c.before.before.before.before.before.before.before.before.root-count.ensures.0,
+      c.loop-i-test.true,
+      c.root_count-n.ensures.0,
       roots_units a.requires.0,
     ) in
-    sym (turn_refused (root_walk a.args.splits.now (a.args.w / 4) (a.args.h / 4)) i _ _ l c.before.before.before.before.before.before.before.loop.invariant.2
-    (stored_stop c.before.before.before.before.walk-root.ensures _ c.before.r.given.1))
+    sym (turn_refused (root_walk a.args.splits.now (a.args.w / 4) (a.args.h / 4)) i _ _ l c.loop-i.invariant.2
+    (stored_stop c.walk_root.ensures _ c.in-Refused.is))
 
-loop_again : tie.Need-loop-preserved invariant-loop decreases-loop
+loop_again : tie.Need-loop-i-preserved invariant-loop decreases-loop
 loop_again c =
-    let v = c.before.before.before.before.before.before.loop.invariant in
-    let r = c.before.before.before.walk-root in (
+    let v = c.loop-i.invariant in
+    let r = c.walk_root in (
       omega arith,
       r.auto.1.1.1.1.0 ∙ v.1,
-      turn_done _ _ v.2 (stored_done r.ensures _ c.enum_told.given.1).0,
+      turn_done _ _ v.2 (stored_done r.ensures _ c.in_default.is).0,
     )
 
-returns-2 : tie.Need-returns-2 invariant-loop decreases-loop
+returns-2 : tie.Need-returns invariant-loop decreases-loop
 returns-2 c =
     let a = c.before.before.before.before in
-    let v = c.before.loop.invariant in
-    let e : c.before.loop.i ≡ roots (a.args.w / 4) (a.args.h / 4) = omega (arith, c.before.before.root-count.ensures.0, roots_units a.requires.0) in
+    let v = c.loop-i.invariant in
+    let e : c.loop-i.i ≡ roots (a.args.w / 4) (a.args.h / 4) = omega (arith, c.root_count-n.ensures.0, roots_units a.requires.0) in
     sym (ap (λ (n : ℕ). (in_turn (root_walk a.args.splits.now (a.args.w / 4) (a.args.h / 4)) n).answer) (sym e) ∙ v.2)
 
 pub walk_picture_spec : {M : Type 1} → statement M

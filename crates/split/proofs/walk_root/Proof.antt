@@ -8,28 +8,28 @@ use Rattle.split.proofs.Stores.{stored_as}
 use Rattle.split.proofs.walk_root.Statement.{statement}
 use Rattle.split.proofs.walk_root.Tie as tie
 
-module _ (c : tie.After-roots-along) where
+module _ (c : tie.After-roots_along-across) where
   abbrev s : tie.Start
   s = c.before.before.before
 
-  column : 64 * (s.args.i % c.roots-along.result) < s.args.w
-  column = subst (λ (m : ℕ). 64 * (s.args.i % m) < s.args.w) (sym c.roots-along.ensures) (root_column s.pre.0 s.args.i s.pre.2)
+  column : 64 * (s.args.i % c.roots_along.result) < s.args.w
+  column = subst (λ (m : ℕ). 64 * (s.args.i % m) < s.args.w) (sym c.roots_along.ensures) (root_column s.pre.0 s.args.i s.pre.2)
 
-  row : 64 * (s.args.i / c.roots-along.result) < s.args.h
-  row = subst (λ (m : ℕ). 64 * (s.args.i / m) < s.args.h) (sym c.roots-along.ensures) (root_row s.pre.0 s.args.i s.pre.2)
+  row : 64 * (s.args.i / c.roots_along.result) < s.args.h
+  row = subst (λ (m : ℕ). 64 * (s.args.i / m) < s.args.h) (sym c.roots_along.ensures) (root_row s.pre.0 s.args.i s.pre.2)
 
-walk_block_requires : tie.Need-walk-block-requires
+walk_block_requires : tie.Need-walk_block-requires
 walk_block_requires c κs =
     let d = c.before.before in
     let p = (s d).requires in
-    (rw d.roots-along.ensures (root_block p.0 _ p.2), omega arith, bytes_long p.0 _ _ p.2 p.1, omega (arith, p.3))
+    (rw d.roots_along-across.ensures (root_block p.0 _ p.2), omega arith, bytes_long p.0 _ _ p.2 p.1, omega (arith, p.3))
 
 returns : tie.Need-returns
 returns c =
     let b = c.before.before in
     let d = b.before.before.before in
     let a = s d in
-    stored_as (sym (root_same a.pre.0 a.args.splits.now a.args.i _ d.roots-along.ensures)) b.walk_block.ensures
+    stored_as (sym (root_same a.pre.0 a.args.splits.now a.args.i _ d.roots_along-across.ensures)) b.walk_block.ensures
 
 pub walk_root_spec : {M : Type 1} → statement M
 walk_root_spec =
@@ -38,9 +38,9 @@ walk_root_spec =
     (λ c κs. search rules)
     (λ c. search rules)
     (λ c. search rules)
-    (λ c. omega (arith, (s c).requires.0, c.roots-along.ensures))
+    (λ c. omega (arith, (s c).requires.0, c.roots_along-across.ensures))
     (λ c. omega (arith, (s c).requires.0, column c))
-    (λ c. omega (arith, (s c).requires.0, c.roots-along.ensures))
+    (λ c. omega (arith, (s c).requires.0, c.roots_along-across.ensures))
     (λ c. omega (arith, (s c).requires.0, row c))
     (λ c. search rules)
     (λ c. search rules)

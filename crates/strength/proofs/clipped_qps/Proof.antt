@@ -11,24 +11,24 @@ use Rattle.strength.specs.ChromaQp.{mapped, mapped_qps}
 use Rattle.strength.proofs.clipped_qps.Statement.{statement}
 use Rattle.strength.proofs.clipped_qps.Tie as tie
 
-abbrev invariant-loop : tie.invariant-loop
+abbrev invariant-loop : tie.invariant-loop-qp
 invariant-loop table offset qps₀ qp₀ qps qp = Upto 0 (mapped table (to_z w8 offset)) qps₀ qps qp
 
-abbrev decreases-loop : tie.decreases-loop
+abbrev decreases-loop : tie.decreases-loop-qp
 decreases-loop table offset qps₀ qp₀ qps qp = 52 - qp
 
-loop_holds : tie.Need-loop-init invariant-loop decreases-loop
+loop_holds : tie.Need-loop-qp-init invariant-loop decreases-loop
 loop_holds c = upto_none 0 _ _
 
-loop_again : tie.Need-loop-preserved invariant-loop decreases-loop
+loop_again : tie.Need-loop-qp-preserved invariant-loop decreases-loop
 loop_again c =
-    let h = c.before.before.loop in
+    let h = c.loop-qp in
     upto_more 0 _ _ _ h.qp _ (omega arith) c.mapped.ensures h.invariant
 
 returns : tie.Need-returns invariant-loop decreases-loop
 returns c =
     let s = c.before.before in
-    upto_all 0 _ _ _ c.before.loop.qp c.loop-test.false c.before.loop.invariant
+    upto_all 0 _ _ _ c.loop-qp.qp c.loop-qp-test.false c.loop-qp.invariant
     ∙ ap (mapped_qps s.args.table.now) (back w8 _ s.ranges.offset)
 
 pub clipped_qps_spec : {M : Type 1} → statement M

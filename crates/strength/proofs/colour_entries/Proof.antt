@@ -12,30 +12,30 @@ use Rattle.strength.proofs.Strengths.{luma_long, rows_put_lem, whole}
 use Rattle.strength.proofs.colour_entries.Statement.{statement}
 use Rattle.strength.proofs.colour_entries.Tie as tie
 
-put_rows_requires : tie.Need-put-rows-requires
+put_rows_requires : tie.Need-put_rows-requires
 put_rows_requires c κs =
-    (omega arith, omega arith, rw c.before.before.mapped-qps.ensures (qps_most _ _))
+    (omega arith, omega arith, rw c.mapped_qps-u.ensures (qps_most _ _))
 
-put_v_rows_requires : tie.Need-put-v-rows-requires
+put_v_rows_requires : tie.Need-put_v_rows-requires
 put_v_rows_requires c κs =
-    let e = c.before.before.before.before.before.put-rows.ensures in
-    let l = c.before.before.before.before.before.before.before.before.before.luma-entries in
-    let q = c.before.before.before.before.before.before.before.before.mapped-qps in
+    let e = c.put_rows.ensures in
+    let l = c.luma_entries-list in
+    let q = c.mapped_qps-u in
     let long = ap length l.ensures ∙ luma_long _ in (
       rw (e, length_row) (omega (arith, long)),
-      rw c.before.before.before.mapped-qps2.ensures (qps_most _ _),
+      rw c.mapped_qps-v.ensures (qps_most _ _),
       rw e (rows_put_lem l.result q.result (omega (arith, long)) (rw q.ensures (qps_most _ _))),
     )
 
 returns : tie.Need-returns
 returns c =
-    let l = c.before.before.before.before.before.before.before.before.before.before.before.luma-entries in
+    let l = c.luma_entries-list in
     let s = c.before.before.before.before.before.before.before.before.before.before.before.before.before in
     whole _ _ _ _ _ l.result l.ensures _ _ _ _
-    (c.before.before.before.before.before.before.before.before.before.before.mapped-qps.ensures ∙ ap (mapped_qps s.args.table-u.now) (back w8 _ s.ranges.u_offset))
-    (c.before.before.before.before.before.mapped-qps2.ensures ∙ ap (mapped_qps s.args.table-v.now) (back w8 _ s.ranges.v_offset))
-    c.before.before.before.before.before.before.before.put-rows.ensures
-    c.before.put-v-rows.ensures
+    (c.mapped_qps-u.ensures ∙ ap (mapped_qps s.args.table_u.now) (back w8 _ s.ranges.u_offset))
+    (c.mapped_qps-v.ensures ∙ ap (mapped_qps s.args.table_v.now) (back w8 _ s.ranges.v_offset))
+    c.put_rows.ensures
+    c.put_v_rows.ensures
 
 pub colour_entries_spec : {M : Type 1} → statement M
 colour_entries_spec =

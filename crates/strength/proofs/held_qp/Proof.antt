@@ -12,19 +12,19 @@ use Rattle.strength.proofs.held_qp.Tie as tie
 at : (s : tie.Start) → to_z w8 (of_z w8 s.args.qp) ≡ s.args.qp
 at s = back w8 _ s.ranges.qp
 
-within : (c : tie.Else2) → Within 51 c.before.before.args.qp
-within c = held_within 51 _ (rw (at c.before.before) at c.before.if1.false) (rw (at c.before.before) at c.if2.false)
+within : (c : tie.Else-qp-gt51) → Within 51 c.before.before.args.qp
+within c = held_within 51 _ (rw (at c.before.before) at c.if-qp-lt0.false) (rw (at c.before.before) at c.if-qp-gt51.false)
 
-cast_result : tie.Need-overflow-cast-result
+cast_result : tie.Need-overflow_cast-result
 cast_result c = rw (at c.before.before) ((within c).some, record { fits = omega (arith, (within c).most) })
 
-returns : tie.Need-returns
-returns c = held_low 51 _ (rw (at c.before) at c.if1.true)
+returns : tie.Need-returns-then-qp-lt0
+returns c = held_low 51 _ (rw (at c.before) at c.if-qp-lt0.true)
 
-returns-2 : tie.Need-returns-2
-returns-2 c = held_high 51 _ (rw (at c.before.before) at c.if2.true)
+returns-2 : tie.Need-returns-then-qp-gt51
+returns-2 c = held_high 51 _ (rw (at c.before.before) at c.if-qp-gt51.true)
 
-returns-3 : tie.Need-returns-3
+returns-3 : tie.Need-returns-else-qp-gt51
 returns-3 c = rw (at c.before.before) (within c).same
 
 pub held_qp_spec : {M : Type 1} → statement M

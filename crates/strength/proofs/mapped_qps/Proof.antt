@@ -15,22 +15,22 @@ use Rattle.strength.proofs.mapped_qps.Tie as tie
 index_at : (s : tie.Start) (qp i : ℕ) (z : ℤ) → z ≡ s.args.offset → i ≡ index_of z qp → i ≡ index_of s.args.offset qp
 index_at s qp i z same e = e ∙ ap (λ (x : ℤ). index_of x qp) same
 
-returns : tie.Need-returns
+returns : tie.Need-returns-then-last-first-eq51
 returns c =
     let s = c.before.before.before.before.before.before in
     let t = s.args.table.now in
     let z = s.args.offset in
-    let f = c.before.before.before.before.before.index_of in
-    let l = c.before.before.before.before.index-of2 in
+    let f = c.index_of-first in
+    let l = c.index_of-last in
     let e = index_at s 0 f.result _ (back w8 _ s.ranges.offset) f.ensures in
     let m = index_at s 51 l.result _ (back w8 _ s.ranges.offset) l.ensures in
     let apart : index_of z 51 ≡ index_of z 0 + 51 = omega (arith, e, m) in
-    c.straight-qps.ensures ∙ ap (straight_qps t) e ∙ straight_row t z apart
+    c.straight_qps.ensures ∙ ap (straight_qps t) e ∙ straight_row t z apart
 
-returns-2 : tie.Need-returns-2
+returns-2 : tie.Need-returns
 returns-2 c =
     let s = c.before.before.before.before in
-    c.clipped-qps.ensures ∙ ap (mapped_qps s.args.table.now) (back w8 _ s.ranges.offset)
+    c.clipped_qps.ensures ∙ ap (mapped_qps s.args.table.now) (back w8 _ s.ranges.offset)
 
 pub mapped_qps_spec : {M : Type 1} → statement M
 mapped_qps_spec = tie.close (tie.spec (λ c κs. search rules) (λ c κs. search rules) (λ c κs. search rules) returns (λ c κs. search rules) returns-2)

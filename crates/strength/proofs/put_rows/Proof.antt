@@ -24,30 +24,30 @@ row_more list₀ list qps at row p q fits small u = rowed_part 0 at (rows_by lis
       let k : (52 * row + j) % 52 ≡ j = omega arith in
       rw (r, k) (u.low (52 * row + get_or qps j 0) (omega (arith, small j)))
 
-abbrev invariant-loop : tie.invariant-loop
+abbrev invariant-loop : tie.invariant-loop-row
 invariant-loop list₀ at qps row₀ list row = (row ≤ 4) × Rowed 0 at (rows_by list₀ qps) list₀ list (52 * row)
 
-abbrev decreases-loop : tie.decreases-loop
+abbrev decreases-loop : tie.decreases-loop-row
 decreases-loop list₀ at qps row₀ list row = 4 - row
 
-loop_holds : tie.Need-loop-init invariant-loop decreases-loop
+loop_holds : tie.Need-loop-row-init invariant-loop decreases-loop
 loop_holds c = (omega arith, rowed_none _ _ _ _)
 
-put_row_requires : tie.Need-put-row-requires invariant-loop decreases-loop
-put_row_requires c κs = (omega arith, omega (arith, c.before.before.loop.invariant.1.long), c.before.before.before.before.requires.2)
+put_row_requires : tie.Need-put_row-requires invariant-loop decreases-loop
+put_row_requires c κs = (omega arith, omega (arith, c.loop-row.invariant.1.long), c.requires.2)
 
-loop_again : tie.Need-loop-preserved invariant-loop decreases-loop
+loop_again : tie.Need-loop-row-preserved invariant-loop decreases-loop
 loop_again c =
     let s = c.before.before.before.before.before.before.before in
-    let l = c.before.before.before.before.before.loop in
+    let l = c.loop-row in
     let e : 52 * l.row + 52 ≡ 52 * (l.row + 1) = omega arith in
-    (omega arith, rw (c.before.before.put_row_lem.ensures, ← e) (row_more _ _ s.args.qps.now _ l.row (omega arith) (omega arith) (omega arith) s.requires.2 l.invariant.1))
+    (omega arith, rw (c.put_row.ensures, ← e) (row_more _ _ s.args.qps.now _ l.row (omega arith) (omega arith) (omega arith) s.requires.2 l.invariant.1))
 
-same_length : tie.Need-same-length invariant-loop decreases-loop
-same_length c = c.before.loop.invariant.1.long
+same_length : tie.Need-shape_of-list invariant-loop decreases-loop
+same_length c = c.loop-row.invariant.1.long
 
 returns : tie.Need-returns invariant-loop decreases-loop
-returns c = rowed_all _ _ _ _ _ _ (52 * c.before.loop.row) (omega arith) c.before.loop.invariant.1
+returns c = rowed_all _ _ _ _ _ _ (52 * c.loop-row.row) (omega arith) c.loop-row.invariant.1
 
 pub put_rows_spec : {M : Type 1} → statement M
 put_rows_spec =

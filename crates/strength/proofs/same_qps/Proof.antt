@@ -22,31 +22,31 @@ more a b qp alike r few one here below all k less = at (dec_lt k qp) where
   at (yes h) = below (omega arith) k h
   at (no h) = let e : k ≡ qp = omega arith in rw e (here (omega arith))
 
-abbrev invariant-loop : tie.invariant-loop
+abbrev invariant-loop : tie.invariant-loop-qp
 invariant-loop a b alike₀ qp₀ alike qp = (qp ≤ 52) × (alike ≤ qp) × (alike ≡ qp → Alike a b qp)
 
-abbrev decreases-loop : tie.decreases-loop
+abbrev decreases-loop : tie.decreases-loop-qp
 decreases-loop a b alike₀ qp₀ alike qp = 52 - qp
 
 none : (a b : List ℕ) → Alike a b 0
 none a b k h = absurd (omega arith)
 
-loop_holds : tie.Need-loop-init invariant-loop decreases-loop
+loop_holds : tie.Need-loop-qp-init invariant-loop decreases-loop
 loop_holds c = (omega arith, omega arith, λ e. none c.args.a.now c.args.b.now)
 
-add_alike : tie.Need-overflow-add-alike invariant-loop decreases-loop
-add_alike c = omega (arith, c.same.ensures.0)
+add_alike : tie.Need-overflow_add-alike invariant-loop decreases-loop
+add_alike c = omega (arith, c.same-alike.ensures.0)
 
-loop_again : tie.Need-loop-preserved invariant-loop decreases-loop
+loop_again : tie.Need-loop-qp-preserved invariant-loop decreases-loop
 loop_again c =
-    let h = c.before.before.before.before.loop in
+    let h = c.loop-qp in
     let s = c.before.before.before.before.before in
-    let r = c.same.ensures in
-    (omega arith, omega (arith, r.0), more s.args.a.now s.args.b.now h.qp h.alike c.same.result h.invariant.1 r.0 r.1 h.invariant.2)
+    let r = c.same-alike.ensures in
+    (omega arith, omega (arith, r.0), more s.args.a.now s.args.b.now h.qp h.alike c.same-alike.result h.invariant.1 r.0 r.1 h.invariant.2)
 
 returns : tie.Need-returns invariant-loop decreases-loop
 returns c t k less =
-    let h = c.before.loop in
+    let h = c.loop-qp in
     h.invariant.2 (omega (arith, eqb-true h.alike _ t)) k (omega arith)
 
 pub same_qps_spec : {M : Type 1} → statement M

@@ -12,22 +12,22 @@ use Rattle.strength.specs.ChromaQp.{held_qp}
 use Rattle.strength.proofs.straight_qps.Statement.{statement}
 use Rattle.strength.proofs.straight_qps.Tie as tie
 
-abbrev invariant-loop : tie.invariant-loop
+abbrev invariant-loop : tie.invariant-loop-qp
 invariant-loop table first qps₀ qp₀ qps qp = Upto 0 (λ (k : ℕ). held_qp (get_or table (first + k) (pos 0))) qps₀ qps qp
 
-abbrev decreases-loop : tie.decreases-loop
+abbrev decreases-loop : tie.decreases-loop-qp
 decreases-loop table first qps₀ qp₀ qps qp = 52 - qp
 
-loop_holds : tie.Need-loop-init invariant-loop decreases-loop
+loop_holds : tie.Need-loop-qp-init invariant-loop decreases-loop
 loop_holds c = upto_none 0 _ _
 
-loop_again : tie.Need-loop-preserved invariant-loop decreases-loop
+loop_again : tie.Need-loop-qp-preserved invariant-loop decreases-loop
 loop_again c =
-    let h = c.before.before.before.loop in
-    upto_more 0 _ _ _ h.qp _ (omega arith) (c.held-qp.ensures ∙ ap held_qp (back w8 _ (record { sfits = c.before.held-qp-arg.given }))) h.invariant
+    let h = c.loop-qp in
+    upto_more 0 _ _ _ h.qp _ (omega arith) (c.held_qp.ensures ∙ ap held_qp (back w8 _ (record { sfits = c.held_qp-arg-1.given }))) h.invariant
 
 returns : tie.Need-returns invariant-loop decreases-loop
-returns c = upto_all 0 _ _ _ c.before.loop.qp c.loop-test.false c.before.loop.invariant
+returns c = upto_all 0 _ _ _ c.loop-qp.qp c.loop-qp-test.false c.loop-qp.invariant
 
 pub straight_qps_spec : {M : Type 1} → statement M
 straight_qps_spec =

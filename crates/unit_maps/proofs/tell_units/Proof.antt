@@ -7,17 +7,17 @@ use Rattle.unit_maps.proofs.Inside.{inside, told_none, told_all}
 use Rattle.unit_maps.proofs.tell_units.Statement.{statement}
 use Rattle.unit_maps.proofs.tell_units.Tie as tie
 
-returns : tie.Need-returns
-returns c = told_none _ _ _ _ _ _ _ _ _ _ (sym c.before.lies.ensures ∙ not-true _ c.if1.true)
+returns : tie.Need-returns-then-not-lies
+returns c = told_none _ _ _ _ _ _ _ _ _ _ (sym c.lies.ensures ∙ c.if-not-lies.true)
 
 -- the block lies in the maps
-there : (c : tie.Else1) → let a = c.before.before.before.before.before.args in Inside a.columns a.x.0 a.y.0 a.n a.words.now a.modes.now a.keep.now
-there c = inside _ _ _ _ _ _ _ (sym c.before.lies.ensures ∙ not-false _ c.if1.false)
+there : (c : tie.Else-not-lies) → let a = c.before.before.before.before.before.args in Inside a.columns a.x.0 a.y.0 a.n a.words.now a.modes.now a.keep.now
+there c = inside _ _ _ _ _ _ _ (sym c.lies.ensures ∙ c.if-not-lies.false)
 
-returns-2 : tie.Need-returns-2
+returns-2 : tie.Need-returns
 returns-2 c =
     let told = c.before.before.before.before.before.before in
-    rw (told_all _ _ _ _ _ _ _ _ _ _ (there told.before.before.before.before)) told.tell-block.ensures
+    rw (told_all _ _ _ _ _ _ _ _ _ _ (there told.before.before.before.before)) told.tell_block.ensures
 
 pub tell_units_spec : {M : Type 1} → statement M
 tell_units_spec =

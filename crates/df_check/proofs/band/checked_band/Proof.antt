@@ -14,33 +14,33 @@ use Rattle.df_check.specs.Checks.{Input, from_lengths}
 use Rattle.df_check.proofs.band.checked_band.Statement.{statement}
 use Rattle.df_check.proofs.band.checked_band.Tie as tie
 
-size : (c : tie.Else1) → let a = c.before.before.before.before.before.before.before.before.args in size_ok a.w a.h ≡ true
-size c = sym c.before.Size-ok.ensures ∙ not-false _ c.if1.false
+size : (c : tie.Else-not-size_ok) → let a = c.before.before.before.before.before.before.before.before.args in size_ok a.w a.h ≡ true
+size c = sym c.size_ok.ensures ∙ c.if-not-size_ok.false
 
-position : (c : tie.Else2) → let a = c.before.before.before.before.before.before.before.before.before.before.args in band_ok a.next a.band a.h ≡ true
-position c = sym c.before.band-ok.ensures ∙ not-false _ c.if2.false
+position : (c : tie.Else-not-band_ok) → let a = c.before.before.before.before.before.before.before.before.before.before.args in band_ok a.next a.band a.h ≡ true
+position c = sym c.band_ok.ensures ∙ c.if-not-band_ok.false
 
-sizes : (c : tie.Else2) → let a = c.before.before.before.before.before.before.before.before.before.before.args in BandSize a.w a.h a.band
+sizes : (c : tie.Else-not-band_ok) → let a = c.before.before.before.before.before.before.before.before.before.before.args in BandSize a.w a.h a.band
 sizes c = band_size _ _ (sized _ _ (size c.before.before)) (position c)
 
-returns : tie.Need-returns
+returns : tie.Need-returns-then-not-size_ok
 unfolding check_of
-returns c = stops _ _ _ _ c.before.Size-ok.ensures c.if1.true
+returns c = stops _ _ _ _ c.size_ok.ensures c.if-not-size_ok.true-raw
 
-returns-2 : tie.Need-returns-2
+returns-2 : tie.Need-returns-then-not-band_ok
 unfolding check_of
 returns-2 c =
-    goes_on _ _ _ _ _ c.before.before.before.Size-ok.ensures c.before.before.if1.false (stops _ _ _ _ c.before.band-ok.ensures c.if2.true)
+    goes_on _ _ _ _ _ c.size_ok.ensures c.if-not-size_ok.false-raw (stops _ _ _ _ c.band_ok.ensures c.if-not-band_ok.true-raw)
 
-from_lengths_requires : tie.Need-from-lengths-requires
+from_lengths_requires : tie.Need-from_lengths-requires
 from_lengths_requires c κs =
     let z = sizes c.before in
-    rw c.lent_rows.ensures (z.lent, z.own, z.judged)
+    rw c.lent_rows-rows.ensures (z.lent, z.own, z.judged)
 
-returns-3 : tie.Need-returns-3
+returns-3 : tie.Need-returns
 unfolding check_of
 returns-3 c =
-    let a = c.before.before.before.before.before.before.before.before.before.before.before.before.args in
+    let a = c.args in
     let i : Input = record {
       w = a.w;
       h = a.h;
@@ -57,9 +57,9 @@ returns-3 c =
       strengths = a.strengths;
       settings = a.settings;
     } in
-    goes_on _ _ _ _ _ c.before.before.before.before.before.Size-ok.ensures c.before.before.before.before.if1.false
-    (goes_on _ _ _ _ _ c.before.before.before.band-ok.ensures c.before.before.if2.false
-    (subst (λ (rows : LentRows). c.from-lengths.result ≡ from_lengths rows.all rows.own rows.before i) c.before.lent_rows.ensures c.from-lengths.ensures))
+    goes_on _ _ _ _ _ c.size_ok.ensures c.if-not-size_ok.false-raw
+    (goes_on _ _ _ _ _ c.band_ok.ensures c.if-not-band_ok.false-raw
+    (subst (λ (rows : LentRows). c.from_lengths.result ≡ from_lengths rows.all rows.own rows.before i) c.lent_rows-rows.ensures c.from_lengths.ensures))
 
 pub checked_band_spec : {M : Type 1} → statement M
 checked_band_spec =

@@ -10,19 +10,19 @@ use Rattle.df_check.specs.Checks.{check_of}
 use Rattle.df_check.proofs.check.checked.Statement.{statement}
 use Rattle.df_check.proofs.check.checked.Tie as tie
 
-size : (c : tie.Else1) → let a = c.before.before.before.before.before.before.before.before.args in size_ok a.w a.h ≡ true
-size c = sym c.before.Size-ok.ensures ∙ not-false _ c.if1.false
+size : (c : tie.Else-not-size_ok) → let a = c.before.before.before.before.before.before.before.before.args in size_ok a.w a.h ≡ true
+size c = sym c.size_ok.ensures ∙ c.if-not-size_ok.false
 
-returns : tie.Need-returns
+returns : tie.Need-returns-then-not-size_ok
 unfolding check_of
-returns c = stops _ _ _ _ c.before.Size-ok.ensures c.if1.true
+returns c = stops _ _ _ _ c.size_ok.ensures c.if-not-size_ok.true-raw
 
-from_lengths_requires : tie.Need-from-lengths-requires
+from_lengths_requires : tie.Need-from_lengths-requires
 from_lengths_requires c κs = (size c, size c, omega arith)
 
-returns-2 : tie.Need-returns-2
+returns-2 : tie.Need-returns
 unfolding check_of
-returns-2 c = goes_on _ _ _ _ _ c.before.before.Size-ok.ensures c.before.if1.false c.from-lengths.ensures
+returns-2 c = goes_on _ _ _ _ _ c.size_ok.ensures c.if-not-size_ok.false-raw c.from_lengths.ensures
 
 pub checked_spec : {M : Type 1} → statement M
 checked_spec = tie.close (tie.spec (λ c κs. search rules) returns from_lengths_requires returns-2)

@@ -70,27 +70,27 @@ rest2 s = after_checks Refused (rest3 s) (picture_walk (of s).splits (s.args.w /
 abbrev rest1 : tie.Start → Answer
 rest1 s = unless (settings_ok s.args.settings) (Refused Setting) (rest2 s)
 
-past1 : (c : tie.Else1) (r : Answer) → r ≡ rest1 c.before.before.before.before.before.before.before.before → r ≡ asked c.before.before.before.before.before.before.before.before
+past1 : (c : tie.Else-not-lengths_ok) (r : Answer) → r ≡ rest1 c.before.before.before.before.before.before.before.before → r ≡ asked c.before.before.before.before.before.before.before.before
 unfolding from_lengths
-past1 c r p = goes_on _ _ _ _ r c.before.lengths-ok.ensures c.if1.false p
+past1 c r p = goes_on _ _ _ _ r c.lengths_ok.ensures c.if-not-lengths_ok.false-raw p
 
-past2 : (c : tie.Else2) (r : Answer) → r ≡ rest2 c.before.before.before.before.before.before.before.before.before.before
+past2 : (c : tie.Else-not-settings_ok) (r : Answer) → r ≡ rest2 c.before.before.before.before.before.before.before.before.before.before
     → r ≡ asked c.before.before.before.before.before.before.before.before.before.before
-past2 c r p = past1 c.before.before r (goes_on _ _ _ _ r c.before.settings-ok.ensures c.if2.false p)
+past2 c r p = past1 c.before.before r (goes_on _ _ _ _ r c.settings_ok.ensures c.if-not-settings_ok.false-raw p)
 
 -- the lengths
-told : (c : tie.Else1) → let s = c.before.before.before.before.before.before.before.before in
+told : (c : tie.Else-not-lengths_ok) → let s = c.before.before.before.before.before.before.before.before in
     LengthsTold s.args.settings.format s.args.w s.args.lent s.args.own (lengths_of (of s))
-told c = lengths_told _ _ _ _ _ (sym c.before.lengths-ok.ensures ∙ not-false _ c.if1.false)
+told c = lengths_told _ _ _ _ _ (sym c.lengths_ok.ensures ∙ c.if-not-lengths_ok.false)
 
 -- what the walk found
 walk : (c : tie.After-check) → let s = c.before.before.before.before.before.before.before.before.before.before.before in
     c.check.result ≡ (picture_walk (of s).splits (s.args.w / 4) (s.args.own / 4)).answer
-walk c = walked _ _ _ _ c.before.before.before.before.before.before.before.before.before.before.before.requires.1 (told c.before.before.before).splits c.check.ensures
+walk c = walked _ _ _ _ c.requires.1 (told c.before.before.before).splits c.check.ensures
 
-past3 : (c : tie.After-enum-told) (r : Answer) → r ≡ rest3 c.before.before.before.before.before.before.before.before.before.before.before.before.before
+past3 : (c : tie.In_default) (r : Answer) → r ≡ rest3 c.before.before.before.before.before.before.before.before.before.before.before.before.before
     → r ≡ asked c.before.before.before.before.before.before.before.before.before.before.before.before.before
-past3 c r p = past2 c.before.before.before r (on_done Refused _ _ _ r (walk c.before.before) c.enum_told.given.1 p)
+past3 c r p = past2 c.before.before.before r (on_done Refused _ _ _ r (walk c.before.before) c.in_default.is p)
 
 -- what is not judged lies in what is lent
 record Before (s : tie.Start) : Type 0 where
@@ -122,57 +122,57 @@ before s =
       few_colour = at_most s.args.settings.format _ _ small;
     }
 
-marks : (c : tie.After-keep-ok) → let s = c.before.before.before.before.before.before.before.before.before.before.before.before.before.before.before in
-    c.keep-ok.result ≡ keep_ok (drop (unit_count s.args.w s.args.before) (of s).keep)
+marks : (c : tie.After-keep_ok) → let s = c.before.before.before.before.before.before.before.before.before.before.before.before.before.before.before in
+    c.keep_ok.result ≡ keep_ok (drop (unit_count s.args.w s.args.before) (of s).keep)
 marks c = let s = c.before.before.before.before.before.before.before.before.before.before.before.before.before.before.before in
-    c.keep-ok.ensures ∙ ap keep_ok (whole_end (unit_count s.args.w s.args.before) (of s).keep)
+    c.keep_ok.ensures ∙ ap keep_ok (whole_end (unit_count s.args.w s.args.before) (of s).keep)
 
-qps : (c : tie.After-qps-ok)
+qps : (c : tie.After-qps_ok)
     → let s = c.before.before.before.before.before.before.before.before.before.before.before.before.before.before.before.before.before.before in
-    c.qps-ok.result ≡ qps_ok (drop (unit_count s.args.w s.args.before) (of s).words)
+    c.qps_ok.result ≡ qps_ok (drop (unit_count s.args.w s.args.before) (of s).words)
 qps c = let s = c.before.before.before.before.before.before.before.before.before.before.before.before.before.before.before.before.before.before in
-    c.qps-ok.ensures ∙ ap qps_ok (whole_end (unit_count s.args.w s.args.before) (of s).words)
+    c.qps_ok.ensures ∙ ap qps_ok (whole_end (unit_count s.args.w s.args.before) (of s).words)
 
-planes : (c : tie.After-planes-ok) →
+planes : (c : tie.After-planes_ok) →
     let q = c.before.before.before.before.before.before.before.before.before.before.before.before in
     let s = q.before.before.before.before.before.before.before.before.before.before.before.before in
     let n = colour_length s.args.settings.format s.args.w s.args.before in
-    c.planes-ok.result ≡ planes_ok (drop (luma_length s.args.w s.args.before) (of s).y) (drop n (of s).u) (drop n (of s).v)
+    c.planes_ok.result ≡ planes_ok (drop (luma_length s.args.w s.args.before) (of s).y) (drop n (of s).u) (drop n (of s).v)
 planes c =
     let q = c.before.before.before.before.before.before.before.before.before.before.before.before in
     let s = q.before.before.before.before.before.before.before.before.before.before.before.before in
     let n = colour_length s.args.settings.format s.args.w s.args.before in
-    let e = c.before.before.before.before.in-format in
+    let e = c.in_format-chroma in
     let end : (l : List ℕ) → mid_of e.result (length l - e.result) l ≡ drop n l = λ l. whole_end e.result l ∙ ap (λ (k : ℕ). drop k l) e.ensures in
-    c.planes-ok.ensures ∙ (λ i. planes_ok (whole_end (luma_length s.args.w s.args.before) (of s).y i) (end (of s).u i) (end (of s).v i))
+    c.planes_ok.ensures ∙ (λ i. planes_ok (whole_end (luma_length s.args.w s.args.before) (of s).y i) (end (of s).u i) (end (of s).v i))
 
-past4 : (c : tie.Else3) (r : Answer) → r ≡ rest4
+past4 : (c : tie.Else-not-keep_ok) (r : Answer) → r ≡ rest4
     c.before.before.before.before.before.before.before.before.before.before.before.before.before.before.before.before
     → r ≡ asked c.before.before.before.before.before.before.before.before.before.before.before.before.before.before.before.before
-past4 c r p = past3 c.before.before.before r (goes_on _ _ _ _ r (marks c.before) c.if3.false p)
+past4 c r p = past3 c.before.before.before r (goes_on _ _ _ _ r (marks c.before) c.if-not-keep_ok.false-raw p)
 
-past5 : (c : tie.Else4) (r : Answer)
+past5 : (c : tie.Else-not-qps_ok) (r : Answer)
     → r ≡ rest5 c.before.before.before.before.before.before.before.before.before.before.before.before.before.before.before.before.before.before.before
     → r ≡ asked c.before.before.before.before.before.before.before.before.before.before.before.before.before.before.before.before.before.before.before
-past5 c r p = past4 c.before.before.before r (goes_on _ _ _ _ r (qps c.before) c.if4.false p)
+past5 c r p = past4 c.before.before.before r (goes_on _ _ _ _ r (qps c.before) c.if-not-qps_ok.false-raw p)
 
-lengths_ok_requires : tie.Need-lengths-ok-requires
-lengths_ok_requires c κs = let p = c.before.before.before.before.before.before.requires in (sized _ _ p.0, sized _ _ p.1)
+lengths_ok_requires : tie.Need-lengths_ok-requires
+lengths_ok_requires c κs = let p = c.requires in (sized _ _ p.0, sized _ _ p.1)
 
-returns : tie.Need-returns
+returns : tie.Need-returns-then-not-lengths_ok
 unfolding from_lengths
-returns c = stops _ _ _ _ c.before.lengths-ok.ensures c.if1.true
+returns c = stops _ _ _ _ c.lengths_ok.ensures c.if-not-lengths_ok.true-raw
 
-returns-2 : tie.Need-returns-2
-returns-2 c = past1 c.before.before _ (stops _ _ _ _ c.before.settings-ok.ensures c.if2.true)
+returns-2 : tie.Need-returns-then-not-settings_ok
+returns-2 c = past1 c.before.before _ (stops _ _ _ _ c.settings_ok.ensures c.if-not-settings_ok.true-raw)
 
-returns-3 : tie.Need-returns-3
-returns-3 c = past2 c.before.before.before.before _ (on_refusal Refused _ _ _ _ (walk c.before.before.before) c.before.r.given.1)
+returns-3 : tie.Need-returns-in-Refused
+returns-3 c = past2 c.before.before.before.before _ (on_refusal Refused _ _ _ _ (walk c.before.before.before) c.in-Refused.is)
 
-mul_units : tie.Need-overflow-mul-units
+mul_units : tie.Need-overflow_mul-units
 mul_units c = omega (arith, (before c.before.before.before.before.before.before.before.before.before.before.before.before.before).few_units)
 
-sub_keep_ok : tie.Need-overflow-sub-keep-ok
+sub_keep_ok : tie.Need-slice_bounds-keep_ok-count
 sub_keep_ok c = omega
     (arith, (before c.before.before.before.before.before.before.before.before.before.before.before.before.before).units, (told c.before.before.before.before.before).keep)
 
@@ -184,13 +184,13 @@ part_keep_ok_start c = omega (
   (told c.before.before.before.before.before).keep,
 )
 
-returns-4 : tie.Need-returns-4
-returns-4 c = past3 c.before.before.before _ (stops _ _ _ _ (marks c.before) c.if3.true)
+returns-4 : tie.Need-returns-then-not-keep_ok
+returns-4 c = past3 c.before.before.before _ (stops _ _ _ _ (marks c.before) c.if-not-keep_ok.true-raw)
 
-mul_qps_ok : tie.Need-overflow-mul-qps-ok
+mul_qps_ok : tie.Need-offset_bounds-words-units
 mul_qps_ok c = omega (arith, (before c.before.before.before.before.before.before.before.before.before.before.before.before.before.before.before.before).few_units)
 
-sub_qps_ok : tie.Need-overflow-sub-qps-ok
+sub_qps_ok : tie.Need-slice_bounds-qps_ok-count
 sub_qps_ok c = omega (
   arith,
   (before c.before.before.before.before.before.before.before.before.before.before.before.before.before.before.before.before).units,
@@ -205,21 +205,21 @@ part_qps_ok_start c =
       (told c.before.before.before.before.before.before.before.before).words,
     )
 
-returns-5 : tie.Need-returns-5
-returns-5 c = past4 c.before.before.before _ (stops _ _ _ _ (qps c.before) c.if4.true)
+returns-5 : tie.Need-returns-then-not-qps_ok
+returns-5 c = past4 c.before.before.before _ (stops _ _ _ _ (qps c.before) c.if-not-qps_ok.true-raw)
 
-mul_luma : tie.Need-overflow-mul-luma
+mul_luma : tie.Need-overflow_mul-luma
 mul_luma c = omega (arith, (before c.before.before.before.before.before.before.before.before.before.before.before.before.before.before.before.before.before.before.before).few_luma)
 
-mul_in_format : tie.Need-overflow-mul-in-format
+mul_in_format : tie.Need-overflow_mul-w
 mul_in_format c = omega
     (arith, (before c.before.before.before.before.before.before.before.before.before.before.before.before.before.before.before.before.before.before.before).few_chroma)
 
-mul_planes_ok : tie.Need-overflow-mul-planes-ok
+mul_planes_ok : tie.Need-offset_bounds-y-luma
 mul_planes_ok c = omega
     (arith, (before c.before.before.before.before.before.before.before.before.before.before.before.before.before.before.before.before.before.before.before.before).few_luma)
 
-sub_planes_ok : tie.Need-overflow-sub-planes-ok
+sub_planes_ok : tie.Need-slice_bounds-planes_ok-count
 sub_planes_ok c = omega (
   arith,
   (before c.before.before.before.before.before.before.before.before.before.before.before.before.before.before.before.before.before.before.before.before).luma,
@@ -234,17 +234,17 @@ part_planes_ok_start c = omega (
   (told c.before.before.before.before.before.before.before.before.before.before.before.before).y,
 )
 
-mul_planes_ok_2 : tie.Need-overflow-mul-planes-ok-2
+mul_planes_ok_2 : tie.Need-offset_bounds-u-chroma
 mul_planes_ok_2 c = omega (
   arith,
-  c.before.in-format.ensures,
+  c.in_format-chroma.ensures,
   (before c.before.before.before.before.before.before.before.before.before.before.before.before.before.before.before.before.before.before.before.before.before).few_colour,
 )
 
-sub_planes_ok_2 : tie.Need-overflow-sub-planes-ok-2
+sub_planes_ok_2 : tie.Need-slice_bounds-planes_ok-count-2
 sub_planes_ok_2 c = omega (
   arith,
-  c.before.in-format.ensures,
+  c.in_format-chroma.ensures,
   (before c.before.before.before.before.before.before.before.before.before.before.before.before.before.before.before.before.before.before.before.before.before).chroma,
   (told c.before.before.before.before.before.before.before.before.before.before.before.before.before).u,
 )
@@ -252,20 +252,20 @@ sub_planes_ok_2 c = omega (
 part_planes_ok_start_2 : tie.Need-slice-bounds-planes-ok-start-2
 part_planes_ok_start_2 c = omega (
   arith,
-  c.before.in-format.ensures,
+  c.in_format-chroma.ensures,
   (before c.before.before.before.before.before.before.before.before.before.before.before.before.before.before.before.before.before.before.before.before.before).chroma,
   (told c.before.before.before.before.before.before.before.before.before.before.before.before.before).u,
 )
 
-mul_planes_ok_3 : tie.Need-overflow-mul-planes-ok-3
+mul_planes_ok_3 : tie.Need-offset_bounds-v-chroma
 mul_planes_ok_3 c =
     let q = c.before.before.before.before.before.before.before.before.before.before in
-    omega (arith, c.before.before.in-format.ensures, (before q.before.before.before.before.before.before.before.before.before.before.before.before).few_colour)
+    omega (arith, c.in_format-chroma.ensures, (before q.before.before.before.before.before.before.before.before.before.before.before.before).few_colour)
 
-sub_planes_ok_3 : tie.Need-overflow-sub-planes-ok-3
+sub_planes_ok_3 : tie.Need-slice_bounds-planes_ok-count-3
 sub_planes_ok_3 c = omega (
   arith,
-  c.before.before.in-format.ensures,
+  c.in_format-chroma.ensures,
   (before c.before.before.before.before.before.before.before.before.before.before.before.before.before.before.before.before.before.before.before.before.before.before).chroma,
   (told c.before.before.before.before.before.before.before.before.before.before.before.before.before.before).v,
 )
@@ -273,16 +273,16 @@ sub_planes_ok_3 c = omega (
 part_planes_ok_start_3 : tie.Need-slice-bounds-planes-ok-start-3
 part_planes_ok_start_3 c = omega (
   arith,
-  c.before.before.in-format.ensures,
+  c.in_format-chroma.ensures,
   (before c.before.before.before.before.before.before.before.before.before.before.before.before.before.before.before.before.before.before.before.before.before.before).chroma,
   (told c.before.before.before.before.before.before.before.before.before.before.before.before.before.before).v,
 )
 
-returns-6 : tie.Need-returns-6
-returns-6 c = past5 c.before.before.before.before.before.before _ (stops _ _ _ _ (planes c.before) c.if5.true)
+returns-6 : tie.Need-returns-then-not-planes_ok
+returns-6 c = past5 c.before.before.before.before.before.before _ (stops _ _ _ _ (planes c.before) c.if-not-planes_ok.true-raw)
 
-returns-7 : tie.Need-returns-7
-returns-7 c = past5 c.before.before.before.before.before.before _ (goes_on _ _ _ _ _ (planes c.before) c.if5.false refl)
+returns-7 : tie.Need-returns
+returns-7 c = past5 c.before.before.before.before.before.before _ (goes_on _ _ _ _ _ (planes c.before) c.if-not-planes_ok.false-raw refl)
 
 pub from_lengths_spec : {M : Type 1} → statement M
 from_lengths_spec =

@@ -12,25 +12,25 @@ use Rattle.df_check.specs.Checks.{keep_ok}
 use Rattle.df_check.proofs.check.keep_ok.Statement.{statement}
 use Rattle.df_check.proofs.check.keep_ok.Tie as tie
 
-abbrev invariant-loop : tie.invariant-loop
+abbrev invariant-loop : tie.invariant-loop-i
 invariant-loop keep ok₀ i₀ ok i = (i ≤ length keep) × (ok ≡ all_below (λ (k : ℕ). leb (get_or keep k 0) 1) i)
 
-abbrev decreases-loop : tie.decreases-loop
+abbrev decreases-loop : tie.decreases-loop-i
 decreases-loop keep ok₀ i₀ ok i = length keep - i
 
-loop_holds : tie.Need-loop-init invariant-loop decreases-loop
+loop_holds : tie.Need-loop-i-init invariant-loop decreases-loop
 loop_holds c = (omega arith, sym (scan_none _))
 
-loop_again : tie.Need-loop-preserved invariant-loop decreases-loop
+loop_again : tie.Need-loop-i-preserved invariant-loop decreases-loop
 loop_again c =
-    let h = c.before.before.loop in
+    let h = c.loop-i in
     (search rules, rw h.invariant.1 (sym (scan_step _ _)))
 
 returns : tie.Need-returns invariant-loop decreases-loop
 unfolding keep_ok
 returns c =
-    let e : c.before.loop.i ≡ length c.before.before.args.keep.now = omega arith in
-    c.before.loop.invariant.1 ∙ rw e
+    let e : c.loop-i.i ≡ length c.args.keep.now = omega arith in
+    c.loop-i.invariant.1 ∙ rw e
 
 pub keep_ok_spec : {M : Type 1} → statement M
 keep_ok_spec =

@@ -10,35 +10,35 @@ use Rattle.df_check.specs.Checks.{lengths_ok}
 use Rattle.df_check.proofs.check.lengths_ok.Statement.{statement}
 use Rattle.df_check.proofs.check.lengths_ok.Tie as tie
 
-mul_in_format : tie.Need-overflow-mul-in-format
+mul_in_format : tie.Need-overflow_mul-w
 mul_in_format c = omega (arith, c.requires.0.wide, c.requires.0.high, mul-le-mul {n₁ = c.args.w / 2} {m₁ = c.args.lent / 2} {n₂ = 2048} {m₂ = 2048} (omega arith) (omega arith))
 
-mul_units : tie.Need-overflow-mul-units
-mul_units c = omega (arith, few_units c.before.before.requires.0)
+mul_units : tie.Need-overflow_mul-units
+mul_units c = omega (arith, few_units c.requires.0)
 
-module _ (c : tie.After-roots-along2) where
+module _ (c : tie.After-roots_along-2) where
   abbrev s : tie.Start
   s = c.before.before.before.before
 
-  same : c.before.roots-along.result * c.roots-along2.result ≡ root_count s.args.w s.args.own
-  same = ap₂ ◌*◌ c.before.roots-along.ensures c.roots-along2.ensures
+  same : c.before.roots_along.result * c.roots_along2.result ≡ root_count s.args.w s.args.own
+  same = ap₂ ◌*◌ c.before.roots_along.ensures c.roots_along2.ensures
 
-  few : c.before.roots-along.result * c.roots-along2.result ≤ 4096
+  few : c.before.roots_along.result * c.roots_along2.result ≤ 4096
   few = omega (arith, same, few_roots s.args.w s.args.own s.pre.1.wide s.pre.1.high)
 
-mul_roots : tie.Need-overflow-mul-roots
+mul_roots : tie.Need-overflow_mul-roots
 mul_roots c = omega (arith, few c)
 
-mul_result : tie.Need-overflow-mul-result
+mul_result : tie.Need-overflow_mul-result
 mul_result c = let p = (s c).requires in omega (arith, mul-le-mul p.0.wide p.0.high)
 
-mul_result_2 : tie.Need-overflow-mul-result-2
+mul_result_2 : tie.Need-overflow_mul-result-2
 mul_result_2 c = omega (arith, few c.before.before.before.before)
 
-mul_result_3 : tie.Need-overflow-mul-result-3
+mul_result_3 : tie.Need-overflow_mul-result-3
 mul_result_3 c = omega (arith, few_units (s c.before.before.before.before.before).pre.0)
 
-mul_result_4 : tie.Need-overflow-mul-result-4
+mul_result_4 : tie.Need-overflow_mul-result-4
 mul_result_4 c = omega (arith, few_units (s c.before.before.before.before.before.before).pre.0)
 
 returns : tie.Need-returns
@@ -46,7 +46,7 @@ unfolding lengths_ok
 returns c =
     let r = c.before.before.before.before.before.before.before.before.before.before.before in
     let f = r.before.before in
-    rw (f.before.in-format.ensures, f.in-format2.ensures, same r) refl
+    rw (f.in_format-chroma.ensures, f.in_format-table.ensures, same r) refl
 
 pub lengths_ok_spec : {M : Type 1} → statement M
 lengths_ok_spec =

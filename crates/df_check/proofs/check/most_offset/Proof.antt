@@ -3,11 +3,11 @@ use borrow.Author.Rules.{rules}
 use Rattle.df_check.proofs.check.most_offset.Statement.{statement}
 use Rattle.df_check.proofs.check.most_offset.Tie as tie
 
-returns : tie.Need-returns
-returns c = rw c.enum_told.given.1
+returns : tie.Need-returns-in-Grey
+returns c = rw c.in-Grey.is
 
-returns-2 : tie.Need-returns-2
-returns-2 c = rw c.enum-told2.given.1
+returns-2 : tie.Need-returns-in-Colour
+returns-2 c = rw c.in-Colour.is
 
 pub most_offset_spec : {M : Type 1} → statement M
 most_offset_spec = tie.close (tie.spec (λ c. search rules) (λ c. search rules) returns returns-2)

@@ -13,25 +13,25 @@ use Rattle.df_check.specs.Checks.{qps_ok}
 use Rattle.df_check.proofs.check.qps_ok.Statement.{statement}
 use Rattle.df_check.proofs.check.qps_ok.Tie as tie
 
-abbrev invariant-loop : tie.invariant-loop
+abbrev invariant-loop : tie.invariant-loop-i
 invariant-loop words ok₀ i₀ ok i = (i ≤ length words) × (ok ≡ all_below (λ (k : ℕ). leb (qp_of (get_or words k 0)) 51) i)
 
-abbrev decreases-loop : tie.decreases-loop
+abbrev decreases-loop : tie.decreases-loop-i
 decreases-loop words ok₀ i₀ ok i = length words - i
 
-loop_holds : tie.Need-loop-init invariant-loop decreases-loop
+loop_holds : tie.Need-loop-i-init invariant-loop decreases-loop
 loop_holds c = (omega arith, sym (scan_none _))
 
-loop_again : tie.Need-loop-preserved invariant-loop decreases-loop
+loop_again : tie.Need-loop-i-preserved invariant-loop decreases-loop
 loop_again c =
-    let h = c.before.before.before.loop in
-    (search rules, rw (h.invariant.1, c.get-qp.ensures.0) (sym (scan_step _ _)))
+    let h = c.loop-i in
+    (search rules, rw (h.invariant.1, c.get_qp-qp.ensures.0) (sym (scan_step _ _)))
 
 returns : tie.Need-returns invariant-loop decreases-loop
 unfolding qps_ok
 returns c =
-    let e : c.before.loop.i ≡ length c.before.before.before.args.words.now = omega arith in
-    c.before.loop.invariant.1 ∙ rw e
+    let e : c.loop-i.i ≡ length c.args.words.now = omega arith in
+    c.loop-i.invariant.1 ∙ rw e
 
 pub qps_ok_spec : {M : Type 1} → statement M
 qps_ok_spec =

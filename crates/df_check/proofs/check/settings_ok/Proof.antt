@@ -12,11 +12,11 @@ returns : tie.Need-returns
 unfolding settings_ok limit_ok
 returns c =
     let t = c.before.before.before in
-    let s = t.before.before.before.args.s in
-    let u : c.before.before.offset-ok.result ≡ offset_ok s.format s.u_offset =
-    c.before.before.offset-ok.ensures ∙ ap (offset_ok s.format) (back w8 s.u_offset (record { sfits = t.struct_told.given.1.0.1 })) in
-    let v : c.offset-ok2.result ≡ offset_ok s.format s.v_offset =
-    c.offset-ok2.ensures ∙ ap (offset_ok s.format) (back w8 s.v_offset (record { sfits = t.struct_told.given.1.1.0.1 })) in
+    let s = t.args.s in
+    let u : c.offset_ok.result ≡ offset_ok s.format s.u_offset =
+    c.offset_ok.ensures ∙ ap (offset_ok s.format) (back w8 s.u_offset (record { sfits = t.struct_told-1.given.1.0.1 })) in
+    let v : c.offset_ok-2.result ≡ offset_ok s.format s.v_offset =
+    c.offset_ok-2.ensures ∙ ap (offset_ok s.format) (back w8 s.v_offset (record { sfits = t.struct_told-1.given.1.1.0.1 })) in
     rw (u, v)
 
 pub settings_ok_spec : {M : Type 1} → statement M

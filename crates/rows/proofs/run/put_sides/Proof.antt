@@ -14,7 +14,7 @@ use Rattle.rows.proofs.run.put_sides.Statement.{statement}
 use Rattle.rows.proofs.run.put_sides.Tie as tie
 
 -- both calls find their runs in the maps
-lefts : (c : tie.After-clear-first) →
+lefts : (c : tie.After-clear_first) →
     let a = c.before.before.before.before.before.before.before.before.before.before.args in
     FirstOf (λ (j : ℕ). row_by a.words.now a.motion.now a.refs.now (a.k + j) (a.k - 1 + j)) a.n (replicate 128 0)
     c.before.before.before.before.before.before.rows_at.new.1.1.1.1.1.1.0
@@ -24,21 +24,21 @@ lefts c =
     let p = s.requires in
     first_rows a.words.now a.motion.now a.refs.now a.columns a.k (a.k - 1) a.n _ _
     (runs_there a.words.now a.motion.now a.refs.now a.columns p.0 128 a.k (a.k - 1) a.n p.1.inside (omega (arith, p.1.inside)) p.3)
-    c.before.before.before.before.before.before.rows_at.ensures.1 p.3
+    c.rows_at.ensures.1 p.3
 
-tops : (c : tie.After-clear-first) →
+tops : (c : tie.After-clear_first) →
     let a = c.before.before.before.before.before.before.before.before.before.before.args in
     FirstOf (λ (j : ℕ). row_by a.words.now a.motion.now a.refs.now (a.k + j) (a.k - a.columns + j)) a.n (replicate 128 0)
-    c.before.before.before.rows-at2.new.1.1.1.1.1.1.0
+    c.before.before.before.rows_at2.new.1.1.1.1.1.1.0
 tops c =
     let s = c.before.before.before.before.before.before.before.before.before.before in
     let a = s.args in
     let p = s.requires in
     first_rows a.words.now a.motion.now a.refs.now a.columns a.k (a.k - a.columns) a.n _ _
     (runs_there a.words.now a.motion.now a.refs.now a.columns p.0 128 a.k (a.k - a.columns) a.n p.1.inside (omega (arith, p.1.inside, p.2)) p.3)
-    c.before.before.before.rows-at2.ensures.1 p.3
+    c.rows_at-2.ensures.1 p.3
 
-left_rows : (c : tie.After-clear-first) →
+left_rows : (c : tie.After-clear_first) →
     let a = c.before.before.before.before.before.before.before.before.before.before.args in
     (j : ℕ) → j < a.n → get_or c.clear_first.new.1.0 j 0 ≡ edge_row a.words.now a.motion.now a.refs.now a.columns vertical (a.k + j)
 left_rows c =
@@ -48,16 +48,16 @@ left_rows c =
     let u = lefts c in
     left_row a.words.now a.motion.now a.refs.now a.columns a.x.0 a.k a.n p.0.some p.1 p.2 _ _ _ u (omega (arith, u.long)) c.clear_first.ensures
 
-top_rows : (c : tie.After-clear-first) →
+top_rows : (c : tie.After-clear_first) →
     let a = c.before.before.before.before.before.before.before.before.before.before.args in
-    (j : ℕ) → j < a.n → get_or c.before.before.before.rows-at2.new.1.1.1.1.1.1.0 j 0 ≡ edge_row a.words.now a.motion.now a.refs.now a.columns horizontal (a.k + j)
+    (j : ℕ) → j < a.n → get_or c.before.before.before.rows_at2.new.1.1.1.1.1.1.0 j 0 ≡ edge_row a.words.now a.motion.now a.refs.now a.columns horizontal (a.k + j)
 top_rows c =
     let s = c.before.before.before.before.before.before.before.before.before.before in
     let a = s.args in
     let p = s.requires in
     top_row a.words.now a.motion.now a.refs.now a.columns a.x.0 a.k a.n p.0.some p.1 p.2 _ _ (tops c)
 
-put_joined_requires : tie.Need-put-joined-requires
+put_joined_requires : tie.Need-put_joined-requires
 put_joined_requires c κs =
     let s = c.before.before.before.before.before.before.before.before.before.before.before.before.before.before in
     let a = s.args in
@@ -74,9 +74,9 @@ put_joined_requires c κs =
 
 returns : tie.Need-returns
 returns c =
-    let u = c.before.before.put-joined.ensures in
+    let u = c.put_joined.ensures in
     let k = c.before.before.before.before.before.before.before in
-    let a = k.before.before.before.before.before.before.before.before.before.before.args in
+    let a = k.args in
     record { long = u.long; at = λ j h. u.at j h ∙ joined a.words.now a.motion.now a.refs.now a.columns (a.k + j) _ _ (left_rows k j h) (top_rows k j h) }
 
 pub put_sides_spec : {M : Type 1} → statement M

@@ -28,13 +28,13 @@ input_of s =
       settings = a.settings;
     }
 
-returns : tie.Need-returns
+returns : tie.Need-returns-in-Refused
 unfolding input_of
 returns c = band_refused (input_of c.before.before.before.before.before.before.before.before.before.before.before.before.before.before.before) _
-    c.before.before.before.checked-band.ensures _ c.before.r.given.1
+    c.checked_band.ensures _ c.in-Refused.is
 
-deblock_checked_requires : tie.Need-deblock-checked-requires
-deblock_checked_requires c κs = let d = c.before.before.before.before in sym d.before.before.checked-band.ensures ∙ d.enum_told.given.1
+deblock_checked_requires : tie.Need-deblock_checked-requires
+deblock_checked_requires c κs = let d = c.before.before.before.before in sym d.checked_band.ensures ∙ d.in_default.is
 
 pub deblock_band_spec : {M : Type 1} → statement M
 deblock_band_spec =
@@ -49,8 +49,8 @@ deblock_band_spec =
     returns
     (λ c. search)
     deblock_checked_requires
-    (λ c. c.before.before.before.before.before.before.before.before.deblock-checked.auto.1.1.1.1.0)
-    (λ c. c.before.before.before.before.before.before.before.before.deblock-checked.auto.1.1.1.1.1.0)
-    (λ c. c.before.before.before.before.before.before.before.before.deblock-checked.auto.1.1.1.1.1.1.0)
-    (λ c. c.before.before.before.before.before.before.before.before.deblock-checked.auto.1.1.1.1.1.1.1.0)
-    (λ c. c.before.before.before.before.before.before.before.before.deblock-checked.ensures))
+    (λ c. c.deblock_checked.auto.1.1.1.1.0)
+    (λ c. c.deblock_checked.auto.1.1.1.1.1.0)
+    (λ c. c.deblock_checked.auto.1.1.1.1.1.1.0)
+    (λ c. c.deblock_checked.auto.1.1.1.1.1.1.1.0)
+    (λ c. c.deblock_checked.ensures))

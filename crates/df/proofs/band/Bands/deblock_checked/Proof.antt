@@ -48,7 +48,7 @@ fine s = s.requires
 some : (s : tie.Start) → 1 ≤ wide (input_of s)
 some s = let i = input_of s in some_wide (sized i.w i.h (band_passed i (fine s)).size)
 
-abbrev start : tie.After-rows-above → tie.Start
+abbrev start : tie.After-rows_above-above → tie.Start
 start c = c.before.before.before.before.before.before.before.before.before.before
 
 -- of the rows above, the one that is handed on
@@ -60,14 +60,14 @@ rest_above : (k : ℕ) → rows_above k - rows_above k / 16 ≡ rows_above k - 1
 rest_above zero = refl
 rest_above (suc k) = refl
 
-top_is : (c : tie.After-rows-above) → c.rows_above.result / 16 ≡ near (start c).args.band
-top_is c = ap (λ (n : ℕ). n / 16) c.rows_above.ensures ∙ one_above (start c).args.band
+top_is : (c : tie.After-rows_above-above) → c.rows_above.result / 16 ≡ near (start c).args.band
+top_is c = ap (λ (n : ℕ). n / 16) c.rows_above-above.ensures ∙ one_above (start c).args.band
 
-skip_is : (c : tie.After-rows-above) → c.rows_above.result - c.rows_above.result / 16 ≡ rows_above (start c).args.band - 1
-skip_is c = ap (λ (n : ℕ). n - n / 16) c.rows_above.ensures ∙ rest_above (start c).args.band
+skip_is : (c : tie.After-rows_above-above) → c.rows_above.result - c.rows_above.result / 16 ≡ rows_above (start c).args.band - 1
+skip_is c = ap (λ (n : ℕ). n - n / 16) c.rows_above-above.ensures ∙ rest_above (start c).args.band
 
-own_is : (c : tie.After-rows-above) → 4 * c.before.band-rows.result ≡ 4 * band_rows ((start c).args.h / 4) (start c).args.band
-own_is c = ap (λ (n : ℕ). 4 * n) c.before.band-rows.ensures
+own_is : (c : tie.After-rows_above-above) → 4 * c.before.band_rows.result ≡ 4 * band_rows ((start c).args.h / 4) (start c).args.band
+own_is c = ap (λ (n : ℕ). 4 * n) c.band_rows-rows.ensures
 
 own_fits : (h k : ℕ) {r : ℕ} → r ≡ band_rows h k → Fits w64 (4 * r)
 own_fits h k e = omega (arith, few_rows h k)
@@ -79,18 +79,18 @@ sixteenth : (n : ℕ) → n / 16 ≤ n
 sixteenth n = omega arith
 
 -- the entries are as many as the passes ask for
-long : (c : tie.After-entries-by) → length c.entries_by.result ≡ 624
-long c = ap length c.entries_by.ensures ∙ entries_long _ _ _ _ _ _
+long : (c : tie.After-entries_by-table) → length c.entries_by.result ≡ 624
+long c = ap length c.entries_by-table.ensures ∙ entries_long _ _ _ _ _ _
 
-band_passes_requires : tie.Need-band-passes-requires
+band_passes_requires : tie.Need-band_passes-n-requires
 unfolding input_of
 band_passes_requires c κs =
     let d = c.before.before.before.before.before.before in
     let s = start d in
     let t = d.before.before in
-    asked (input_of s) (fine s) (some s) (skip_is d) (top_is d) (own_is d) t.entries_by.result (long t)
+    asked (input_of s) (fine s) (some s) (skip_is d) (top_is d) (own_is d) t.entries_by-table.result (long t)
 
-add_after : tie.Need-overflow-add-after
+add_after : tie.Need-overflow_add-after
 unfolding input_of
 add_after c =
     let t = c.before.before.before.before.before.before.before.before.before.before.before.before.before in
@@ -102,8 +102,8 @@ unfolding input_of
 returns c =
     let d = c.before.before.before.before.before.before.before.before.before.before.before.before.before.before.before.before in
     let s = start d in
-    let b = c.before.before.before.before.before.before.before.before.before.band-passes in
-    done_by (input_of s) (fine s) (some s) (skip_is d) (top_is d) (own_is d) d.before.before.entries_by.ensures
+    let b = c.band_passes-n in
+    done_by (input_of s) (fine s) (some s) (skip_is d) (top_is d) (own_is d) d.entries_by-table.ensures
     b.new.1.1.1.1.1.1.0 b.new.1.1.1.1.1.1.1.0 b.new.1.1.1.1.1.1.1.1.0 b.new.1.1.1.1.1.1.1.1.1.0
     b.result.vertical b.result.horizontal b.ensures
 
@@ -114,12 +114,12 @@ deblock_checked_spec =
     (λ c κs. tt)
     (λ c κs. tt)
     (λ c κs. tt)
-    (λ c. sixteenth c.rows_above.result)
-    (λ c. own_fits _ _ c.before.band-rows.ensures)
+    (λ c. sixteenth c.rows_above-above.result)
+    (λ c. own_fits _ _ c.band_rows-rows.ensures)
     band_passes_requires
     add_after
-    (λ c. c.before.before.before.before.before.before.before.before.before.band-passes.auto.1.1.1.1.1.1.0)
-    (λ c. c.before.before.before.before.before.before.before.before.before.band-passes.auto.1.1.1.1.1.1.1.0)
-    (λ c. c.before.before.before.before.before.before.before.before.before.band-passes.auto.1.1.1.1.1.1.1.1.0)
-    (λ c. c.before.before.before.before.before.before.before.before.before.band-passes.auto.1.1.1.1.1.1.1.1.1.0)
+    (λ c. c.band_passes-n.auto.1.1.1.1.1.1.0)
+    (λ c. c.band_passes-n.auto.1.1.1.1.1.1.1.0)
+    (λ c. c.band_passes-n.auto.1.1.1.1.1.1.1.1.0)
+    (λ c. c.band_passes-n.auto.1.1.1.1.1.1.1.1.1.0)
     returns)
