@@ -1,5 +1,6 @@
 // Which neighbours of a block are there, for intra and for inter prediction: evc_get_avail_intra and evc_get_avail_inter of util.rs.
 #![tactic(auto)]
+
 ghost use Rattle.std.specs.Prelude.{◌≡◌};
 ghost use Rattle.laws.specs.Call.{Gives};
 ghost use Rattle.def.specs.Word.{done_of, intra_of};

@@ -1,5 +1,6 @@
 // The bands of a picture: a band's rows, and those that are lent for it. The Rust has no bands.
 #![tactic(auto)]
+
 ghost use Rattle.std.specs.Prelude.{◌≡◌, ◌/◌};
 ghost use Rattle.band_rows.specs.Rows.{band_rows, rows_above, band_ok, lent_rows};
 

@@ -1,5 +1,6 @@
 // Recorded cases, as the programs that replay them read them: decimal numbers one after another, with other bytes between.
 #![tactic(auto)]
+
 ghost use Rattle.std.specs.Prelude.{◌≡◌, ◌-◌, ◌%◌, ◌≤◌, ◌<◌, min, length};
 ghost use Rattle.cases.specs.Numbers.{number_byte, first, value_of, number_at, signed_of, Filled, Took};
 

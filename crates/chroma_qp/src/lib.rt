@@ -2,6 +2,7 @@
 // The start, a pivot's in and out and a table's entry are held as 12 more than they are: an in is then its entry's index, and none is below 0.
 // So 0 holds -12 and 69 holds 57.
 #![tactic(auto)]
+
 ghost use Rattle.std.specs.Prelude.{◌≡◌, ℕ, ◌+◌, ◌-◌, ◌*◌, ◌/◌, ◌≤◌, ◌<◌, min, pos, length, get_or, set};
 ghost use Rattle.laws.specs.Call.{Gives};
 ghost use Rattle.laws.specs.Plane.{with_row};
@@ -151,8 +152,8 @@ pub fn derived_chroma_qp_mapping_tables(
 ) -> Answer
     ensures { Gives outcome
         (record {
-          global-offset = global_offset;
-          same-table = same_table;
+          global_offset = global_offset;
+          same_table = same_table;
           first = record { count = count0; a = a0.now; b = b0.now };
           second = record { count = count1; a = a1.now; b = b1.now };
           t0 = t0.old;

@@ -1,6 +1,7 @@
 // What the derivation of the chroma QP tables refuses, and in which order: 2, 10 in either table, 11 in either. The Rust beside it: the assertions of
 // `evc_derived_chroma_qp_mapping_tables` in util.rs. The start and a pivot's in are held as 12 more than they are: an in is then its entry's index.
 #![tactic(auto)]
+
 ghost use Rattle.std.specs.Prelude.{◌≡◌, true, ◌||◌, ◌≤◌, pos, ◌+ℤ◌, length};
 ghost use Rattle.laws.specs.Call.{Gives};
 ghost use Rattle.laws.specs.Clip.{max_z};
@@ -117,8 +118,8 @@ pub fn checked_points(
     t1: usize,
 ) -> Answer
     ensures { Gives check (record {
-      global-offset = global_offset;
-      same-table = same_table;
+      global_offset = global_offset;
+      same_table = same_table;
       first = record { count = count0; a = a0.now; b = b0.now };
       second = record { count = count1; a = a1.now; b = b1.now };
       t0 = t0;

@@ -17,8 +17,8 @@ pub extern "C" fn lomsakeun_derived_chroma_qp_mapping_tables(
 ) -> u8
     ensures { Gives derived.outcome
         (record {
-          global-offset = global_offset;
-          same-table = same_table;
+          global_offset = global_offset;
+          same_table = same_table;
           first = record { count = count0; a = a0.now; b = b0.now };
           second = record { count = count1; a = a1.now; b = b1.now };
           t0 = t0.old;

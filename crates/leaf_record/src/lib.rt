@@ -1,5 +1,6 @@
 // What a leaf record says: which components are coded, and what the leaf's units are told. No Rust stands beside it.
 #![tactic(auto)]
+
 ghost use Rattle.std.specs.Prelude.{◌≡◌};
 ghost use Rattle.laws.specs.Index.{pick};
 ghost use Rattle.def.specs.Word.{leaf_word};

@@ -1,6 +1,7 @@
 // How an edge is filtered: the line filter, which of a line's samples are written, and the strength row by motion.
 // The Rust beside it: df.rs, the four deblock_scu_ functions and evc_get_tbl_qp_to_st.
 #![tactic(auto)]
+
 ghost use Rattle.std.specs.Prelude.{◌≡◌, cond, ◌+◌, ◌-◌, ◌*◌, ◌/◌, ◌≤◌, min};
 ghost use Rattle.laws.specs.Index.{pick};
 ghost use Rattle.line.specs.Line.{line_of, mask_of};

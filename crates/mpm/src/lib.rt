@@ -1,5 +1,6 @@
 // Mode ranks: evc_get_mpm_b of ipred.rs. The Rust's static table is lent here, and the answer is a part of it.
 #![tactic(auto)]
+
 ghost use Rattle.std.specs.Prelude.{◌≡◌, ◌≤◌, true};
 ghost use Rattle.laws.specs.Call.{Gives};
 ghost use Rattle.def.specs.Answers.{answer_number};

@@ -1,5 +1,6 @@
 // The visiting rank of a unit in its root. The Rust beside it: df.rs, the order in which evc_deblock_tree comes to the units.
 #![tactic(auto)]
+
 ghost use Rattle.laws.specs.Call.{Gives};
 ghost use Rattle.rank.specs.RankCall as RankCall;
 

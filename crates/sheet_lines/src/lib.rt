@@ -1,5 +1,6 @@
 // The five lines of a sheet, read from its bytes: where each ends, what each has to be, and what they say. There is no Rust beside it.
 #![tactic(auto)]
+
 ghost use Rattle.std.specs.Prelude.{◌≡◌, true, ◌+◌, ◌≤◌, ◌<◌, length};
 ghost use Rattle.laws.specs.Call.{Gives};
 ghost use Rattle.laws.specs.Scan.{all_in};

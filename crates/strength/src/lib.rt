@@ -1,6 +1,7 @@
 // The strength entries of a pass, one table for the three planes, and the QP of a chroma plane, by a lent table.
 // The Rust beside it: df.rs, evc_tbl_df_st and the chroma lookups into it of evc_deblock_cu_hor and evc_deblock_cu_ver.
 #![tactic(auto)]
+
 ghost use Rattle.std.specs.Prelude.{true, ◌≡◌, ℕ, ◌+◌, ◌≤◌, ◌<◌, length, get_or};
 ghost use Rattle.laws.specs.Plane.{with_row};
 ghost use Rattle.strength.specs.ChromaQp.{index_of, held_qp, mapped, mapped_qps, straight_qps};

@@ -1,5 +1,6 @@
 // The maps of a picture's units, the words, the modes and the keep bytes: cleared, and told what a leaf says. No Rust stands beside it.
 #![tactic(auto)]
+
 ghost use Rattle.std.specs.Prelude.{◌≡◌, ℕ, ◌+◌, ◌≤◌, length};
 ghost use Rattle.laws.specs.Index.{tabulate};
 ghost use Rattle.laws.specs.Plane.{with_row};

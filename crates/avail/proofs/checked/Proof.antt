@@ -17,12 +17,12 @@ use Rattle.avail.specs.Calls.{check_of}
 use Rattle.avail.proofs.checked.Statement.{statement}
 use Rattle.avail.proofs.checked.Tie as tie
 
-past1 : (c : tie.Else-not-size_ok) (r : Answer) → let a = c.before.before.args in r ≡ unless (eqb a.words (unit_count a.w a.h)) (Refused Length)
+past1 : (c : tie.Else-not-size_ok) (r : Answer) → let a = c.args in r ≡ unless (eqb a.words (unit_count a.w a.h)) (Refused Length)
     (unless (block_ok a.w a.h a.x.0 a.y.0 a.side) (Refused Block) Done) → r ≡ check_of a.w a.h a.words a.x.0 a.y.0 a.side
 unfolding check_of
 past1 c r p = goes_on _ _ _ _ r c.size_ok.ensures c.if-not-size_ok.false-raw p
 
-past2 : (c : tie.Else-words-w) (r : Answer) → let a = c.before.before.before.args in
+past2 : (c : tie.Else-words-w) (r : Answer) → let a = c.args in
     r ≡ unless (block_ok a.w a.h a.x.0 a.y.0 a.side) (Refused Block) Done → r ≡ check_of a.w a.h a.words a.x.0 a.y.0 a.side
 past2 c r p = past1 c.before r (past_refusal _ _ _ r (eq-eqb _ _ c.if-words-w.false) p)
 

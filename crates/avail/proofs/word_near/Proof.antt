@@ -23,8 +23,8 @@ returns-4 c = none_across _ _ _ _ _ _ _ (counted_in _ _ (omega arith) (omega ari
 
 -- past the four tests the place is within the words
 place : (c : tie.Else-w-u) → let s = c.before.before.before.before in
-    let a = s.before.before.before.before.before.args in
-    (s.before.pel2scu2.result.0 + a.b - 1) * (a.w / 4) + (s.before.before.before.pel2scu.result.0 + a.a - 1) < length a.words.now
+    let a = s.args in
+    (s.pel2scu-2.result.0 + a.b - 1) * (a.w / 4) + (s.pel2scu.result.0 + a.a - 1) < length a.words.now
 place c = found_below _ _ _ _ _ (omega arith) (omega arith) (omega arith) (omega arith) c.requires.long
 
 mul_at : tie.Need-overflow_mul-at

@@ -48,7 +48,7 @@ returns-2 c =
 returns-3 : tie.Need-returns-in-Refused
 unfolding of
 returns-3 c =
-    no_picture (of c.before.before.before.before.before.before.before.before.before.before.before.before.before.before.before) _ _
+    no_picture (of c.before.before.before.before.before.before.before.before.before.before.before.before.before) _ _
     c.size_ok.ensures c.if-not-size_ok.false-raw
     c.rows_length_ok.ensures c.if-not-rows_length_ok.false-raw
     _ _ c.checked-found.ensures c.in-Refused.is
@@ -56,7 +56,7 @@ returns-3 c =
 returns-4 : tie.Need-returns-then-rows-eq0
 unfolding of
 returns-4 c =
-    none_lent (of c.before.before.before.before.before.before.before.before.before.before.before.before.before.before.before) _ _
+    none_lent (of c.before.before.before.before.before.before.before.before.before.before.before.before.before.before) _ _
     c.size_ok.ensures c.if-not-size_ok.false-raw
     c.rows_length_ok.ensures c.if-not-rows_length_ok.false-raw
     _ c.checked-found.ensures c.in_default.is c.if-rows-eq0.true
@@ -64,7 +64,7 @@ returns-4 c =
 returns-5 : tie.Need-returns-then-not-rows_right
 unfolding of
 returns-5 c =
-    wrong_map (of c.before.before.before.before.before.before.before.before.before.before.before.before.before.before.before.before.before) _
+    wrong_map (of c.before.before.before.before.before.before.before.before.before.before.before.before.before.before.before.before) _
     _ c.size_ok.ensures
     c.if-not-size_ok.false-raw
     c.rows_length_ok.ensures c.if-not-rows_length_ok.false-raw
@@ -73,7 +73,7 @@ returns-5 c =
 returns-6 : tie.Need-returns
 unfolding of
 returns-6 c =
-    right_map (of c.before.before.before.before.before.before.before.before.before.before.before.before.before.before.before.before.before) _
+    right_map (of c.before.before.before.before.before.before.before.before.before.before.before.before.before.before.before.before) _
     _ c.size_ok.ensures
     c.if-not-size_ok.false-raw
     c.rows_length_ok.ensures c.if-not-rows_length_ok.false-raw

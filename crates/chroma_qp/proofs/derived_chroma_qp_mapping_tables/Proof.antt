@@ -20,7 +20,7 @@ input c =
       t1 = a.t1.now;
     }
 
-ready : (c : tie.After-start_qp-s) → Ready (input c.before.before.before.before) c.start_qp.result
+ready : (c : tie.After-start_qp-s) → Ready (input c.before.before.before) c.start_qp-s.result
 ready c =
     record {
       small = c.start_qp-s.ensures.1;
@@ -34,7 +34,7 @@ fill_requires c κs = let r = ready c.before in ((lengths _ _ r).t0, first_check
 copy_requires : tie.Need-copy-requires
 copy_requires c κs =
     let f = c.before.before.before.before in
-    let l = lengths _ _ (ready f.before.before) in
+    let l = lengths _ _ (ready f.before) in
     omega (arith, f.fill.auto.0, l.t0, l.t1)
 
 fill_requires_2 : tie.Need-fill-requires-else-same_table
@@ -48,7 +48,7 @@ returns c = by_refusal _ _ _ c.checked_points.ensures c.in-Refused.is
 returns-2 : tie.Need-returns-then-same_table
 returns-2 c =
     let f = c.before.before.before.before.before.before in
-    by_copy _ _ (ready f.before.before) _ _ f.fill.ensures c.if-same_table.true c.copy.ensures
+    by_copy _ _ (ready f.before) _ _ f.fill.ensures c.if-same_table.true c.copy.ensures
 
 returns-3 : tie.Need-returns-else-same_table
 returns-3 c =

@@ -47,7 +47,7 @@ first_b c = delta_out_is _ _ (record { sfits = c.delta_out-arg-1.given }) c.delt
 
 -- pivot 0 is in range
 first : (c : tie.After-delta_out invariant-loop decreases-loop) → let at = c.before.before.before.before in
-    let i = at.args.s + c.before.before.delta_in.result in Tested (entry_qp at.args.s) (points at) 0 i (i + c.delta_out.result)
+    let i = at.args.s + c.delta_in.result in Tested (entry_qp at.args.s) (points at) 0 i (i + c.delta_out.result)
 first c = first_range _ _ c.requires.1 _ _ (first_a c.before.before) (first_b c)
 
 sub_qp_out : tie.Need-overflow_sub-qp_out invariant-loop decreases-loop
@@ -89,7 +89,7 @@ add_next_2 c = omega (arith, c.loop-j.invariant.reached.out_most)
 
 -- the next pivot's point, and that the pivot is in range
 point : (c : tie.After-delta_out-in-loop-j invariant-loop decreases-loop) → Next (points c.before.before.before.before.before.before.before.before.before.before.before.before.before)
-    c.before.before.before.before.before.loop.j c.before.before.delta_in2.result c.delta_out2.result
+    c.loop-j.j c.delta_in-n.result c.delta_out-in-loop-j.result
 point c =
     let two = c.before.before in
     let p = points c.before.before.before.before.before.before.before.before.before.before.before.before.before in
@@ -103,8 +103,8 @@ point c =
     record { there = omega (arith, there); at_a = rw (add-one j) at a; at_b = rw (add-one j) at b }
 
 next : (c : tie.After-delta_out-in-loop-j invariant-loop decreases-loop) → let at = c.before.before.before.before.before.before.before.before.before.before.before.before.before in
-    let l = c.before.before.before.before.before.loop in
-    let n = c.before.before.delta_in2.result + 1 in Tested (entry_qp at.args.s) (points at) (suc l.j) (l.qp_in + n) (l.qp_out + n + c.delta_out2.result)
+    let l = c.loop-j in
+    let n = c.delta_in-n.result + 1 in Tested (entry_qp at.args.s) (points at) (suc l.j) (l.qp_in + n) (l.qp_out + n + c.delta_out-in-loop-j.result)
 next c = next_range _ _ c.requires.1 _ _ _ _ _
     c.loop-j.invariant _ _ (point c)
 

@@ -8,7 +8,7 @@ use Rattle.chroma_qp_check.proofs.Bytes.{Plain, plain, byte_sign, below_none, al
 use Rattle.chroma_qp_check.proofs.delta_in.Statement.{statement}
 use Rattle.chroma_qp_check.proofs.delta_in.Tie as tie
 
-is : (c : tie.Else-a-lt0) → Plain c.before.args.a
+is : (c : tie.Else-a-lt0) → Plain c.args.a
 is c = plain _ c.ranges.a (byte_sign _ false c.ranges.a c.if-a-lt0.false)
 
 cast_result : tie.Need-overflow_cast-result

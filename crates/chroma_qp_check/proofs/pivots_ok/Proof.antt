@@ -63,7 +63,7 @@ abbrev decreases-loop : tie.decreases-loop-qp_in
 decreases-loop s count a b qp-in₀ qp-out₀ j₀ qp-in qp-out j = count - j
 
 -- what `delta_in` and `delta_out` answered are the first pivot's a, and 128 more than its b
-first_a : (c : tie.After-delta_in invariant-loop decreases-loop) → let a = c.before.before.args in a_at (record { count = a.count; a = a.a.now; b = a.b.now }) 0 ≡ pos c.delta_in.result
+first_a : (c : tie.After-delta_in invariant-loop decreases-loop) → let a = c.args in a_at (record { count = a.count; a = a.a.now; b = a.b.now }) 0 ≡ pos c.delta_in.result
 first_a c =
     let k = countable _ _ c.requires.points in
     delta_in_is _ _ (record { sfits = c.delta_in-arg-1.given }) (k.not_below 0 k.some) c.delta_in.ensures.0
@@ -98,7 +98,7 @@ returns : tie.Need-returns-then-j-count invariant-loop decreases-loop
 returns c = ended _ _ _ _ _ c.loop-qp_in.invariant c.loop-qp_in-test.true c.if-j-count.true
 
 -- there is a next pivot
-more_of : (c : tie.Else-j-count invariant-loop decreases-loop) → c.before.before.loop.j + 1 < c.before.before.before.before.before.before.before.args.count
+more_of : (c : tie.Else-j-count invariant-loop decreases-loop) → c.loop-qp_in.j + 1 < c.args.count
 more_of c = omega (arith, c.loop-qp_in.invariant.within)
 
 shared_slice_copy_out_delta_in_2 : tie.Need-bounds-a-j invariant-loop decreases-loop

@@ -31,7 +31,7 @@ module _ (w h x y side : ℕ) where
   rest e p q = rw (e, below_side x side e, below_side y side e, ends_inside x side w p, ends_inside y side h q)
 
 -- a side that passed
-side_at : (c : tie.Else-not-block_side_ok) → block_side_ok c.before.before.args.side ≡ true
+side_at : (c : tie.Else-not-block_side_ok) → block_side_ok c.args.side ≡ true
 side_at c = sym c.block_side_ok.ensures ∙ c.if-not-block_side_ok.false
 
 returns : tie.Need-returns-then-not-block_side_ok

@@ -29,7 +29,7 @@ of s =
 returns : tie.Need-returns
 unfolding of
 returns c = c.deblock_by_rows.ensures
-    ∙ without (of c.before.before.before.before.before.before.before.before.before.before.before.before.before.before.before.before.before.before.before.before.before)
+    ∙ without (of c.before.before.before.before.before.before.before.before.before.before.before.before.before.before.before.before.before.before.before.before)
 
 pub deblock_spec : {M : Type 1} → statement M
 deblock_spec =

@@ -89,31 +89,31 @@ abbrev tried : tie.Else-two_chroma → tie.After-two_chroma
 tried c = c.before.before.before.before.before
 
 marked : tie.Need-bounds-marks-i
-marked c = let s = start (first (tried c.before.before)) in omega (arith, s.pre.1, s.pre.2)
+marked c = let s = start (first (tried c.before.before.before)) in omega (arith, s.pre.1, s.pre.2)
 
 -- both planes are as they were
 edge_chroma_requires : tie.Need-edge_chroma-requires
 edge_chroma_requires c κs =
     let d = c.before.before.before in
-    let t = (tried d).two-chroma.ensures in
-    ap length (pair_left d.if-two_chroma.false t.0) ∙ (start (first (tried d))).requires.3 ∙ sym (ap length (pair_left d.if-two_chroma.false t.1))
+    let t = (tried d.before).two-chroma.ensures in
+    ap length (pair_left d.if-two_chroma.false t.0) ∙ (start (first (tried d.before))).requires.3 ∙ sym (ap length (pair_left d.if-two_chroma.false t.1))
 
 add_result_3 : tie.Need-overflow_add-result-2
 add_result_3 c =
-    let s = start (first (tried c.before.before.before.before.before.before.before.before)) in
+    let s = start (first (tried c.before.before.before.before.before.before.before.before.before)) in
     omega (arith, s.pre.1, s.pre.2)
 
 returns-3 : tie.Need-returns
 returns-3 c =
     let d = c.before.before.before.before.before.before.before.before in
-    let own = first (tried d) in
+    let own = first (tried d.before) in
     let s = start own in
     let a = s.args in
     let q₀ = own_loud own in
     let u₀ = own.before.before.strength_at in
     let v₀ = own.before.strength_at2 in
-    let p = (tried d).before.before.before.before.before.before.before.chroma-place in
-    let two = (tried d).two-chroma.ensures in
+    let p = (tried d.before).before.before.before.before.before.before.before.chroma-place in
+    let two = (tried d.before).two-chroma.ensures in
     let t = c.edge_chroma.ensures in (
       turn_edge (quiet_chroma a.entries.now a.places.now) _ 208 Chroma (pass_of a.pass) _ _ _ _ a.n a.i _ _ a.u.now _ s.pre.1
           q₀ u₀.ensures p.ensures (t.0 ∙ ap (edge_of Chroma _ u₀.result p.result) (pair_left d.if-two_chroma.false two.0)),

@@ -40,8 +40,8 @@ of s =
     }
 
 -- an edge that is planned has its numbers and room
-fits : (c : tie.In-loop-k invariant-loop decreases-loop) → let a = c.before.before.before.before.before.before.before.before.before.before.before.args in
-    Room a.columns (length a.list.now) a.n (length a.places.now) (length a.marks.now) c.before.loop.k
+fits : (c : tie.In-loop-k invariant-loop decreases-loop) → let a = c.args in
+    Room a.columns (length a.list.now) a.n (length a.places.now) (length a.marks.now) c.loop-k.k
 fits c = room _ _ _ _ _ _ (subst (λ (m : ℕ). c.loop-k.k < m) c.edges_in-edges.ensures c.loop-k-test.true)
 
 loop_holds : tie.Need-loop-k-init invariant-loop decreases-loop
@@ -60,7 +60,7 @@ mul_unit_at_3 : tie.Need-overflow_mul-k-in-loop-k invariant-loop decreases-loop
 mul_unit_at_3 c = omega (arith, (fits c.before).numbers)
 
 add_unit_at : tie.Need-overflow_add-k invariant-loop decreases-loop
-add_unit_at c = omega (arith, (fits c.before).numbers)
+add_unit_at c = omega (arith, (fits c.before.before.before.before.before).numbers)
 
 mul_unit_at_4 : tie.Need-offset_bounds-list-k-in-loop-k invariant-loop decreases-loop
 mul_unit_at_4 c = omega (arith, (fits c.before).numbers)
@@ -73,23 +73,23 @@ unit_at_requires c κs = (fits c.before.before).few
 
 -- Q of a turn's edge
 is_q : (c : tie.After-unit_at-q invariant-loop decreases-loop) → let s = c.before.before.before.before.before.before.before.before.before.before.before.before.before.before in
-    c.unit_at.result ≡ unit_q s.args.columns (edge_from s.args.list.now c.before.before.before.before.loop.k)
+    c.unit_at-q.result ≡ unit_q s.args.columns (edge_from s.args.list.now c.loop-k.k)
 is_q c = c.unit_at-q.ensures
 
 -- the test of its units
 tested : (c : tie.After-has_units invariant-loop decreases-loop) → let s = c.before.before.before.before.before.before.before.before.before.before.before.before.before.before.before in
-    c.has_units.result ≡ told (of s) c.before.before.before.before.before.loop.k
+    c.has_units.result ≡ told (of s) c.loop-k.k
 tested c =
     c.has_units.ensures ∙ (λ t. has_units (c.step_across-step.ensures t)
     (c.units_in-units.ensures t) (is_q c.before t))
 
 -- where it passes
 passed : (c : tie.Then-has_units invariant-loop decreases-loop) → let d = c.before.before in
-    Both d.before.before.before.before.before.step_across.result d.before.before.before.before.before.before.units_in.result d.unit_at.result
+    Both d.step_across-step.result d.units_in-units.result d.unit_at-q.result
 passed c = both_units _ _ _ (sym c.has_units.ensures ∙ c.if-has_units.true)
 
-unit_of_lem : (c : tie.Then-has_units invariant-loop decreases-loop) → let a = c.before.before.before.before.before.before.before.before.before.before.before.before.before.before.before.before.args in
-    InUnits (length a.words.now) (length a.motion.now) (length a.refs.now) (length a.keep.now) c.before.before.unit_at.result
+unit_of_lem : (c : tie.Then-has_units invariant-loop decreases-loop) → let a = c.args in
+    InUnits (length a.words.now) (length a.motion.now) (length a.refs.now) (length a.keep.now) c.unit_at-q.result
 unit_of_lem c =
     in_units _ _ _ _ _ (subst (λ (m : ℕ). c.unit_at-q.result < m) c.units_in-units.ensures (passed c).under)
 
@@ -130,7 +130,7 @@ stored f {l₀} {l} {m} {k} {v} h e g u = subst (λ (x : List ℕ). Upto 0 f l�
 
 -- a turn's place and marks are those of its units
 place_of : (c : tie.After-place_at invariant-loop decreases-loop) → let t = c.before.before.before.before.before.before.before in
-    c.place_at.result ≡ planned_place (of t.before.before.before.before.before.before.before.before.before.before) t.loop.k
+    c.place_at.result ≡ planned_place (of t.before.before.before.before.before.before.before.before.before.before) t.loop-k.k
 place_of c =
     let d = c.before.before in
     let s = d.before.before.before.before.before.before.before.before.before.before.before.before.before.before.before in
@@ -141,7 +141,7 @@ place_of c =
     ∙ place_told (of s) d.loop-k.k (sym (tested d) ∙ c.if-has_units.true)
 
 marks_of : (c : tie.After-marks_at invariant-loop decreases-loop) → let t = c.before.before.before.before.before.before.before.before in
-    c.marks_at.result ≡ planned_marks (of t.before.before.before.before.before.before.before.before.before.before) t.loop.k
+    c.marks_at.result ≡ planned_marks (of t.before.before.before.before.before.before.before.before.before.before) t.loop-k.k
 marks_of c =
     let d = c.before.before.before in
     let s = d.before.before.before.before.before.before.before.before.before.before.before.before.before.before.before in

@@ -15,7 +15,7 @@ use Rattle.edges.proofs.list_checked.Tie as tie
 passed : {t b : Bool} → b ≡ t → not b ≡ false → t ≡ true
 passed {b = b} e n = sym e ∙ not-false b n
 
-size_told : (c : tie.Else-not-size_ok) → Sized c.before.before.before.args.w c.before.before.before.args.h
+size_told : (c : tie.Else-not-size_ok) → Sized c.args.w c.args.h
 size_told c = sized _ _ (passed c.size_ok.ensures c.if-not-size_ok.false-raw)
 
 returns : tie.Need-returns-then-not-size_ok

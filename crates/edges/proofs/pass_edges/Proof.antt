@@ -21,7 +21,7 @@ size : (s : tie.Start invariant-loop decreases-loop) → Sized s.args.w s.args.h
 size s = sized _ _ s.requires.0.size
 
 -- a turn's root is one of the picture's
-root : (c : tie.In-loop-i invariant-loop decreases-loop) → let s = c.before.before.before.before in c.before.loop.i < root_count s.args.w s.args.h
+root : (c : tie.In-loop-i invariant-loop decreases-loop) → let s = c.before.before.before.before in c.loop-i.i < root_count s.args.w s.args.h
 root c = omega (arith, c.requires.0.long, c.loop-i-test.true)
 
 loop_holds : tie.Need-loop-i-init invariant-loop decreases-loop

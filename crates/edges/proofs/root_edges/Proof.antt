@@ -18,7 +18,7 @@ use Rattle.edges.proofs.root_edges.Tie as tie
 
 returns : tie.Need-returns-in_default
 returns c =
-    let l = c.before.before.before in
+    let l = c.before.before in
     let s = l.before.before.before.before in
     let p = s.requires.0 in
     absurd (root_met _ _ _ p.size p.long p.walked s.args.i s.requires.1 _ _ _ refl l.root_leaves.ensures _ c.in_default.is)
@@ -26,7 +26,7 @@ returns c =
 leaves_edges_requires : tie.Need-leaves_edges-requires
 leaves_edges_requires c κs =
     let n = c.before.before.before in
-    let l = n.before.before.before in
+    let l = n.before.before in
     let s = l.before.before.before.before in
     let p = s.requires.0 in
     let a = s.args in
@@ -39,7 +39,7 @@ returns-2 : tie.Need-returns
 returns-2 c =
     let e = c.before.before in
     let n = e.before.before.before.before in
-    let l = n.before.before.before in
+    let l = n.before.before in
     let s = l.before.before.before.before in
     let p = s.requires.0 in
     let a = s.args in

@@ -18,13 +18,13 @@ input_of s =
     let a = s.args in
     record { w = a.w; h = a.h; splits = a.splits.now; x = a.x.0; y = a.y.0; horizontal = a.horizontal; halved = a.halved; top = a.top; out = a.out.now }
 
-size_fine : (c : tie.Else-not-size_ok) → size_ok c.before.before.before.before.args.w c.before.before.before.before.args.h ≡ true
+size_fine : (c : tie.Else-not-size_ok) → size_ok c.args.w c.args.h ≡ true
 size_fine c = sym c.size_ok.ensures ∙ c.if-not-size_ok.false
 
-high : (c : tie.Else-not-size_ok) → c.before.before.before.before.args.h / 4 ≤ 1024
+high : (c : tie.Else-not-size_ok) → c.args.h / 4 ≤ 1024
 high c = omega (arith, (sized _ _ (size_fine c)).high)
 
-top_fine : (c : tie.Else-h-top) → c.before.before.before.before.before.args.top + c.before.before.before.before.before.args.h / 4 ≤ 1024
+top_fine : (c : tie.Else-h-top) → c.args.top + c.args.h / 4 ≤ 1024
 top_fine c = omega (arith, c.if-h-top.false, high c.before)
 
 early : (c : tie.Else-out-ne512) → Early (input_of c.before.before.before.before.before.before)
@@ -43,17 +43,17 @@ returns-3 : tie.Need-returns-then-out-ne512
 returns-3 c = long_refused (input_of c.before.before.before.before.before.before) (size_fine c.before.before) (top_fine c.before) c.if-out-ne512.true
 
 leaves_edges_requires : tie.Need-leaves_edges-k-requires
-leaves_edges_requires c κs = root_ready (input_of c.before.before.before.before.before.before.before.before.before.before.before.before.before.before)
-    (early c.before.before.before.before.before.before.before.before) _ _ _ _ refl
+leaves_edges_requires c κs = root_ready (input_of c.before.before.before.before.before.before.before.before.before.before.before.before)
+    (early c.before.before.before.before.before.before) _ _ _ _ refl
     c.leaves.ensures c.in-Done.is
 
 returns-4 : tie.Need-returns-in-Refused
-returns-4 c = leaves_refused (input_of c.before.before.before.before.before.before.before.before.before.before.before.before)
-    (early c.before.before.before.before.before.before) _ _ _ _ refl c.leaves.ensures c.in-Refused.is
+returns-4 c = leaves_refused (input_of c.before.before.before.before.before.before.before.before.before.before)
+    (early c.before.before.before.before) _ _ _ _ refl c.leaves.ensures c.in-Refused.is
 
 returns-5 : tie.Need-returns-in-Done
-returns-5 c = root_done (input_of c.before.before.before.before.before.before.before.before.before.before.before.before.before.before.before.before.before)
-    (early c.before.before.before.before.before.before.before.before.before.before.before) _ _ _ _ refl
+returns-5 c = root_done (input_of c.before.before.before.before.before.before.before.before.before.before.before.before.before.before.before)
+    (early c.before.before.before.before.before.before.before.before.before) _ _ _ _ refl
     c.leaves.ensures
     c.in-Done.is _ _ c.leaves_edges-k.ensures
 

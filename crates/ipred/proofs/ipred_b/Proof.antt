@@ -10,7 +10,7 @@ use Rattle.ipred.proofs.ipred_b.Statement.{statement}
 use Rattle.ipred.proofs.ipred_b.Tie as tie
 
 -- a side that passed
-side_at : (c : tie.Else-not-component_side_ok) → component_side_ok c.before.before.before.before.args.side ≡ true
+side_at : (c : tie.Else-not-component_side_ok) → component_side_ok c.args.side ≡ true
 side_at c = sym c.component_side_ok.ensures ∙ c.if-not-component_side_ok.false
 
 returns : tie.Need-returns-then-not-component_side_ok

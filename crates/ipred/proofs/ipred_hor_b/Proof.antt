@@ -16,7 +16,7 @@ abbrev decreases-loop : tie.decreases-loop-i
 decreases-loop side run block₀ i₀ block i = side - i
 
 -- in a turn: the row lies in the block
-row : (c : tie.In-loop-i invariant-loop decreases-loop) → let a = c.before.before.before.before.args in c.before.loop.i * a.side + a.side ≤ a.side * a.side
+row : (c : tie.In-loop-i invariant-loop decreases-loop) → let a = c.args in c.loop-i.i * a.side + a.side ≤ a.side * a.side
 row c = row_in_lem c.loop-i.i c.requires c.loop-i-test.true
 
 loop_holds : tie.Need-loop-i-init invariant-loop decreases-loop

@@ -19,7 +19,7 @@ loop_holds : tie.Need-loop-j-init invariant-loop decreases-loop
 loop_holds c = (omega arith, sym (sum_none _), omega arith)
 
 -- a sample of the run, as a 16-bit number
-small : (c : tie.After-shared_slice_known-1 invariant-loop decreases-loop) → get_or c.before.before.before.args.run.now (c.before.before.before.args.from + c.before.before.loop.j) 0 ≤ 65535
+small : (c : tie.After-shared_slice_known-1 invariant-loop decreases-loop) → get_or c.args.run.now (c.args.from + c.loop-j.j) 0 ≤ 65535
 small c = omega (arith, c.shared_slice_known-1.given (c.args.from + c.loop-j.j))
 
 cast_sum : tie.Need-overflow_cast-sum invariant-loop decreases-loop

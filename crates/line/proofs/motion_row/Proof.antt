@@ -11,8 +11,8 @@ use Rattle.line.proofs.motion_row.Statement.{statement}
 use Rattle.line.proofs.motion_row.Tie as tie
 
 -- the row, of what the tests joined are
-row : (c : tie.After-any_far-near) (near : Bool) → ((c.before.before.before.before.same_refs.result || c.before.before.same_refs2.result) && not c.any_far.result) ≡ near
-    → pick {A = ℕ} near 3 2 ≡ motion_row c.before.before.before.before.before.args.q c.before.before.before.before.before.args.p
+row : (c : tie.After-any_far-near) (near : Bool) → ((c.same_refs-straight.result || c.same_refs-across.result) && not c.any_far-near.result) ≡ near
+    → pick {A = ℕ} near 3 2 ≡ motion_row c.args.q c.args.p
 row c near e =
     let s = c.before.before.before.before in
     let q = s.args.q in

@@ -45,7 +45,7 @@ loop_holds c = let a = c.before.before.before.before.before in (zero-le, λ m e.
 -- a part that is refused ends the block
 returns-2 : tie.Need-returns-in_default invariant-loop decreases-loop
 returns-2 c =
-    let a = c.before.before.before.before.before.before.before.before.before in
+    let a = c.before.before.before.before.before.before.before.before in
     let d = c.own_digit-own.ensures.divided (not-false _ c.if-not-own.false) in
     divided_then d
     (part_refused (digits a) a.requires.0 (omega arith) _ (c.loop-part.invariant.1 _ d.answer) _ c.loop-part-test.true c.in_default.is)
@@ -57,13 +57,13 @@ part_of_requires c κs =
 
 grow_sixteen_requires : tie.Need-grow_sixteen-marked-requires invariant-loop decreases-loop
 grow_sixteen_requires c κs =
-    let a = c.before.before.before.before.before.before.before.before.before.before.before.before in
+    let a = c.before.before.before.before.before.before.before.before.before.before in
     let p = a.requires in
     let z = halved p.0 (omega arith) in
     let v = c.loop-part.invariant in
     let l = c.loop-part-test.true in
     let q = c.part_of-place.ensures in
-    let own = c.before.before.before.before.before.before.before in
+    let own = c.before.before.before.before.before in
     let d = own.own_digit-own.ensures.divided (not-false _ own.if-not-own.false) in
     let f = few_taken (digits a) p.0 c.loop-part.part d.count in
     let e = grew_count c.in-Done.is (v.1 _ d.answer) in
@@ -79,7 +79,7 @@ loop_less c = fewer _ c.loop-part-test.true
 
 loop_again : tie.Need-loop-part-preserved invariant-loop decreases-loop
 loop_again c =
-    let a = c.before.before.before.before.before.before.before.before.before.before.before.before.before in
+    let a = c.before.before.before.before.before.before.before.before.before.before.before in
     let p = a.requires in
     let v = c.loop-part.invariant in
     let l = c.loop-part-test.true in

@@ -16,22 +16,22 @@ use Rattle.marks.proofs.Calls.{list_refused, list_done, lengths_told}
 use Rattle.marks.proofs.list_marks.Statement.{statement}
 use Rattle.marks.proofs.list_marks.Tie as tie
 
-size_told : (c : tie.Else-not-size_ok) → Sized c.before.before.before.before.args.w c.before.before.before.before.args.h
+size_told : (c : tie.Else-not-size_ok) → Sized c.args.w c.args.h
 size_told c = sized _ _ (sym c.size_ok.ensures ∙ c.if-not-size_ok.false)
 
 -- the test of the lengths, as the rule has it
-lengths : (c : tie.After-roots_in-roots) → let a = c.before.before.before.before.before.args in
-    (eqb (length a.splits.now) (1024 * c.roots_in.result) && eqb (length a.out.now) 85) ≡ list-call.lengths_ok a.w a.h (length a.splits.now) (length a.out.now)
+lengths : (c : tie.After-roots_in-roots) → let a = c.args in
+    (eqb (length a.splits.now) (1024 * c.roots_in-roots.result) && eqb (length a.out.now) 85) ≡ list-call.lengths_ok a.w a.h (length a.splits.now) (length a.out.now)
 unfolding list-call.lengths_ok
 lengths c = ap (λ (n : ℕ). eqb (length c.args.splits.now) (1024 * n) && eqb
     (length c.args.out.now) 85) c.roots_in-roots.ensures.0
 
-in_picture : (c : tie.Else-roots-root) → c.before.before.before.before.before.before.before.args.root < root_count
-    c.before.before.before.before.before.before.before.args.w c.before.before.before.before.before.before.before.args.h
+in_picture : (c : tie.Else-roots-root) → c.args.root < root_count
+    c.args.w c.args.h
 in_picture c = omega (arith, c.if-roots-root.false, c.roots_in-roots.ensures.0)
 
-outside : (c : tie.Then-roots-root) → root_count c.before.before.before.before.before.before.before.args.w
-    c.before.before.before.before.before.before.before.args.h ≤ c.before.before.before.before.before.before.before.args.root
+outside : (c : tie.Then-roots-root) → root_count c.args.w
+    c.args.h ≤ c.args.root
 outside c = omega (arith, c.if-roots-root.true, c.roots_in-roots.ensures.0)
 
 returns : tie.Need-returns-then-not-size_ok

@@ -11,13 +11,13 @@ returns : tie.Need-returns-then-w-at
 returns c = opened_none c.args.bytes.now c.requires.0 c.if-w-at.true _ _
 
 -- the block starts in the picture
-inside : (c : tie.Else-w-at) → let a = c.before.before.before.before.before.args in (a.at.x.0 < a.w) × (a.at.y.0 < a.h)
+inside : (c : tie.Else-w-at) → let a = c.args in (a.at.x.0 < a.w) × (a.at.y.0 < a.h)
 inside c = started _ _ _ _ c.if-w-at.false
 
 returns-2 : tie.Need-returns
 returns-2 c =
     let a = c.before.before.before.before.before.before.before.before.before.before.before.before in
-    let i = inside c.before.before.before.before.before.before.before in
+    let i = inside c.before.before.before.before.before.before.before.before.before.before.before in
     let m = c.mended-byte.ensures in
     let b = c.byte_place-place.ensures in
     opened a.args.bytes.now a.requires.0 a.requires.1 i.0 i.1 _ _ b.0 m.0 c.put_mark.ensures m.1

@@ -12,7 +12,7 @@ use Rattle.marks.proofs.root_grown.Statement.{statement}
 use Rattle.marks.proofs.root_grown.Tie as tie
 
 -- how many digits there are
-count_is : (c : tie.Joined-from-to) → c.if1.count ≡ c.before.before.args.to - c.before.before.args.from
+count_is : (c : tie.Joined-from-to) → c.if-from-to.count ≡ c.args.to - c.args.from
 count_is c = ⊎_elim (λ u. omega (arith, u)) (λ u. omega (arith, u)) c.if-from-to.branch
 
 root_place_requires : tie.Need-root_place-at-requires

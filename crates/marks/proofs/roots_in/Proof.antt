@@ -9,10 +9,10 @@ use Rattle.marks.proofs.roots_in.Statement.{statement}
 use Rattle.marks.proofs.roots_in.Tie as tie
 
 -- what the code multiplies
-product : (c : tie.After-roots_along-2) → c.before.roots_along.result * c.roots_along2.result ≡ root_count c.before.before.args.w c.before.before.args.h
+product : (c : tie.After-roots_along-2) → c.roots_along.result * c.roots_along-2.result ≡ root_count c.args.w c.args.h
 product c = ap₂ (λ (m n : ℕ). m * n) c.roots_along.ensures c.roots_along-2.ensures
 
-few : (c : tie.After-roots_along-2) → c.before.roots_along.result * c.roots_along2.result ≤ 4096
+few : (c : tie.After-roots_along-2) → c.roots_along.result * c.roots_along-2.result ≤ 4096
 few c = subst (λ (n : ℕ). n ≤ 4096) (sym (product c)) (few_roots _ _ c.requires.wide c.requires.high)
 
 mul_result : tie.Need-overflow_mul-result

@@ -16,13 +16,13 @@ use Rattle.marks.proofs.Calls.{take_refused, taken_few, taken_long, take_stopped
 use Rattle.marks.proofs.take_marks.Statement.{statement}
 use Rattle.marks.proofs.take_marks.Tie as tie
 
-size_told : (c : tie.Else-not-size_ok) → Sized c.before.before.before.before.args.w c.before.before.before.before.args.h
+size_told : (c : tie.Else-not-size_ok) → Sized c.args.w c.args.h
 size_told c = sized _ _ (sym c.size_ok.ensures ∙ c.if-not-size_ok.false)
 
-in_picture : (c : tie.Else-roots_in-root) → let a = c.before.before.before.before.before.before.before.args in a.root < root_count a.w a.h
+in_picture : (c : tie.Else-roots_in-root) → let a = c.args in a.root < root_count a.w a.h
 in_picture c = omega (arith, c.if-roots_in-root.false, c.roots_in.ensures.0)
 
-outside : (c : tie.Then-roots_in-root) → let a = c.before.before.before.before.before.before.before.args in root_count a.w a.h ≤ a.root
+outside : (c : tie.Then-roots_in-root) → let a = c.args in root_count a.w a.h ≤ a.root
 outside c = omega (arith, c.if-roots_in-root.true, c.roots_in.ensures.0)
 
 -- the call's input
@@ -61,11 +61,11 @@ root_grown_requires c κs = (size_told c.before.before.before.before, in_picture
 
 -- the list of 85 holds them
 slice_aggregate_copy : tie.Need-slice_bounds-copy-end
-slice_aggregate_copy c = sym (taken_long (asked c.before.before.before.before.before.before) c.root_grown-marked.ensures _ c.in-Done.is)
+slice_aggregate_copy c = sym (taken_long (asked c.before.before.before.before) c.root_grown-marked.ensures _ c.in-Done.is)
 
 copy_requires : tie.Need-copy-requires
 copy_requires c κs =
-    let i = asked c.before.before.before.before.before.before.before in
+    let i = asked c.before.before.before.before.before in
     let d = c.root_grown-marked.ensures in
     let e = c.in-Done.is in
     let f = taken_few i d _ e in
@@ -73,12 +73,12 @@ copy_requires c κs =
 
 returns-4 : tie.Need-returns-in-Done
 returns-4 c =
-    let p = c.before.before.before.before.before.before.before.before.before.before in
+    let p = c.before.before.before.before.before.before.before.before in
     let m = c.before.before.before.before.before.before in
     take_done (asked p) m.root_grown-marked.ensures _ _ refl m.in-Done.is (passed p) c.copy.ensures
 
 returns-5 : tie.Need-returns-in_default
-returns-5 c = let p = c.before.before.before.before in take_stopped (asked p) c.root_grown-marked.ensures _ c.in_default.is (passed p)
+returns-5 c = let p = c.before.before.before in take_stopped (asked p) c.root_grown-marked.ensures _ c.in_default.is (passed p)
 
 pub take_marks_spec : {M : Type 1} → statement M
 take_marks_spec =

@@ -28,10 +28,10 @@ loop_holds c = (
   omega arith,
 )
 
-in_list : (c : tie.In-loop-j invariant-loop decreases-loop) → c.before.loop.j < length c.before.before.before.before.before.args.marks.now
+in_list : (c : tie.In-loop-j invariant-loop decreases-loop) → c.loop-j.j < length c.args.marks.now
 in_list c = omega (arith, c.loop-j-test.true, c.requires.1)
 
-place_in_lem : (c : tie.After-mark_place-place invariant-loop decreases-loop) → c.mark_place.result < 1024
+place_in_lem : (c : tie.After-mark_place-place invariant-loop decreases-loop) → c.mark_place-place.result < 1024
 place_in_lem c =
     let p = c.requires.2 c.loop-j.j c.loop-j-test.true in
     let e : c.mark_place-place.result ≡ get_or c.args.marks.now c.loop-j.j 0 / 2 = c.mark_place-place.ensures in
@@ -44,10 +44,10 @@ put_change_requires c κs =
     (p.3, place_in_lem c.before.before.before.before, omega (arith, p.4, v.1, v.3, c.loop-j-test.true))
 
 -- the change of the mark at j
-listed_next : (c : tie.After-put_change-met invariant-loop decreases-loop) → let a = c.before.before.before.before.before.before.before.before.before.before.before.before.args in
-    let m = mark_from (get_or a.marks.now c.before.before.before.before.before.before.before.before.loop.j 0) in
-    Listed (change_of a.root m.place (get_or a.bytes.now m.place 0) m.byte) c.before.before.before.before.before.before.before.before.loop.list
-    c.before.before.before.before.before.before.before.before.loop.met c.put_change.new.0 c.put_change.result
+listed_next : (c : tie.After-put_change-met invariant-loop decreases-loop) → let a = c.args in
+    let m = mark_from (get_or a.marks.now c.loop-j.j 0) in
+    Listed (change_of a.root m.place (get_or a.bytes.now m.place 0) m.byte) c.loop-j.list
+    c.loop-j.met c.put_change-met.new.0 c.put_change-met.result
 listed_next c =
     let a = c.args in
     let p = c.mark_place-place.ensures in

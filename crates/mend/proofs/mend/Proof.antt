@@ -16,18 +16,18 @@ use Rattle.mend.proofs.Calls.{few_of, lengths_told, mend_refused, mend_done}
 use Rattle.mend.proofs.mend.Statement.{statement}
 use Rattle.mend.proofs.mend.Tie as tie
 
-size_told : (c : tie.Else-not-size_ok) → size_ok c.before.before.before.before.before.args.w c.before.before.before.before.before.args.h ≡ true
+size_told : (c : tie.Else-not-size_ok) → size_ok c.args.w c.args.h ≡ true
 size_told c = sym c.size_ok.ensures ∙ c.if-not-size_ok.false
 
-roots_are : (c : tie.After-root_count-n) → c.root_count.result ≡ root_count c.before.before.before.before.before.before.args.w c.before.before.before.before.before.before.args.h
+roots_are : (c : tie.After-root_count-n) → c.root_count-n.result ≡ root_count c.args.w c.args.h
 roots_are c = roots_told _ _ _ (size_told c.before) c.root_count-n.ensures
 
-few : (c : tie.After-root_count-n) → c.root_count.result ≤ 4096
+few : (c : tie.After-root_count-n) → c.root_count-n.result ≤ 4096
 few c = omega (arith, roots_are c, few_of _ _ (size_told c.before))
 
 -- the test of the lengths, as the rule has it
-lengths : (c : tie.After-root_count-n) → let a = c.before.before.before.before.before.before.args in
-    let n = c.root_count.result in
+lengths : (c : tie.After-root_count-n) → let a = c.args in
+    let n = c.root_count-n.result in
     (eqb (length a.splits.now) (1024 * n) && eqb (length a.out.now) (1024 * n) && eqb (length a.list.now) (425 * n))
     ≡ mend-call.lengths_ok a.w a.h (length a.splits.now) (length a.out.now) (length a.list.now)
 unfolding mend-call.lengths_ok

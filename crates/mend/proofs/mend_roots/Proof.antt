@@ -30,23 +30,23 @@ abbrev decreases-loop : tie.decreases-loop-i
 decreases-loop w h splits out₀ list₀ n count₀ i₀ out list count i = n - i
 
 -- the number of roots, in samples and in units
-all : (c : tie.After-root_count-n invariant-loop decreases-loop) → c.root_count.result ≡ roots (c.before.before.before.before.args.w / 4) (c.before.before.before.before.args.h / 4)
+all : (c : tie.After-root_count-n invariant-loop decreases-loop) → c.root_count-n.result ≡ roots (c.args.w / 4) (c.args.h / 4)
 all c = count_units _ _ _ c.requires.size c.root_count-n.ensures
 
-all_samples : (c : tie.After-root_count-n invariant-loop decreases-loop) → c.root_count.result ≡ root_count c.before.before.before.before.args.w c.before.before.before.before.args.h
+all_samples : (c : tie.After-root_count-n invariant-loop decreases-loop) → c.root_count-n.result ≡ root_count c.args.w c.args.h
 all_samples c = roots_told _ _ _ c.requires.size c.root_count-n.ensures
 
-inside : (c : tie.In-loop-i invariant-loop decreases-loop) → c.before.loop.i < root_count c.before.before.before.before.before.before.args.w c.before.before.before.before.before.before.args.h
+inside : (c : tie.In-loop-i invariant-loop decreases-loop) → c.loop-i.i < root_count c.args.w c.args.h
 inside c = omega (arith, c.loop-i-test.true, all_samples c.before.before)
 
-few : (c : tie.In-loop-i invariant-loop decreases-loop) → c.before.loop.i < 4096
+few : (c : tie.In-loop-i invariant-loop decreases-loop) → c.loop-i.i < 4096
 few c = omega (arith, inside c, few_of _ _ c.requires.size)
 
 -- root i's part lies in the second buffer, and its changes have room in the list
-room : (c : tie.In-loop-i invariant-loop decreases-loop) → 1024 * c.before.loop.i + 1024 ≤ length c.before.loop.out
+room : (c : tie.In-loop-i invariant-loop decreases-loop) → 1024 * c.loop-i.i + 1024 ≤ length c.loop-i.out
 room c = omega (arith, inside c, c.requires.room, c.loop-i.invariant.1)
 
-rows : (c : tie.In-loop-i invariant-loop decreases-loop) → 5 * (c.before.loop.count + 85) ≤ length c.before.loop.list
+rows : (c : tie.In-loop-i invariant-loop decreases-loop) → 5 * (c.loop-i.count + 85) ≤ length c.loop-i.list
 rows c =
     let a = c.args in
     let v = c.loop-i.invariant in
@@ -57,7 +57,7 @@ loop_holds : tie.Need-loop-i-init invariant-loop decreases-loop
 unfolding joined
 loop_holds c = (zero-le, refl, refl, refl, listed_none _ _)
 
-own_long : (c : tie.In-loop-i invariant-loop decreases-loop) → let i = c.before.loop.i in length (take (1024 * i + 1024 - 1024 * i) (drop (1024 * i) c.before.loop.out)) ≡ 1024
+own_long : (c : tie.In-loop-i invariant-loop decreases-loop) → let i = c.loop-i.i in length (take (1024 * i + 1024 - 1024 * i) (drop (1024 * i) c.loop-i.out)) ≡ 1024
 own_long c =
     let i = c.loop-i.i in
     let e : 1024 * i + 1024 - 1024 * i ≡ 1024 = omega arith in

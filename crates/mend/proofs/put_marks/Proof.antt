@@ -23,10 +23,10 @@ loop_holds : tie.Need-loop-j-init invariant-loop decreases-loop
 unfolding put_all run
 loop_holds c = (zero-le, c.requires.0, refl)
 
-in_list : (c : tie.In-loop-j invariant-loop decreases-loop) → c.before.loop.j < length c.before.before.before.before.args.marks.now
+in_list : (c : tie.In-loop-j invariant-loop decreases-loop) → c.loop-j.j < length c.args.marks.now
 in_list c = omega (arith, c.loop-j-test.true, c.requires.1)
 
-place_in_lem : (c : tie.After-mark_place-place invariant-loop decreases-loop) → c.mark_place.result < length c.before.before.before.loop.out
+place_in_lem : (c : tie.After-mark_place-place invariant-loop decreases-loop) → c.mark_place-place.result < length c.loop-j.out
 place_in_lem c =
     let p = c.requires.2 c.loop-j.j c.loop-j-test.true in
     let e : c.mark_place-place.result ≡ get_or c.args.marks.now c.loop-j.j 0 / 2 = c.mark_place-place.ensures in

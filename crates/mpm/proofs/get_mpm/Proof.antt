@@ -20,17 +20,17 @@ of s =
     }
 
 -- past the checks
-good : (c : tie.In-Done) → Accepted (of c.before.before.before.before.before.before).input
+good : (c : tie.In-Done) → Accepted (of c.before.before.before.before.before).input
 good c = accepted _ (sym c.checked.ensures ∙ c.in-Done.is)
 
 returns : tie.Need-returns-in_default
 unfolding part_outcome
-returns c = no_part (of c.before.before.before.before.before.before.before) ∙ on_refusal _ _ _ _ _ c.checked.ensures c.in_default.is
+returns c = no_part (of c.before.before.before.before.before) ∙ on_refusal _ _ _ _ _ c.checked.ensures c.in_default.is
 
 row_start_requires : tie.Need-row_start-at-requires
 row_start_requires c κs = ((good c).unit, (good c).modes_ok_lem)
 
-part_result_end : tie.Need-slice-bounds-result-end
+part_result_end : tie.Need-slice_bounds-result-end-2
 part_result_end c = omega (arith, (good c.before).table_long)
 
 returns-2 : tie.Need-returns
@@ -38,7 +38,7 @@ unfolding part_outcome
 returns-2 c =
     let d = c.before in
     on_done _ _ _ _ _ d.checked.ensures d.in-Done.is
-    (a_part (of d.before.before.before.before.before.before.before) _ _ d.row_start-at.ensures.0)
+    (a_part (of d.before.before.before.before.before.before) _ _ d.row_start-at.ensures.0)
 
 pub get_mpm_spec : {M : Type 1} → statement M
 get_mpm_spec =

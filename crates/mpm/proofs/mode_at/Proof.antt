@@ -30,8 +30,8 @@ shared_slice_read_word : tie.Need-bounds-words-at
 shared_slice_read_word c = in_words c.before.before.before
 
 -- the flags of the unit's word
-flags : (c : tie.After-get_cod) → let a = c.before.before.before.before.before.args in
-    let word = unit_at a.w a.words.now a.u a.v in (c.before.get_if.result && c.get_cod.result) ≡ (intra_of word && done_of word)
+flags : (c : tie.After-get_cod) → let a = c.args in
+    let word = unit_at a.w a.words.now a.u a.v in (c.get_if.result && c.get_cod.result) ≡ (intra_of word && done_of word)
 flags c = rw (c.get_if.ensures, c.get_cod.ensures)
 
 shared_slice_read_result : tie.Need-bounds-modes-at

@@ -44,8 +44,8 @@ past1 c r p = goes_on _ _ _ _ r c.size_ok.ensures c.if-not-size_ok.false-raw p
 past2 : (c : tie.Else-not-lengths_ok) (r : Answer) → let s = c.before.before.before.before in r ≡ rest2 s.args.block s.args.run → r ≡ found s
 past2 c r p = past1 c.before.before r (goes_on _ _ _ _ r c.lengths_ok.ensures c.if-not-lengths_ok.false-raw p)
 
-past3 : (c : tie.Else-not-block_ok) (r : Answer) → let s = c.before.before.before.before.before.before in r ≡ rest3 s.args.block s.args.run → r ≡ found s
-past3 c r p = past2 c.before.before r (goes_on _ _ _ _ r c.block_ok.ensures c.if-not-block_ok.false-raw p)
+past3 : (c : tie.Else-not-block_ok) (r : Answer) → let s = c.before.before.before.before.before.before in r ≡ rest3 s.args.block s.args.run → r ≡ found s.before.before
+past3 c r p = past2 c.before.before.before.before r (goes_on _ _ _ _ r c.block_ok.ensures c.if-not-block_ok.false-raw p)
 
 returns : tie.Need-returns-then-not-size_ok
 unfolding form_of
@@ -60,7 +60,7 @@ returns-2 : tie.Need-returns-then-not-lengths_ok
 returns-2 c = past1 c.before.before _ (stops _ _ _ _ c.lengths_ok.ensures c.if-not-lengths_ok.true-raw)
 
 returns-3 : tie.Need-returns-then-not-block_ok
-returns-3 c = past2 c.before.before _ (stops _ _ _ _ c.block_ok.ensures c.if-not-block_ok.true-raw)
+returns-3 c = past2 c.before.before.before.before _ (stops _ _ _ _ c.block_ok.ensures c.if-not-block_ok.true-raw)
 
 -- the block's side in the component is small
 short : (c : tie.After-in_component) → c.in_component.result ≤ 64

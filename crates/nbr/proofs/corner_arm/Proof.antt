@@ -8,15 +8,15 @@ use Rattle.nbr.proofs.corner_arm.Tie as tie
 
 -- the block's numbers
 frame : (c : tie.After-in_component-row) → let d = c.before.before.before.before in
-    let a = d.before.before.args in Frame a.block.w a.block.h d.before.pel2scu.result.0 d.pel2scu2.result.0
-    c.before.before.in_component.result c.before.in_component2.result c.in_component3.result
+    let a = d.args in Frame a.block.w a.block.h d.pel2scu-u.result.0 d.pel2scu-v.result.0
+    c.in_component-across.result c.in_component-column.result c.in_component-row.result
 frame c =
     let d = c.before.before.before.before in
     framed d.args.block.component _ _ _ _ _ _ _ _ _ _ d.requires d.pel2scu-u.ensures d.pel2scu-v.ensures
     c.in_component-across.ensures c.in_component-column.ensures c.in_component-row.ensures
 
 -- it has a corner
-some : (c : tie.After-in_component-row) → let d = c.before.before.before.before in Cornered d.before.pel2scu.result.0 d.pel2scu2.result.0
+some : (c : tie.After-in_component-row) → let d = c.before.before.before.before in Cornered d.pel2scu-u.result.0 d.pel2scu-v.result.0
 some c = cornered _ _ c.if-u-v.false
 
 returns : tie.Need-returns-then-u-v

@@ -15,7 +15,7 @@ module _ (s : tie.Start) (m : ℕ) (e : s.args.border.n ≡ m) where
   asked a h = (omega (arith, s.requires.0.small), omega arith, subst (λ (k : ℕ). InPlane a k s.args.plane.now) e h)
 
 -- not 4
-two : (c : tie.Else-n-eq4) → c.before.before.before.args.border.n ≡ 2
+two : (c : tie.Else-n-eq4) → c.args.border.n ≡ 2
 two c = c.requires.0.sizes c.if-n-eq4.false
 
 join_near_requires_2 : tie.Need-join_near-requires
@@ -32,17 +32,17 @@ returns c =
     few_pass _ _ left.result corner.result up.result 4 c.requires.1 c.if-n-eq4.true left.ensures corner.ensures up.ensures
 
 join_near_requires_4 : tie.Need-join_near-requires-2
-join_near_requires_4 c κs = asked c.before.before.before 2 (two c) c.args.border.left c.requires.0.left_in
+join_near_requires_4 c κs = asked c.before.before.before 2 (two c.before) c.args.border.left c.requires.0.left_in
 
 join_near_requires_5 : tie.Need-join_near-requires-3
-join_near_requires_5 c κs = asked c.before.before.before.before 2 (two c.before) c.args.border.up c.requires.0.up_in
+join_near_requires_5 c κs = asked c.before.before.before.before 2 (two c.before.before.before) c.args.border.up c.requires.0.up_in
 
 returns-2 : tie.Need-returns
 returns-2 c =
     let corner = c.join_near-corner in
     let left = c.join_near-2 in
     let up = c.join_near-3 in
-    few_pass _ _ left.result corner.result up.result 2 c.requires.1 (two c.before.before) left.ensures corner.ensures up.ensures
+    few_pass _ _ left.result corner.result up.result 2 c.requires.1 (two c.before.before.before.before) left.ensures corner.ensures up.ensures
 
 pub join_few_spec : {M : Type 1} → statement M
 join_few_spec =

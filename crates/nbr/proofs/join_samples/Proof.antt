@@ -17,7 +17,7 @@ abbrev decreases-loop : tie.decreases-loop-j
 decreases-loop plane from step n all₀ j₀ all j = n - j
 
 -- the sample of a turn is within the plane
-here : (c : tie.In-loop-j invariant-loop decreases-loop) → let a = c.before.before.args in a.from + c.before.loop.j * a.step < length a.plane.now
+here : (c : tie.In-loop-j invariant-loop decreases-loop) → let a = c.args in a.from + c.loop-j.j * a.step < length a.plane.now
 here c = c.requires _ (omega arith)
 
 loop_again : tie.Need-loop-j-preserved invariant-loop decreases-loop

@@ -9,7 +9,7 @@ use Rattle.nbr.proofs.present.Statement.{statement}
 use Rattle.nbr.proofs.present.Tie as tie
 
 -- the unit's word is within the words
-here : (c : tie.Else-arm-i) → let a = c.before.before.before.args in a.arm.word + a.i * a.arm.next < length a.words.now
+here : (c : tie.Else-arm-i) → let a = c.args in a.arm.word + a.i * a.arm.next < length a.words.now
 here c = c.requires (omega arith)
 
 returns : tie.Need-returns-then-arm-i

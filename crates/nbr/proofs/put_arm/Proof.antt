@@ -21,7 +21,7 @@ module _ (s : tie.Start) (k : ℕ) (e : s.args.n ≡ k) where
   put l h = rw e h
 
 -- not 4
-two : (c : tie.Else-n-eq4) → c.before.before.before.before.args.n ≡ 2
+two : (c : tie.Else-n-eq4) → c.args.n ≡ 2
 two c = c.requires.2 c.if-n-eq4.false
 
 put_units_requires : tie.Need-put_units-requires

@@ -15,7 +15,7 @@ abbrev decreases-loop : tie.decreases-loop-j
 decreases-loop run₀ to plane from step n j₀ run j = n - j
 
 -- the sample of a turn is within the plane
-here : (c : tie.In-loop-j invariant-loop decreases-loop) → let a = c.before.before.args in a.from + c.before.loop.j * a.step < length a.plane.now
+here : (c : tie.In-loop-j invariant-loop decreases-loop) → let a = c.args in a.from + c.loop-j.j * a.step < length a.plane.now
 here c = c.requires.1 _ (omega arith)
 
 loop_again : tie.Need-loop-j-preserved invariant-loop decreases-loop

@@ -12,20 +12,20 @@ use Rattle.nbr.proofs.Arms.{unit_missing, unit_sample, unit_in, unit_few}
 use Rattle.nbr.proofs.put_unit.Statement.{statement}
 use Rattle.nbr.proofs.put_unit.Tie as tie
 
-absent : (c : tie.Then-not-present) → let a = c.before.before.before.before.before.args in present_in a.arm a.constrained a.words.now a.i ≡ false
+absent : (c : tie.Then-not-present) → let a = c.args in present_in a.arm a.constrained a.words.now a.i ≡ false
 absent c = sym c.present.ensures ∙ c.if-not-present.true
 
-there : (c : tie.Else-not-present) → let a = c.before.before.before.before.before.args in present_in a.arm a.constrained a.words.now a.i ≡ true
+there : (c : tie.Else-not-present) → let a = c.args in present_in a.arm a.constrained a.words.now a.i ≡ true
 there c = sym c.present.ensures ∙ c.if-not-present.false
 
 -- sample j of a unit that is present is within the plane
-inside : (c : tie.Else-not-present) (j : ℕ) → let a = c.before.before.before.before.before.args in j < a.n → a.arm.from + a.i * a.n * a.arm.step + j * a.arm.step < length a.plane.now
+inside : (c : tie.Else-not-present) (j : ℕ) → let a = c.args in j < a.n → a.arm.from + a.i * a.n * a.arm.step + j * a.arm.step < length a.plane.now
 inside c j p = unit_in _ _ _ _ _ _ j p c.requires.0 (there c)
 
-first : (c : tie.Else-not-present) → let a = c.before.before.before.before.before.args in a.arm.from + a.i * a.n * a.arm.step + 0 * a.arm.step < length a.plane.now
+first : (c : tie.Else-not-present) → let a = c.args in a.arm.from + a.i * a.n * a.arm.step + 0 * a.arm.step < length a.plane.now
 first c = inside c 0 c.requires.0.some
 
-few : (c : tie.Else-not-present) → let a = c.before.before.before.before.before.args in a.i * a.n ≤ 4096
+few : (c : tie.Else-not-present) → let a = c.args in a.i * a.n ≤ 4096
 few c = unit_few _ _ _ _ _ _ c.requires.0 (there c)
 
 present_requires : tie.Need-present-requires

@@ -19,7 +19,7 @@ abbrev decreases-loop : tie.decreases-loop-i
 decreases-loop plane words arm units n constrained run₀ to i₀ run i = units - i
 
 -- the unit of a turn is within the run
-room : (c : tie.In-loop-i invariant-loop decreases-loop) → let a = c.before.before.before.before.before.args in a.to + (c.before.loop.i * a.n + a.n) ≤ length a.run.now
+room : (c : tie.In-loop-i invariant-loop decreases-loop) → let a = c.args in a.to + (c.loop-i.i * a.n + a.n) ≤ length a.run.now
 room c =
     let a = c.args in
     let p : a.to + a.units * a.n ≤ length a.run.now = c.requires.1 in

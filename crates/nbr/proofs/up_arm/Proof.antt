@@ -8,8 +8,8 @@ use Rattle.nbr.proofs.up_arm.Tie as tie
 
 -- the block's numbers
 frame : (c : tie.After-in_component-row) → let d = c.before.before.before.before in
-    let a = d.before.before.args in Frame a.block.w a.block.h d.before.pel2scu.result.0 d.pel2scu2.result.0
-    c.before.before.in_component.result c.before.in_component2.result c.in_component3.result
+    let a = d.args in Frame a.block.w a.block.h d.pel2scu-u.result.0 d.pel2scu-v.result.0
+    c.in_component-across.result c.in_component-column.result c.in_component-row.result
 frame c =
     let d = c.before.before.before.before in
     framed d.args.block.component _ _ _ _ _ _ _ _ _ _ d.requires d.pel2scu-u.ensures d.pel2scu-v.ensures
@@ -31,7 +31,7 @@ flat_requires_2 c κs =
     let f = frame c.before in
     (omega arith, omega arith, omega arith)
 
-sub_t17 : tie.Need-overflow-sub-t17
+sub_t17 : tie.Need-overflow_sub-result
 sub_t17 c =
     let f = frame c.before.before in
     omega arith

@@ -19,14 +19,14 @@ use Rattle.pack.proofs.Writing.{few_of}
 use Rattle.pack.proofs.put_map.Statement.{statement}
 use Rattle.pack.proofs.put_map.Tie as tie
 
-size_told : (c : tie.Else-not-size_ok) → size_ok c.before.before.before.before.args.w c.before.before.before.before.args.h ≡ true
+size_told : (c : tie.Else-not-size_ok) → size_ok c.args.w c.args.h ≡ true
 size_told c = sym c.size_ok.ensures ∙ c.if-not-size_ok.false
 
-roots_are : (c : tie.After-root_count) → c.root_count.result ≡ root_count c.before.before.before.before.before.args.w c.before.before.before.before.before.args.h
+roots_are : (c : tie.After-root_count) → c.root_count.result ≡ root_count c.args.w c.args.h
 roots_are c = roots_told _ _ _ (size_told c.before) c.root_count.ensures
 
-mapped : (c : tie.Else-splits-root_count) → Mapped c.before.before.before.before.before.before.args.w c.before.before.before.before.before.before.args.h
-    (length c.before.before.before.before.before.before.args.splits.now)
+mapped : (c : tie.Else-splits-root_count) → Mapped c.args.w c.args.h
+    (length c.args.splits.now)
 mapped c = record { size = size_told c.before.before; bytes = c.if-splits-root_count.false ∙ ap (λ (n : ℕ). 1024 * n) (roots_are c.before) }
 
 returns : tie.Need-returns-then-not-size_ok
@@ -47,10 +47,10 @@ put_counted_requires : tie.Need-put_counted-requires
 put_counted_requires c κs =
     let a = c.args in
     let k = counted_done _ _ (picture_walk a.splits.now (a.w / 4) (a.h / 4)).answer (sym c.in-Done.is ∙ c.map_digits.ensures) in
-    record { mapped = mapped c.before.before.before.before.before; done = k.0; count = k.1 }
+    record { mapped = mapped c.before.before.before; done = k.0; count = k.1 }
 
 returns-3 : tie.Need-returns-in-Refused
-returns-3 c = put_stopped _ (mapped c.before.before.before.before) _ (counted_refused _ _ _ (sym c.in-Refused.is ∙ c.map_digits.ensures))
+returns-3 c = put_stopped _ (mapped c.before.before) _ (counted_refused _ _ _ (sym c.in-Refused.is ∙ c.map_digits.ensures))
 
 pub put_map_spec : {M : Type 1} → statement M
 put_map_spec =

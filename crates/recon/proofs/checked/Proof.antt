@@ -14,13 +14,13 @@ use Rattle.recon.specs.Recon.{lengths_ok, block_check}
 use Rattle.recon.proofs.checked.Statement.{statement}
 use Rattle.recon.proofs.checked.Tie as tie
 
-past1 : (c : tie.Else-not-component_side_ok) (x : Answer) → let a = c.before.before.before.args in
+past1 : (c : tie.Else-not-component_side_ok) (x : Answer) → let a = c.args in
     x ≡ unless (lengths_ok a.side (length a.pred.now) a.coef a.rec) (Refused Length)
     (unless (samples_ok a.pred.now) (Refused Sample) Done) → x ≡ block_check a.side a.pred.now a.coef a.rec
 unfolding block_check
 past1 c x p = goes_on _ _ _ _ x c.component_side_ok.ensures c.if-not-component_side_ok.false-raw p
 
-past2 : (c : tie.Else-not-lengths_ok) (x : Answer) → let a = c.before.before.before.before.before.args in
+past2 : (c : tie.Else-not-lengths_ok) (x : Answer) → let a = c.args in
     x ≡ unless (samples_ok a.pred.now) (Refused Sample) Done → x ≡ block_check a.side a.pred.now a.coef a.rec
 past2 c x p = past1 c.before.before x (goes_on _ _ _ _ x c.lengths_ok.ensures c.if-not-lengths_ok.false-raw p)
 

@@ -10,7 +10,7 @@ use Rattle.recon.proofs.recon.Statement.{statement}
 use Rattle.recon.proofs.recon.Tie as tie
 
 -- where the checks found nothing
-lent_at : (c : tie.In-Done) → let a = c.before.before.before.before.before.args in Lent a.side a.pred.now (length a.coef.now) (length a.rec.now)
+lent_at : (c : tie.In-Done) → let a = c.args in Lent a.side a.pred.now (length a.coef.now) (length a.rec.now)
 lent_at c = lent _ _ _ _ (sym c.checked.ensures ∙ c.in-Done.is)
 
 mul_recon_row : tie.Need-overflow_mul-side

@@ -10,7 +10,7 @@ use Rattle.recon.proofs.recon_plane.Statement.{statement}
 use Rattle.recon.proofs.recon_plane.Tie as tie
 
 -- where the checks found nothing
-fits_at : (c : tie.In-Done) → let a = c.before.before.before.before.before.args in
+fits_at : (c : tie.In-Done) → let a = c.args in
     Fitting (a.w / scale_of a.component) (a.x.0 / scale_of a.component) (a.y.0 / scale_of a.component)
     (a.side / scale_of a.component) a.pred.now a.coef.now a.rec.now
 fits_at c = fitting _ _ _ _ _ _ _ _ _ (sym c.checked_plane.ensures ∙ c.in-Done.is)

@@ -17,7 +17,7 @@ abbrev decreases-loop : tie.decreases-loop-r
 decreases-loop coded w x y n pred coef rec₀ r₀ rec r = n - r
 
 -- in a turn: where the row lies
-row : (c : tie.In-loop-r invariant-loop decreases-loop) → let a = c.before.before.before.before.args in Placed a.w a.y a.n c.before.loop.r (length a.rec.now)
+row : (c : tie.In-loop-r invariant-loop decreases-loop) → let a = c.args in Placed a.w a.y a.n c.loop-r.r (length a.rec.now)
 row c = placed c.loop-r.r c.requires c.loop-r-test.true
 
 loop_holds : tie.Need-loop-r-init invariant-loop decreases-loop

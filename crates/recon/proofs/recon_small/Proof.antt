@@ -22,7 +22,7 @@ few : (n : ℕ) → n ≤ 4 → n * n ≤ 16
 few n h = mul-le-mul h h
 
 -- in a turn: where the row lies
-row : (c : tie.In-loop-r invariant-loop decreases-loop) → let a = c.before.before.before.before.before.before.before.args in Placed a.w a.y a.n c.before.loop.r (length a.rec.now)
+row : (c : tie.In-loop-r invariant-loop decreases-loop) → let a = c.args in Placed a.w a.y a.n c.loop-r.r (length a.rec.now)
 row c = placed c.loop-r.r c.requires.0 c.loop-r-test.true
 
 mul_recon_row : tie.Need-overflow_mul-n invariant-loop decreases-loop

@@ -15,7 +15,7 @@ use Rattle.recon.proofs.reconstructed.Statement.{statement}
 use Rattle.recon.proofs.reconstructed.Tie as tie
 
 -- the residual as it is added
-held_at : (c : tie.After-held) → c.held.result ≡ held_z c.before.args.r
+held_at : (c : tie.After-held) → c.held.result ≡ held_z c.args.r
 held_at c = c.held.ensures ∙ ap held_z (back w16 _ c.ranges.r)
 
 small : (c : tie.After-held) → mag c.held.result ≤ 1023
@@ -25,10 +25,10 @@ abbrev sum : tie.After-held → ℤ
 sum c = pos c.args.p +ℤ c.held.result
 
 -- the sum, as the machine reads it
-sum_at : (c : tie.After-held) → to_z w16 (of_z w16 (to_z w16 c.before.args.p +ℤ to_z w16 (of_z w16 c.held.result))) ≡ sum c
+sum_at : (c : tie.After-held) → to_z w16 (of_z w16 (to_z w16 c.args.p +ℤ to_z w16 (of_z w16 c.held.result))) ≡ sum c
 sum_at c = machine_sum _ c.held.result c.requires (small c)
 
-same : (c : tie.After-held) → sample_z (sum c) ≡ sample_z (pos c.before.args.p +ℤ c.before.args.r)
+same : (c : tie.After-held) → sample_z (sum c) ≡ sample_z (pos c.args.p +ℤ c.args.r)
 same c = ap (λ (z : ℤ). sample_z (pos c.args.p +ℤ z)) (held_at c) ∙ held_same _ c.args.r c.requires
 
 add_t : tie.Need-overflow_add-t

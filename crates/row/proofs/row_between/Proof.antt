@@ -25,7 +25,7 @@ returns-2 c = (
 
 -- a row by motion, where neither unit is intra or luma-coded
 moved : (c : tie.Else-get_cbfl) (r : ℕ) →
-    let a = c.before.before.before.before.before.before.before.before.before.args in
+    let a = c.args in
     r ≡ motion_row (motion_at a.motion.now a.refs.now a.q) (motion_at a.motion.now a.refs.now a.p) →
     r ≡ row_by a.words.now a.motion.now a.refs.now a.q a.p
 unfolding row_by

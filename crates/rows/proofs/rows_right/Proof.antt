@@ -10,7 +10,7 @@ returns c = right_refused _ _ _ _ _ _ _ _ c.checked_maps.ensures c.in-Refused.is
 
 all_right_requires : tie.Need-all_right-requires
 all_right_requires c κs =
-    let found = c.before.before in
+    let found = c.before in
     let s = found.args in
     let a = maps_accepted s.w s.h s.words.now s.motion.now s.refs.now s.rows.now (sym found.checked_maps.ensures ∙ c.in-Done.is) in
     (a.lent, a.rows_long)

@@ -15,15 +15,15 @@ use Rattle.sheet.proofs.print_digits.Statement.{statement}
 use Rattle.sheet.proofs.print_digits.Tie as tie
 
 -- the sides passed
-sides : (c : tie.Else-not-sides_ok) → let a = c.before.before.before.before.args in sides_ok a.w a.h ≡ true
+sides : (c : tie.Else-not-sides_ok) → let a = c.args in sides_ok a.w a.h ≡ true
 sides c = sym c.sides_ok.ensures ∙ c.if-not-sides_ok.false
 
 -- and the limit
-limited : (c : tie.Else-not-limit) → let a = c.before.before.before.before.before.args in limit_ok a.limit ≡ true
+limited : (c : tie.Else-not-limit) → let a = c.args in limit_ok a.limit ≡ true
 limited c = limit_test _ ∙ c.if-not-limit.false
 
 -- the map has room for the roots
-room : (c : tie.After-map_room-map) → 1024 * c.before.root_count.result ≤ length c.map_room.result
+room : (c : tie.After-map_room-map) → 1024 * c.root_count-n.result ≤ length c.map_room-map.result
 room c = omega (arith, c.root_count-n.ensures.1, c.map_room-map.ensures)
 
 returns : tie.Need-returns-then-not-sides_ok

@@ -7,10 +7,10 @@ use Rattle.sheet.proofs.print_lists.Statement.{statement}
 use Rattle.sheet.proofs.print_lists.Tie as tie
 
 -- what the call lists
-told : (c : tie.In-Done) → let s = c.before.before.before.before.before.before.before.before.before.before.before.before.before.before in
-    let l = c.before.before.before.before.before.before.before.list_edges.new.1.1.1.1 in
+told : (c : tie.In-Done) → let s = c.before.before.before.before.before.before.before.before.before.before.before.before in
+    let l = c.list_edges.new.1.1.1.1 in
     Printable s.args.w s.args.h s.args.limit s.args.map.now s.args.vertical.now s.args.horizontal.now s.requires.0 s.requires.1 s.requires.2
-    c.before.m.given.0.0 c.before.m.given.0.1.0 l.0 l.1.0
+    c.in-Done.m c.in-Done.n l.0 l.1.0
 told c =
     let p = c.requires in
     printable _ _ _ _ _ _ p.0 p.1 p.2 _ _ _ _
@@ -21,7 +21,7 @@ cast_list_edges c = let s = c.before.before.before.before in omega (arith, limit
 
 put_listing_requires : tie.Need-put_listing-requires
 put_listing_requires c κs =
-    let t = told c.before.before.before in (
+    let t = told c.before in (
       t.first,
       t.second,
       omega (
@@ -40,7 +40,7 @@ returns c =
     c.list_edges.ensures c.in-Refused.is)
 
 returns-2 : tie.Need-returns-in-Done
-returns-2 c = starts_as (told c.before.before.before.before.before.before).text c.put_listing.ensures
+returns-2 c = starts_as (told c.before.before.before.before).text c.put_listing.ensures
 
 pub print_lists_spec : {M : Type 1} → statement M
 print_lists_spec =

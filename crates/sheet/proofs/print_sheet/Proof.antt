@@ -12,8 +12,8 @@ use Rattle.sheet.proofs.print_sheet.Statement.{statement}
 use Rattle.sheet.proofs.print_sheet.Tie as tie
 
 -- what the five lines say
-told : (c : tie.In-Read) → let g = c.before.w.given.0 in
-    Whole c.before.before.before.before.before.before.args.input.now g.0 g.1.0 g.1.1.0 g.1.1.1.0 g.1.1.1.1.0 g.1.1.1.1.1.0
+told : (c : tie.In-Read) → let g = c.w-1.given.0 in
+    Whole c.args.input.now g.0 g.1.0 g.1.1.0 g.1.1.1.0 g.1.1.1.1.0 g.1.1.1.1.1.0
 told c = whole_sheet_lem _ _ _ _ _ _ _ (sym (answer_is _ _ c.read.ensures) ∙ c.in-Read.is)
 
 -- the digits end among the first 4,096 bytes
@@ -28,10 +28,10 @@ put_refusal_requires c κs =
 sub_print_digits : tie.Need-slice_bounds-print_digits-count
 sub_print_digits c = (told c).ordered
 
-part_print_digits_start : tie.Need-slice-bounds-print-digits-start
+part_print_digits_start : tie.Need-slice_bounds-print_digits-start
 part_print_digits_start c = (told c).ordered
 
-part_print_digits_end : tie.Need-slice-bounds-print-digits-end
+part_print_digits_end : tie.Need-slice_bounds-print_digits-end
 part_print_digits_end c = (told c).inside
 
 print_digits_requires : tie.Need-print_digits-requires

@@ -9,8 +9,8 @@ use Rattle.sheet.proofs.print_tree.Statement.{statement}
 use Rattle.sheet.proofs.print_tree.Tie as tie
 
 -- where the digits were taken: the map is walked as they say
-met : (c : tie.In-Done) → let a = c.before.before.before.before.before.before.before.before.before.before.args in
-    Met (a.w / 4) (a.h / 4) a.digits.now c.before.before.before.before.before.take_picture.new.1.1.1.0 c.before.next.given.0.0
+met : (c : tie.In-Done) → let a = c.args in
+    Met (a.w / 4) (a.h / 4) a.digits.now c.take_picture.new.1.1.1.0 c.in-Done.next
 met c =
     let a = c.args in
     subst (Pictured (a.w / 4) (a.h / 4) a.digits.now c.take_picture.new.1.1.1.0)
@@ -40,7 +40,7 @@ print_edges_requires c κs =
 
 returns-2 : tie.Need-returns-in-Refused
 returns-2 c =
-    let s = c.before.before.before.before.before.before.before.before.before.before.before.before.before.before in
+    let s = c.before.before.before.before.before.before.before.before.before.before.before.before in
     let t = c.take_picture in
     starts_as
     (walk_no _ _ _ _ s.requires.0 s.requires.1 _

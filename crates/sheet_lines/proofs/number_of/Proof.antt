@@ -9,7 +9,7 @@ use Rattle.sheet_lines.proofs.number_of.Statement.{statement}
 use Rattle.sheet_lines.proofs.number_of.Tie as tie
 
 -- where the line begins with the key
-keyed : (c : tie.Else-not-starts_with) → let a = c.before.before.before.before.args in starts_with a.key.now a.line.now ≡ true
+keyed : (c : tie.Else-not-starts_with) → let a = c.args in starts_with a.key.now a.line.now ≡ true
 keyed c = sym c.starts_with.ensures ∙ c.if-not-starts_with.false
 
 returns : tie.Need-returns-then-not-starts_with
@@ -18,7 +18,7 @@ returns c = number_no_key _ _ (sym c.starts_with.ensures ∙ c.if-not-starts_wit
 sub_digits : tie.Need-slice_bounds-digits-count
 sub_digits c = key_fits _ _ (keyed c)
 
-part_digits_start : tie.Need-slice-bounds-digits-start
+part_digits_start : tie.Need-slice_bounds-digits-start
 part_digits_start c = key_fits _ _ (keyed c)
 
 returns-2 : tie.Need-returns-then-not-is_number

@@ -9,7 +9,7 @@ use Rattle.sheet_lines.proofs.Forms.{key_fits, splits_no_key, splits_is, splits_
 use Rattle.sheet_lines.proofs.splits_of.Statement.{statement}
 use Rattle.sheet_lines.proofs.splits_of.Tie as tie
 
-keyed : (c : tie.Else-not-starts_with) → starts_with splits_key c.before.before.before.before.args.line.now ≡ true
+keyed : (c : tie.Else-not-starts_with) → starts_with splits_key c.args.line.now ≡ true
 keyed c = sym c.starts_with.ensures ∙ c.if-not-starts_with.false
 
 returns : tie.Need-returns-then-not-starts_with
@@ -18,7 +18,7 @@ returns c = splits_no_key _ (sym c.starts_with.ensures ∙ c.if-not-starts_with.
 sub_all_between : tie.Need-slice_bounds-all_between-count
 sub_all_between c = key_fits splits_key _ (keyed c)
 
-part_all_between_start : tie.Need-slice-bounds-all-between-start
+part_all_between_start : tie.Need-slice_bounds-all_between-start
 part_all_between_start c = key_fits splits_key _ (keyed c)
 
 returns-2 : tie.Need-returns-then-all_between

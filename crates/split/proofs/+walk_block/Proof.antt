@@ -58,7 +58,7 @@ calls t = (
 abbrev Inside : ℕ → Type 0
 Inside t = walk-block-lts.Else-w-x (calls t) (walk_block_at t) walk-block.Post walk_block_Inv_loop walk_block_μ_loop
 
-inside : (t : ℕ) (e : Inside t) → let a = e.before.before.before.before.before.args in (a.x.0 < a.w) × (a.y.0 < a.h)
+inside : (t : ℕ) (e : Inside t) → let a = e.args in (a.x.0 < a.w) × (a.y.0 < a.h)
 inside t e = started _ _ _ _ e.if-w-x.left
 
 -- a part is about to be walked
@@ -67,9 +67,9 @@ Next t = walk-block-lts.After-part_at-place (calls t) (walk_block_at t) walk-blo
 
 -- it is a block of its own, and there is room for its leaves
 part_asks : (t : ℕ) (c : Next t) →
-    let a = c.before.before.before.before.before.before.before.before.before.before.before.args in
-    let p = c.before.before.loop in
-    Block a.w a.h c.part_at.result.x.0 c.part_at.result.y.0 (a.side / 2) (a.level + 1)
+    let a = c.args in
+    let p = c.loop-part in
+    Block a.w a.h c.part_at-place.result.x.0 c.part_at-place.result.y.0 (a.side / 2) (a.level + 1)
     × (3 * (p.count + a.side / 2 / 4 * (a.side / 2 / 4)) ≤ length p.out)
 part_asks t c =
     let v = c.loop-part.invariant in
@@ -82,11 +82,11 @@ abbrev Met : ℕ → Type 0
 Met t = walk-block-lts.Joined-level-eq2 (calls t) (walk_block_at t) walk-block.Post walk_block_Inv_loop walk_block_μ_loop
 
 part_walked : (t : ℕ) (j : Met t) →
-    let a = j.before.before.before.before.before.before.before.before.before.before.before.before.args in
-    let p = j.before.before.before.loop in
-    let q = j.before.part_at.result in
-    (length j.if4.out ≡ length p.out)
-    × Stored (walk a.bytes.now (a.w / 4) (a.h / 4) (4 - (a.level + 1)) (q.x.0 / 4) (q.y.0 / 4)) p.out p.count j.if4.out j.if4.walked
+    let a = j.args in
+    let p = j.loop-part in
+    let q = j.part_at-place.result in
+    (length j.if-level-eq2.out ≡ length p.out)
+    × Stored (walk a.bytes.now (a.w / 4) (a.h / 4) (4 - (a.level + 1)) (q.x.0 / 4) (q.y.0 / 4)) p.out p.count j.if-level-eq2.out j.if-level-eq2.walked
 part_walked t j =
     ⊎_elim
     (λ u. rw (u.5, u.6) (u.2.kept.1.1.1.1.1.0, rw u.0.taken u.2.ensures))

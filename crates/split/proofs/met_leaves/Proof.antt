@@ -15,7 +15,7 @@ use Rattle.split.proofs.Stores.{stored_as}
 use Rattle.split.proofs.met_leaves.Statement.{statement}
 use Rattle.split.proofs.met_leaves.Tie as tie
 
-size_told : (c : tie.Else-not-size_ok) → Sized c.before.before.before.before.args.w c.before.before.before.before.args.h
+size_told : (c : tie.Else-not-size_ok) → Sized c.args.w c.args.h
 size_told c = sized _ _ (sym c.size_ok.ensures ∙ c.if-not-size_ok.false)
 
 returns : tie.Need-returns-then-not-size_ok
@@ -42,8 +42,8 @@ returns-3 c =
 
 module _ (c : tie.Else-root_count-i) where
   -- a root has the number, where all tests passed
-  in_picture : let a = c.before.before.before.before.before.before.before.before.args in a.i < root_count a.w a.h
-  in_picture = omega (arith, c.if3.false, c.before.root_count.ensures.0)
+  in_picture : let a = c.args in a.i < root_count a.w a.h
+  in_picture = omega (arith, c.if-root_count-i.false, c.root_count.ensures.0)
 
 walk_root_requires : tie.Need-walk_root-requires
 walk_root_requires c κs =

@@ -77,7 +77,7 @@ same_length_2 c = c.put_unit.auto.1.1.1.1.0 ∙ c.loop-part.invariant.1
 
 returns-5 : tie.Need-returns-in-Refused invariant-loop decreases-loop
 returns-5 c =
-    let u = c.before.before.before.before.before in
+    let u = c.before.before.before in
     let m = u.before.before in
     let v = m.loop-part.invariant in
     part_refused v.2 v.3 _ _ m.part_at-place.ensures.0 m.part_at-place.ensures.1 _ _ (u.put_unit.ensures _) _ m.loop-part-test.true c.in-Refused.is
@@ -85,7 +85,7 @@ returns-5 c =
 -- a unit more
 loop_again : tie.Need-loop-part-preserved invariant-loop decreases-loop
 loop_again c =
-    let u = c.before.before.before.before.before in
+    let u = c.before.before.before in
     let m = u.before.before in
     let v = m.loop-part.invariant in (
       within _ m.loop-part-test.true,

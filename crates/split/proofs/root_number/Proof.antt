@@ -22,15 +22,15 @@ module _ (c : tie.After-root_ok) where
   abbrev ok : Bool
   ok = size_ok s.args.w s.args.h && root_ok s.args.w s.args.h s.args.x.0 s.args.y.0
 
-  tested : ok ≡ (c.before.Size-ok.result && c.root_ok.result)
-  tested = ap₂ ◌&&◌ (sym c.before.Size-ok.ensures) (sym c.root_ok.ensures)
+  tested : ok ≡ (c.size_ok.result && c.root_ok.result)
+  tested = ap₂ ◌&&◌ (sym c.size_ok.ensures) (sym c.root_ok.ensures)
 
 module _ (c : tie.After-roots_along) where
   abbrev t : tie.After-root_ok
   t = c.before.before
 
   passed : ok t ≡ true
-  passed = tested t ∙ c.before.if1.true
+  passed = tested t ∙ c.if-size_ok-root_ok.true
 
   number : let a = (s t).args in a.y.0 / 64 * c.roots_along.result + a.x.0 / 64 ≤ 4096
   number =

@@ -29,7 +29,7 @@ walk_root_requires c κs =
 
 returns : tie.Need-returns-in-Refused invariant-loop decreases-loop
 returns c =
-    let a = c.before.before.before.before.before.before.before.before.before.before in
+    let a = c.before.before.before.before.before.before.before.before in
     let i = c.loop-i.i in
     let l : i < roots (a.args.w / 4) (a.args.h / 4) = omega (
       arith,

@@ -12,11 +12,11 @@ module _ (c : tie.After-roots_along-across) where
   abbrev s : tie.Start
   s = c.before.before.before
 
-  column : 64 * (s.args.i % c.roots_along.result) < s.args.w
-  column = subst (λ (m : ℕ). 64 * (s.args.i % m) < s.args.w) (sym c.roots_along.ensures) (root_column s.pre.0 s.args.i s.pre.2)
+  column : 64 * (s.args.i % c.roots_along-across.result) < s.args.w
+  column = subst (λ (m : ℕ). 64 * (s.args.i % m) < s.args.w) (sym c.roots_along-across.ensures) (root_column s.pre.0 s.args.i s.pre.2)
 
-  row : 64 * (s.args.i / c.roots_along.result) < s.args.h
-  row = subst (λ (m : ℕ). 64 * (s.args.i / m) < s.args.h) (sym c.roots_along.ensures) (root_row s.pre.0 s.args.i s.pre.2)
+  row : 64 * (s.args.i / c.roots_along-across.result) < s.args.h
+  row = subst (λ (m : ℕ). 64 * (s.args.i / m) < s.args.h) (sym c.roots_along-across.ensures) (root_row s.pre.0 s.args.i s.pre.2)
 
 walk_block_requires : tie.Need-walk_block-requires
 walk_block_requires c κs =

@@ -18,7 +18,7 @@ returns c =
 returns-2 : tie.Need-returns-in-Colour
 unfolding entries_in
 returns-2 c =
-    let s = c.before.before.before.before in
+    let s = c.before.before.before in
     let a = s.args in
     let u = back w8 a.u_offset s.ranges.u_offset in
     let v = back w8 a.v_offset s.ranges.v_offset in

@@ -12,7 +12,7 @@ use Rattle.strength.proofs.held_qp.Tie as tie
 at : (s : tie.Start) → to_z w8 (of_z w8 s.args.qp) ≡ s.args.qp
 at s = back w8 _ s.ranges.qp
 
-within : (c : tie.Else-qp-gt51) → Within 51 c.before.before.args.qp
+within : (c : tie.Else-qp-gt51) → Within 51 c.args.qp
 within c = held_within 51 _ (rw (at c.before.before) at c.if-qp-lt0.false) (rw (at c.before.before) at c.if-qp-gt51.false)
 
 cast_result : tie.Need-overflow_cast-result

@@ -12,7 +12,7 @@ use Rattle.strength.proofs.mapped.Statement.{statement}
 use Rattle.strength.proofs.mapped.Tie as tie
 
 -- the entry at the place that was found
-at : (c : tie.After-index_of-i) → let a = c.before.args in get_or a.table.now c.index_of.result (pos 0) ≡ mapped_z a.table.now a.offset a.qp
+at : (c : tie.After-index_of-i) → let a = c.args in get_or a.table.now c.index_of-i.result (pos 0) ≡ mapped_z a.table.now a.offset a.qp
 unfolding mapped_z
 at c =
     let a = c.args in

@@ -18,22 +18,22 @@ loop_holds : tie.Need-loop-qp-init invariant-loop decreases-loop
 loop_holds c = (omega arith, rowed_none _ _ _ _)
 
 -- the QP that stands there
-small : (c : tie.In-loop-qp invariant-loop decreases-loop) → let s = c.before.before in get_or s.args.qps.now c.before.loop.qp 0 ≤ 51
+small : (c : tie.In-loop-qp invariant-loop decreases-loop) → let s = c.before.before in get_or s.args.qps.now c.loop-qp.qp 0 ≤ 51
 small c = c.requires.2 c.loop-qp.qp
 
 cast_list : tie.Need-overflow_cast-list invariant-loop decreases-loop
-cast_list c = omega (arith, small c.before)
+cast_list c = omega (arith, small c.before.before)
 
 add_list : tie.Need-overflow_add-list invariant-loop decreases-loop
-add_list c = omega (arith, small c.before)
+add_list c = omega (arith, small c.before.before)
 
 slice_read_list : tie.Need-bounds-list-from invariant-loop decreases-loop
-slice_read_list c = omega (arith, small c.before.before, c.loop-qp.invariant.1.long)
+slice_read_list c = omega (arith, small c.before.before.before, c.loop-qp.invariant.1.long)
 
 loop_again : tie.Need-loop-qp-preserved invariant-loop decreases-loop
 loop_again c =
     let h = c.loop-qp in
-    (search rules, rowed_more _ _ _ _ _ h.qp _ (omega arith) (h.invariant.1.low _ (omega (arith, small c.before.before))) h.invariant.1)
+    (search rules, rowed_more _ _ _ _ _ h.qp _ (omega arith) (h.invariant.1.low _ (omega (arith, small c.before.before.before))) h.invariant.1)
 
 same_length : tie.Need-shape_of-list invariant-loop decreases-loop
 same_length c = c.loop-qp.invariant.1.long

@@ -11,7 +11,7 @@ use Rattle.unit_edits.proofs.set_flag.Statement.{statement}
 use Rattle.unit_edits.proofs.set_flag.Tie as tie
 
 -- where the checks found nothing
-good : (c : tie.In-Done) → let a = c.before.before.before.before.before.args in
+good : (c : tie.In-Done) → let a = c.args in
     UnitAccepted a.w a.h a.words.now a.motion.now a.refs.now a.rows.now a.x.0 a.y.0
 good c = unit_accepted _ _ _ _ _ _ _ _ (sym c.checked_unit.ensures ∙ c.in-Done.is)
 

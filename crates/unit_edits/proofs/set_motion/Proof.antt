@@ -8,7 +8,7 @@ use Rattle.unit_edits.proofs.set_motion.Statement.{statement}
 use Rattle.unit_edits.proofs.set_motion.Tie as tie
 
 -- where the checks found nothing
-good : (c : tie.In-Done) → let a = c.before.before.before.before.before.args in
+good : (c : tie.In-Done) → let a = c.args in
     UnitAccepted a.w a.h a.words.now a.motion.now a.refs.now a.rows.now a.x.0 a.y.0
 good c = unit_accepted _ _ _ _ _ _ _ _ (sym c.checked_unit.ensures ∙ c.in-Done.is)
 
@@ -28,7 +28,7 @@ put_edges_requires : tie.Need-put_edges-requires
 put_edges_requires c κs =
     let referred = c.before.before.before.before in
     let moved = referred.before.before.before in
-    let g = good moved.before.before.before.before in
+    let g = good moved.before.before in
     (lent_moved g.maps.lent _ _ _ _ moved.put_motion.ensures referred.put_refs.ensures, g.unit, g.maps.rows_long)
 
 returns : tie.Need-returns-in-Refused
@@ -39,7 +39,7 @@ returns-2 c =
     let put = c.before.before in
     let referred = put.before.before.before.before.before in
     let moved = referred.before.before.before in
-    let told = moved.before.before.before.before in
+    let told = moved.before.before.before in
     motion_done _ _ told.checked_unit.ensures _ _ _ told.in-Done.is
     moved.put_motion.ensures referred.put_refs.ensures put.put_edges.ensures
 

@@ -27,13 +27,13 @@ one_start c = c.before.before.before.before
 -- its row lies in the maps
 module _ (c : tie.Then-n-eq1 invariant-loop decreases-loop) where
   one_in : (l : ℕ) → let a = (one_start c).args in (a.y + a.n) * a.columns ≤ l → a.y * a.columns + a.columns ≤ l
-  one_in l h = let a = (one_start c).args in row_below a.y a.columns (a.y + a.n) l (omega (arith, c.if1.true)) h
+  one_in l h = let a = (one_start c).args in row_below a.y a.columns (a.y + a.n) l (omega (arith, c.if-n-eq1.true)) h
 
   one_words : let a = (one_start c).args in a.y * a.columns + a.columns ≤ length a.words.now
   one_words = one_in _ (one_start c).requires.in_words
 
   one_right : (one_start c).args.x + 1 ≤ (one_start c).args.columns
-  one_right = omega (arith, (one_start c).requires.right, c.if1.true)
+  one_right = omega (arith, (one_start c).requires.right, c.if-n-eq1.true)
 
 tell_row_requires : tie.Need-tell_row-requires invariant-loop decreases-loop
 tell_row_requires c κs =
@@ -63,10 +63,10 @@ loop_holds c = (omega arith, rows_none _ _ _ _ _ _ _, rows_none _ _ _ _ _ _ _, r
 
 -- in a turn: the row lies in the maps
 module _ (c : tie.In-loop-r invariant-loop decreases-loop) where
-  row_in_lem : (l : ℕ) → let a = (start c).args in (a.y + a.n) * a.columns ≤ l → (a.y + c.before.loop.r) * a.columns + a.columns ≤ l
-  row_in_lem l h = let a = (start c).args in row_below (a.y + c.before.loop.r) a.columns (a.y + a.n) l (omega (arith, c.loop_test.true)) h
+  row_in_lem : (l : ℕ) → let a = (start c).args in (a.y + a.n) * a.columns ≤ l → (a.y + c.loop-r.r) * a.columns + a.columns ≤ l
+  row_in_lem l h = let a = (start c).args in row_below (a.y + c.loop-r.r) a.columns (a.y + a.n) l (omega (arith, c.loop-r-test.true)) h
 
-  row_words : let a = (start c).args in (a.y + c.before.loop.r) * a.columns + a.columns ≤ length a.words.now
+  row_words : let a = (start c).args in (a.y + c.loop-r.r) * a.columns + a.columns ≤ length a.words.now
   row_words = row_in_lem _ (start c).requires.in_words
 
 tell_row_requires_2 : tie.Need-tell_row-requires-in-loop-r invariant-loop decreases-loop

@@ -11,7 +11,7 @@ returns : tie.Need-returns-then-not-lies
 returns c = told_none _ _ _ _ _ _ _ _ _ _ (sym c.lies.ensures ∙ c.if-not-lies.true)
 
 -- the block lies in the maps
-there : (c : tie.Else-not-lies) → let a = c.before.before.before.before.before.args in Inside a.columns a.x.0 a.y.0 a.n a.words.now a.modes.now a.keep.now
+there : (c : tie.Else-not-lies) → let a = c.args in Inside a.columns a.x.0 a.y.0 a.n a.words.now a.modes.now a.keep.now
 there c = inside _ _ _ _ _ _ _ (sym c.lies.ensures ∙ c.if-not-lies.false)
 
 returns-2 : tie.Need-returns

@@ -18,14 +18,14 @@ use Rattle.pack.proofs.Writing.{few_of}
 use Rattle.unpack.proofs.get_map.Statement.{statement}
 use Rattle.unpack.proofs.get_map.Tie as tie
 
-size_told : (c : tie.Else-not-size_ok) → size_ok c.before.before.before.before.args.w c.before.before.before.before.args.h ≡ true
+size_told : (c : tie.Else-not-size_ok) → size_ok c.args.w c.args.h ≡ true
 size_told c = sym c.size_ok.ensures ∙ c.if-not-size_ok.false
 
-roots_are : (c : tie.After-root_count) → c.root_count.result ≡ root_count c.before.before.before.before.before.args.w c.before.before.before.before.before.args.h
+roots_are : (c : tie.After-root_count) → c.root_count.result ≡ root_count c.args.w c.args.h
 roots_are c = roots_told _ _ _ (size_told c.before) c.root_count.ensures
 
-mapped : (c : tie.Else-map-root_count) → Mapped c.before.before.before.before.before.before.args.w c.before.before.before.before.before.before.args.h
-    (length c.before.before.before.before.before.before.args.map.now)
+mapped : (c : tie.Else-map-root_count) → Mapped c.args.w c.args.h
+    (length c.args.map.now)
 mapped c = record { size = size_told c.before.before; bytes = c.if-map-root_count.false ∙ ap (λ (n : ℕ). 1024 * n) (roots_are c.before) }
 
 returns : tie.Need-returns-then-not-size_ok

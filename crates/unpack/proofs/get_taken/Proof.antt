@@ -39,11 +39,11 @@ told c =
     ∙ ap (λ (ds : List ℕ). let d = upto (c.args.w / 4) (c.args.h / 4) ds
     (roots (c.args.w / 4) (c.args.h / 4)) in counted (length d.marks) d.walk.answer) (same c.before.before.before)
 
-taken : (c : tie.In-Done-2) → ((get-call.descent (input c.before.before.before.before.before)).walk.answer ≡ Done)
-    × (c.n.given.0.0 ≡ get-call.count (input c.before.before.before.before.before))
-taken c = counted_done _ _ (get-call.descent (input c.before.before.before.before.before)).walk.answer (sym c.in-Done.is ∙ told c.before.before)
+taken : (c : tie.In-Done-2) → ((get-call.descent (input c.before.before.before.before)).walk.answer ≡ Done)
+    × (c.in-Done.n ≡ get-call.count (input c.before.before.before.before))
+taken c = counted_done _ _ (get-call.descent (input c.before.before.before.before)).walk.answer (sym c.in-Done.is ∙ told c.before)
 
-few : (c : tie.In-Done-2) → c.n.given.0.0 ≤ 348160
+few : (c : tie.In-Done-2) → c.in-Done.n ≤ 348160
 unfolding blocks_in
 few c =
     let a = c.args in
@@ -58,15 +58,15 @@ few c =
     )
 
 -- the fill bits, as the code tests them
-tested : (c : tie.After-zeros_ok) → c.zeros_ok.result ≡ fill_ok c.before.before.before.before.before.before.before.args.src.now
-    c.before.before.before.before.before.before.before.args.at (get-call.count (input c.before.before.before.before.before.before.before))
+tested : (c : tie.After-zeros_ok) → c.zeros_ok.result ≡ fill_ok c.args.src.now
+    c.args.at (get-call.count (input c.before.before.before.before.before))
 tested c =
     let k = (taken c.before.before).1 in
     c.zeros_ok.ensures ∙ ap₂ (λ (p n : ℕ). zeros_ok c.args.src.now (p + n) (p + (n + 7) / 8 * 8))
     c.requires.1.first k
 
 returns : tie.Need-returns-then-not-zeros_ok
-returns c = get_unfilled (input c.before.before.before.before.before.before.before.before) c.requires.0
+returns c = get_unfilled (input c.before.before.before.before.before.before) c.requires.0
     (taken c.before.before.before).0 (sym (tested c.before) ∙ c.if-not-zeros_ok.true)
 
 fill_map_requires : tie.Need-fill_map-requires
@@ -77,24 +77,24 @@ fill_map_requires c κs =
       s.inside,
       s.near,
       ap (λ (ds : List ℕ). (upto (a.w / 4) (a.h / 4) ds (roots (a.w / 4) (a.h / 4))).walk.answer)
-          (same c.before.before.before.before.before.before.before.before.before) ∙ (taken c.before.before.before.before).0,
+          (same c.before.before.before.before.before.before.before) ∙ (taken c.before.before.before.before).0,
     )
 
 returns-2 : tie.Need-returns-in-Refused
-returns-2 c = get_stopped (input c.before.before.before.before.before.before) c.requires.0 _
-    (counted_refused _ _ _ (sym c.in-Refused.is ∙ told c.before.before.before))
+returns-2 c = get_stopped (input c.before.before.before.before) c.requires.0 _
+    (counted_refused _ _ _ (sym c.in-Refused.is ∙ told c.before))
 
 returns-3 : tie.Need-returns-else-not-zeros_ok
 returns-3 c =
     let a = c.args in
-    get_done (input c.before.before.before.before.before.before.before.before.before.before.before.before)
+    get_done (input c.before.before.before.before.before.before.before.before.before.before)
     c.requires.0
     (taken c.before.before.before.before.before.before.before).0 _
     (sym (tested c.before.before.before.before.before) ∙ c.if-not-zeros_ok.false)
     (ap₂ (λ (k : ℕ) (m : List ℕ). record { number = 0; at = k; map = m })
     (ap₂ (λ (p n : ℕ). p + (n + 7) / 8 * 8) c.requires.1.first
     (taken c.before.before.before.before.before.before.before).1)
-    (c.fill_map.ensures ∙ ap (map_of (a.w / 4) (a.h / 4)) (same c.before.before.before.before.before.before.before.before.before.before.before.before)))
+    (c.fill_map.ensures ∙ ap (map_of (a.w / 4) (a.h / 4)) (same c.before.before.before.before.before.before.before.before.before.before)))
 
 pub get_taken_spec : {M : Type 1} → statement M
 get_taken_spec =

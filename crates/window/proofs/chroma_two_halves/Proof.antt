@@ -14,29 +14,29 @@ use Rattle.window.proofs.chroma_two_halves.Statement.{statement}
 use Rattle.window.proofs.chroma_two_halves.Tie as tie
 
 -- where the lines lie, in planes of at least m samples
-lie : (c : tie.After-wide-next) → (m : ℕ) → min (length c.before.before.before.before.args.u.now) (length c.before.before.before.before.args.v.now) ≤ m
-    → c.before.wide.result + (4 - 1) * c.wide2.result + 3 * 1 < m
+lie : (c : tie.After-wide-next) → (m : ℕ) → min (length c.args.u.now) (length c.args.v.now) ≤ m
+    → c.wide-at.result + (4 - 1) * c.wide-next.result + 3 * 1 < m
 lie c m h =
     let s = c.before.before.before.before in
     halves_lie s.args.p 4 _ m c.wide-next.result c.wide-at.result h s.requires c.wide-next.ensures.0 c.wide-at.ensures.0
 
-in_u_lem : (c : tie.After-wide-next) → c.before.wide.result + (4 - 1) * c.wide2.result + 3 * 1 < length c.before.before.before.before.args.u.now
+in_u_lem : (c : tie.After-wide-next) → c.wide-at.result + (4 - 1) * c.wide-next.result + 3 * 1 < length c.args.u.now
 in_u_lem c = lie c (length c.args.u.now) (omega arith)
 
-in_v_lem : (c : tie.After-wide-next) → c.before.wide.result + (4 - 1) * c.wide2.result + 3 * 1 < length c.before.before.before.before.args.v.now
+in_v_lem : (c : tie.After-wide-next) → c.wide-at.result + (4 - 1) * c.wide-next.result + 3 * 1 < length c.args.v.now
 in_v_lem c = lie c (length c.args.v.now) (omega arith)
 
 gather_requires : tie.Need-gather-tu-requires
-gather_requires c κs = (lit≤ tt, in_u_lem c.before.before)
+gather_requires c κs = (lit≤ tt, in_u_lem c.before)
 
 gather_requires_2 : tie.Need-gather-t-requires
-gather_requires_2 c κs = (lit≤ tt, in_v_lem c.before.before.before.before)
+gather_requires_2 c κs = (lit≤ tt, in_v_lem c.before.before)
 
 scatter_requires : tie.Need-scatter-requires
-scatter_requires c κs = (lit≤ tt, in_u_lem c.before.before.before.before.before.before.before.before)
+scatter_requires c κs = (lit≤ tt, in_u_lem c.before.before.before.before.before.before)
 
 scatter_requires_2 : tie.Need-scatter-requires-2
-scatter_requires_2 c κs = (lit≤ tt, in_v_lem c.before.before.before.before.before.before.before.before.before.before.before.before.before)
+scatter_requires_2 c κs = (lit≤ tt, in_v_lem c.before.before.before.before.before.before.before.before.before.before.before)
 
 same_length : tie.Need-shape_of-u
 same_length c = c.scatter.auto.0

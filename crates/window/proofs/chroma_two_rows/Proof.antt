@@ -15,33 +15,33 @@ use Rattle.window.proofs.chroma_two_rows.Statement.{statement}
 use Rattle.window.proofs.chroma_two_rows.Tie as tie
 
 -- where the rows lie, in planes of at least m samples
-lie : (c : tie.After-wide-step) → (m : ℕ) → min (length c.before.before.before.before.args.u.now) (length c.before.before.before.before.args.v.now) ≤ m
-    → (4 ≤ c.wide2.result) × (c.before.wide.result + 4 + 3 * c.wide2.result ≤ m)
+lie : (c : tie.After-wide-step) → (m : ℕ) → min (length c.args.u.now) (length c.args.v.now) ≤ m
+    → (4 ≤ c.wide-step.result) × (c.wide-at.result + 4 + 3 * c.wide-step.result ≤ m)
 lie c m h =
     let s = c.before.before.before.before in
     let f = c.wide-at in
     rows_lie s.args.p 4 _ m c.wide-step.result f.result (lit≤ tt) h s.requires c.wide-step.ensures.0 f.ensures.0
 
-in_u_lem : (c : tie.After-wide-step) → (4 ≤ c.wide2.result) × (c.before.wide.result + 4 + 3 * c.wide2.result ≤ length c.before.before.before.before.args.u.now)
+in_u_lem : (c : tie.After-wide-step) → (4 ≤ c.wide-step.result) × (c.wide-at.result + 4 + 3 * c.wide-step.result ≤ length c.args.u.now)
 in_u_lem c = lie c (length c.args.u.now) (omega arith)
 
-in_v_lem : (c : tie.After-wide-step) → (4 ≤ c.wide2.result) × (c.before.wide.result + 4 + 3 * c.wide2.result ≤ length c.before.before.before.before.args.v.now)
+in_v_lem : (c : tie.After-wide-step) → (4 ≤ c.wide-step.result) × (c.wide-at.result + 4 + 3 * c.wide-step.result ≤ length c.args.v.now)
 in_v_lem c = lie c (length c.args.v.now) (omega arith)
 
 copy_rows_requires : tie.Need-copy_rows-requires
-copy_rows_requires c κs = (lit≤ tt, search rules, (in_u_lem c.before.before.before.before).1)
+copy_rows_requires c κs = (lit≤ tt, search rules, (in_u_lem c.before.before.before).1)
 
 copy_rows_requires_2 : tie.Need-copy_rows-requires-2
-copy_rows_requires_2 c κs = (lit≤ tt, search rules, (in_v_lem c.before.before.before.before.before.before.before.before).1)
+copy_rows_requires_2 c κs = (lit≤ tt, search rules, (in_v_lem c.before.before.before.before.before.before).1)
 
 copy_rows_requires_3 : tie.Need-copy_rows-requires-3
 copy_rows_requires_3 c κs =
-    let l = in_u_lem c.before.before.before.before.before.before.before.before.before.before.before.before.before in
+    let l = in_u_lem c.before.before.before.before.before.before.before.before.before.before.before in
     (l.0, l.1, search rules)
 
 copy_rows_requires_4 : tie.Need-copy_rows-requires-4
 copy_rows_requires_4 c κs =
-    let l = in_v_lem c.before.before.before.before.before.before.before.before.before.before.before.before.before.before.before.before.before.before in
+    let l = in_v_lem c.before.before.before.before.before.before.before.before.before.before.before.before.before.before.before.before in
     (l.0, l.1, search rules)
 
 same_length : tie.Need-shape_of-u

@@ -6,7 +6,7 @@ use Rattle.window.proofs.Places.{last_small}
 use Rattle.window.proofs.last.Statement.{statement}
 use Rattle.window.proofs.last.Tie as tie
 
-few : (c : tie.After-wide) → (c.before.before.before.args.n - 1) * c.before.before.wide.result ≤ 30064771065
+few : (c : tie.After-wide) → (c.args.n - 1) * c.wide-next.result ≤ 30064771065
 few c = last_small c.args.n c.wide-next.result c.requires.1 c.wide-next.ensures.1
 
 returns : tie.Need-returns

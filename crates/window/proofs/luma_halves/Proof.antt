@@ -13,7 +13,7 @@ use Rattle.window.proofs.luma_halves.Statement.{statement}
 use Rattle.window.proofs.luma_halves.Tie as tie
 
 -- where the lines lie
-lie : (c : tie.After-wide-next) → c.before.wide.result + (4 - 1) * c.wide2.result + 3 * 1 < length c.before.before.before.args.y.now
+lie : (c : tie.After-wide-next) → c.wide-at.result + (4 - 1) * c.wide-next.result + 3 * 1 < length c.args.y.now
 lie c =
     let s = c.before.before.before in
     let l = length s.args.y.now in

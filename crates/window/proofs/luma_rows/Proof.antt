@@ -14,17 +14,17 @@ use Rattle.window.proofs.luma_rows.Statement.{statement}
 use Rattle.window.proofs.luma_rows.Tie as tie
 
 -- where the rows lie
-lie : (c : tie.After-wide-step) → (4 ≤ c.wide2.result) × (c.before.wide.result + 4 + 3 * c.wide2.result ≤ length c.before.before.before.args.y.now)
+lie : (c : tie.After-wide-step) → (4 ≤ c.wide-step.result) × (c.wide-at.result + 4 + 3 * c.wide-step.result ≤ length c.args.y.now)
 lie c =
     let s = c.before.before.before in
     let l = length s.args.y.now in
     rows_lie s.args.p 4 l l c.wide-step.result c.wide-at.result (lit≤ tt) (omega arith) s.requires c.wide-step.ensures.0 c.wide-at.ensures.0
 
 copy_rows_requires : tie.Need-copy_rows-requires
-copy_rows_requires c κs = (lit≤ tt, search rules, (lie c.before.before.before).1)
+copy_rows_requires c κs = (lit≤ tt, search rules, (lie c.before.before).1)
 
 copy_rows_requires_2 : tie.Need-copy_rows-requires-2
-copy_rows_requires_2 c κs = let l = lie c.before.before.before.before.before.before.before.before in (l.0, l.1, search rules)
+copy_rows_requires_2 c κs = let l = lie c.before.before.before.before.before.before.before in (l.0, l.1, search rules)
 
 same_length : tie.Need-shape_of-y
 same_length c = c.copy_rows-2.auto.0

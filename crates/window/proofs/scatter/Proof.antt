@@ -18,7 +18,7 @@ abbrev decreases-loop : tie.decreases-loop-k
 decreases-loop s₀ mask t first n step next at k₀ s k = n - k
 
 -- where a turn's line lies
-turn : (c : tie.In-loop-k invariant-loop decreases-loop) → let a = c.before.before.before.args in a.at + c.before.loop.k * a.next + 3 * a.step < length a.s.now
+turn : (c : tie.In-loop-k invariant-loop decreases-loop) → let a = c.args in a.at + c.loop-k.k * a.next + 3 * a.step < length a.s.now
 turn c =
     let s = c.before.before.before in
     line_inside s.args.step s.args.next s.args.at s.args.n c.loop-k.k s.args.s.now s.requires.1 c.loop-k-test.true

@@ -12,8 +12,8 @@ use Rattle.window.proofs.window_kept.Statement.{statement}
 use Rattle.window.proofs.window_kept.Tie as tie
 
 -- where the lines lie
-lie : (c : tie.After-wide-next) → let n = c.before.before.before.before.before.lines_in.result in
-    c.before.before.wide.result + (n - 1) * c.wide3.result + 3 * c.before.wide2.result < length c.before.before.before.before.before.before.before.args.s.now
+lie : (c : tie.After-wide-next) → let n = c.lines_in-n.result in
+    c.wide-at.result + (n - 1) * c.wide-next.result + 3 * c.wide-step.result < length c.args.s.now
 lie c =
     let n = c.lines_in-n.result in
     let l = c.last.ensures in
@@ -23,10 +23,10 @@ lie c =
     omega arith
 
 gather_requires : tie.Need-gather-t-requires
-gather_requires c κs = (omega (arith, c.lines_in-n.ensures.2), lie c.before)
+gather_requires c κs = (omega (arith, c.lines_in-n.ensures.2), lie c)
 
 scatter_requires : tie.Need-scatter-requires
-scatter_requires c κs = (omega (arith, c.lines_in-n.ensures.2), lie c.before.before.before.before.before)
+scatter_requires c κs = (omega (arith, c.lines_in-n.ensures.2), lie c.before.before.before.before)
 
 same_length : tie.Need-shape_of-s
 same_length c = c.scatter.auto.0

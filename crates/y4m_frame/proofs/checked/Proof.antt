@@ -9,7 +9,7 @@ use Rattle.y4m_frame.proofs.Answers.{at_size, at_length, at_frame}
 use Rattle.y4m_frame.proofs.checked.Statement.{statement}
 use Rattle.y4m_frame.proofs.checked.Tie as tie
 
-size : (c : tie.Else-not-size_ok) → Sized c.before.before.before.args.w c.before.before.before.args.h
+size : (c : tie.Else-not-size_ok) → Sized c.args.w c.args.h
 size c = sized _ _ (sym c.size_ok.ensures ∙ c.if-not-size_ok.false)
 
 returns : tie.Need-returns-then-not-size_ok

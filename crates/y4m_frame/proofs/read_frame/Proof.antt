@@ -8,7 +8,7 @@ use Rattle.y4m_frame.proofs.read_frame.Statement.{statement}
 use Rattle.y4m_frame.proofs.read_frame.Tie as tie
 
 -- where the checks found nothing
-found : (c : tie.In-Read-2) → let a = c.before.before.before.before.before.before.before.args in
+found : (c : tie.In-Read-2) → let a = c.args in
     Readable a.s.now a.at (length a.y.now) (length a.u.now) (length a.v.now) a.w a.h
 found c = let a = c.args in readable a.s.now a.at a.w a.h _ _ _ _ (sym c.checked.ensures ∙ c.in-Read.is)
 

@@ -20,7 +20,7 @@ lengths c w h y u v out n e = rw e
 luma : (c : tie.Start) → c.args.w * c.args.h ≤ 16777216
 luma c = area c.args.w c.args.h c.requires.0 c.requires.1
 
-chroma : (c : tie.After-chroma_length-chroma) → c.chroma_length.result ≤ 4194304
+chroma : (c : tie.After-chroma_length-chroma) → c.chroma_length-chroma.result ≤ 4194304
 chroma c = let s = c.before in small_chroma s.args.format s.args.w s.args.h _ s.requires.0 s.requires.1 c.chroma_length-chroma.ensures
 
 returns : tie.Need-returns

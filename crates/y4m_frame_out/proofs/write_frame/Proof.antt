@@ -9,7 +9,7 @@ use Rattle.y4m_frame_out.proofs.write_frame.Statement.{statement}
 use Rattle.y4m_frame_out.proofs.write_frame.Tie as tie
 
 -- where the checks found nothing
-found : (c : tie.In-Done) → let a = c.before.before.before.before.before.before.before.args in
+found : (c : tie.In-Done) → let a = c.args in
     Writable a.w a.h (length a.y.now) (length a.u.now) (length a.v.now) (length a.out.now)
 found c = let a = c.args in
     writable a.format a.w a.h a.y.now a.u.now a.v.now _ (sym c.checked_picture.ensures ∙ c.in-Done.is)

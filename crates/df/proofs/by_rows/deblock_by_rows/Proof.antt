@@ -40,14 +40,14 @@ returns : tie.Need-returns-in-Refused
 returns c = by_refused _ _ _ c.checked_by_rows.ensures c.in-Refused.is
 
 -- the checks found nothing
-fine : (c : tie.In_default) → check (of c.before.before.before.before.before.before.before.before.before.before.before.before.before.before.before) ≡ Done
+fine : (c : tie.In_default) → check (of c.before.before.before.before.before.before.before.before.before.before) ≡ Done
 unfolding of
 fine c = sym c.checked_by_rows.ensures ∙ c.in_default.is
 
 passes_by_requires : tie.Need-passes_by-n-requires
 unfolding of
 passes_by_requires c κs =
-    let i = of c.before.before.before.before.before.before.before.before.before.before.before.before.before.before.before.before.before.before.before.before.before.before in
+    let i = of c.before.before.before.before.before.before.before.before.before.before.before.before.before.before.before.before.before in
     let e = fine c.before.before.before.before.before.before.before in
     let f = picture_fine (checked i) e in
     let t = ap length c.entries_by-table.ensures ∙ entries_long _ _ _ _ _ _ in
@@ -57,7 +57,7 @@ returns-2 : tie.Need-returns
 unfolding of
 returns-2 c =
     let passed = c.before.before.before.before.before.before.before.before.before.before.before.before.before.before.before.before.before in
-    let i = of passed.before.before.before.before.before.before.before.before.before.before.before.before.before.before.before in
+    let i = of passed.before.before.before.before.before.before.before.before.before.before in
     let e = fine passed in
     deblock_done i.given (picture_fine (checked i) e) _ _ _ _ _ _ _
     c.entries_by-table.ensures

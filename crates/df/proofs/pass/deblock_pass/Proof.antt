@@ -70,10 +70,10 @@ root_edges_requires c κs = (
 
 -- the units of a root's edges lie in the maps
 knowns : (c : tie.After-plan_edges invariant-loop decreases-loop) → let turn = c.before.before.before.before.before in
-    let a = turn.before.before.before.before.before.before.before.before.before.before.before.before.before.args in
-    let l = turn.before.before.before.loop in
+    let a = turn.args in
+    let l = turn.loop-i in
     Knowns (pass_of a.pass) (a.w / 4) a.words.now (record { motion = a.motion.now; refs = a.refs.now; keep = a.keep.now }) a.rows.now
-    turn.root_edges.new.1.1.1.1.1.1.1.0 turn.root_edges.result l.places l.marks
+    turn.root_edges-n.new.1.1.1.1.1.1.1.0 turn.root_edges-n.result l.places l.marks
 knowns c =
     let turn = c.before.before.before.before.before in
     let s = turn.before.before.before.before.before.before.before.before.before.before.before.before.before in
@@ -91,14 +91,14 @@ knowns c =
 -- so its plan is the one by the maps
 plan_of : (c : tie.After-plan_edges invariant-loop decreases-loop) → let turn = c.before.before.before.before.before in
     let s = turn.before.before.before.before.before.before.before.before.before.before.before.before.before in
-    Planned (maps s) (pass_of s.args.pass) (s.args.w / 4) turn.root_edges.new.1.1.1.1.1.1.1.0 turn.root_edges.result
+    Planned (maps s) (pass_of s.args.pass) (s.args.w / 4) turn.root_edges-n.new.1.1.1.1.1.1.1.0 turn.root_edges-n.result
     c.plan_edges.new.1.1.1.1.1.1.1.1.1.0 c.plan_edges.new.1.1.1.1.1.1.1.1.1.1.0
 plan_of c = plan_known _ _ _ _ _ (knowns c) c.is_horizontal-horizontal.ensures c.plan_edges.ensures
 
 -- the picture, at a turn
-current : (c : tie.At-loop-i invariant-loop decreases-loop) → let a = c.before.before.before.before.before.before.before.before.before.before.args in
+current : (c : tie.At-loop-i invariant-loop decreases-loop) → let a = c.args in
     LentPlanes a.format (a.w / 4) (a.top + a.h / 4) (record { motion = a.motion.now; refs = a.refs.now; keep = a.keep.now }) a.entries.now
-    (record { y = c.loop.y; u = c.loop.u; v = c.loop.v }) a.words.now
+    (record { y = c.loop-i.y; u = c.loop-i.u; v = c.loop-i.v }) a.words.now
 current c = let s = c.before.before.before.before.before.before.before.before.before.before in
     roots_frame (maps s) _ (pass_of s.args.pass) _ _ _ _ _ c.loop-i.i _ _ _ c.loop-i.invariant.7 s.requires.0
 

@@ -17,15 +17,15 @@ module _ (c : tie.After-roots_along-across) where
   size : Sized s.args.w s.args.h
   size = sized _ _ s.pre.0.size
 
-  column : 64 * (s.args.i % c.roots_along.result) < s.args.w
-  column = subst (λ (m : ℕ). 64 * (s.args.i % m) < s.args.w) (sym c.roots_along.ensures) (root_column size s.args.i s.pre.1)
+  column : 64 * (s.args.i % c.roots_along-across.result) < s.args.w
+  column = subst (λ (m : ℕ). 64 * (s.args.i % m) < s.args.w) (sym c.roots_along-across.ensures) (root_column size s.args.i s.pre.1)
 
-  row : 64 * (s.args.i / c.roots_along.result) < s.args.h
-  row = subst (λ (m : ℕ). 64 * (s.args.i / m) < s.args.h) (sym c.roots_along.ensures) (root_row size s.args.i s.pre.1)
+  row : 64 * (s.args.i / c.roots_along-across.result) < s.args.h
+  row = subst (λ (m : ℕ). 64 * (s.args.i / m) < s.args.h) (sym c.roots_along-across.ensures) (root_row size s.args.i s.pre.1)
 
 returns : tie.Need-returns-in-Done
 returns c =
-    let d = c.before.before.before.before.before.before.before.before in
+    let d = c.before.before.before.before.before.before in
     let s = d.before.before.before in
     let k = c.is_horizontal in
     listed_root s.requires.0 s.args.i s.requires.1 k.result s.args.halved s.args.top s.requires.3 _ s.requires.2 _ _
@@ -33,7 +33,7 @@ returns c =
 
 returns-2 : tie.Need-returns-in-Refused
 returns-2 c =
-    let d = c.before.before.before.before.before.before.before in
+    let d = c.before.before.before.before.before.before in
     let s = d.before.before.before in
     let k = c.is_horizontal in
     absurd (list_met s.requires.0 s.args.i s.requires.1 k.result s.args.halved s.args.top s.requires.3 _ s.requires.2 _ _

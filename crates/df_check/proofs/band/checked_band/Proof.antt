@@ -14,13 +14,13 @@ use Rattle.df_check.specs.Checks.{Input, from_lengths}
 use Rattle.df_check.proofs.band.checked_band.Statement.{statement}
 use Rattle.df_check.proofs.band.checked_band.Tie as tie
 
-size : (c : tie.Else-not-size_ok) → let a = c.before.before.before.before.before.before.before.before.args in size_ok a.w a.h ≡ true
+size : (c : tie.Else-not-size_ok) → let a = c.args in size_ok a.w a.h ≡ true
 size c = sym c.size_ok.ensures ∙ c.if-not-size_ok.false
 
-position : (c : tie.Else-not-band_ok) → let a = c.before.before.before.before.before.before.before.before.before.before.args in band_ok a.next a.band a.h ≡ true
+position : (c : tie.Else-not-band_ok) → let a = c.args in band_ok a.next a.band a.h ≡ true
 position c = sym c.band_ok.ensures ∙ c.if-not-band_ok.false
 
-sizes : (c : tie.Else-not-band_ok) → let a = c.before.before.before.before.before.before.before.before.before.before.args in BandSize a.w a.h a.band
+sizes : (c : tie.Else-not-band_ok) → let a = c.args in BandSize a.w a.h a.band
 sizes c = band_size _ _ (sized _ _ (size c.before.before)) (position c)
 
 returns : tie.Need-returns-then-not-size_ok

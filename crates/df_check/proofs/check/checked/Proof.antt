@@ -10,7 +10,7 @@ use Rattle.df_check.specs.Checks.{check_of}
 use Rattle.df_check.proofs.check.checked.Statement.{statement}
 use Rattle.df_check.proofs.check.checked.Tie as tie
 
-size : (c : tie.Else-not-size_ok) → let a = c.before.before.before.before.before.before.before.before.args in size_ok a.w a.h ≡ true
+size : (c : tie.Else-not-size_ok) → let a = c.args in size_ok a.w a.h ≡ true
 size c = sym c.size_ok.ensures ∙ c.if-not-size_ok.false
 
 returns : tie.Need-returns-then-not-size_ok

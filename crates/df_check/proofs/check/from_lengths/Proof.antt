@@ -88,9 +88,9 @@ walk : (c : tie.After-check) → let s = c.before.before.before.before.before.be
     c.check.result ≡ (picture_walk (of s).splits (s.args.w / 4) (s.args.own / 4)).answer
 walk c = walked _ _ _ _ c.requires.1 (told c.before.before.before).splits c.check.ensures
 
-past3 : (c : tie.In_default) (r : Answer) → r ≡ rest3 c.before.before.before.before.before.before.before.before.before.before.before.before.before
-    → r ≡ asked c.before.before.before.before.before.before.before.before.before.before.before.before.before
-past3 c r p = past2 c.before.before.before r (on_done Refused _ _ _ r (walk c.before.before) c.in_default.is p)
+past3 : (c : tie.In_default) (r : Answer) → r ≡ rest3 c.before.before.before.before.before.before.before.before.before.before.before.before
+    → r ≡ asked c.before.before.before.before.before.before.before.before.before.before.before.before
+past3 c r p = past2 c.before.before r (on_done Refused _ _ _ r (walk c.before) c.in_default.is p)
 
 -- what is not judged lies in what is lent
 record Before (s : tie.Start) : Type 0 where
@@ -122,15 +122,15 @@ before s =
       few_colour = at_most s.args.settings.format _ _ small;
     }
 
-marks : (c : tie.After-keep_ok) → let s = c.before.before.before.before.before.before.before.before.before.before.before.before.before.before.before in
+marks : (c : tie.After-keep_ok) → let s = c.before.before.before.before.before.before.before.before.before.before.before.before.before.before in
     c.keep_ok.result ≡ keep_ok (drop (unit_count s.args.w s.args.before) (of s).keep)
-marks c = let s = c.before.before.before.before.before.before.before.before.before.before.before.before.before.before.before in
+marks c = let s = c.before.before.before.before.before.before.before.before.before.before.before.before.before.before in
     c.keep_ok.ensures ∙ ap keep_ok (whole_end (unit_count s.args.w s.args.before) (of s).keep)
 
 qps : (c : tie.After-qps_ok)
-    → let s = c.before.before.before.before.before.before.before.before.before.before.before.before.before.before.before.before.before.before in
+    → let s = c.before.before.before.before.before.before.before.before.before.before.before.before.before.before.before.before.before in
     c.qps_ok.result ≡ qps_ok (drop (unit_count s.args.w s.args.before) (of s).words)
-qps c = let s = c.before.before.before.before.before.before.before.before.before.before.before.before.before.before.before.before.before.before in
+qps c = let s = c.before.before.before.before.before.before.before.before.before.before.before.before.before.before.before.before.before in
     c.qps_ok.ensures ∙ ap qps_ok (whole_end (unit_count s.args.w s.args.before) (of s).words)
 
 planes : (c : tie.After-planes_ok) →
@@ -147,13 +147,13 @@ planes c =
     c.planes_ok.ensures ∙ (λ i. planes_ok (whole_end (luma_length s.args.w s.args.before) (of s).y i) (end (of s).u i) (end (of s).v i))
 
 past4 : (c : tie.Else-not-keep_ok) (r : Answer) → r ≡ rest4
-    c.before.before.before.before.before.before.before.before.before.before.before.before.before.before.before.before
-    → r ≡ asked c.before.before.before.before.before.before.before.before.before.before.before.before.before.before.before.before
+    c.before.before.before.before.before.before.before.before.before.before.before.before.before.before.before
+    → r ≡ asked c.before.before.before.before.before.before.before.before.before.before.before.before.before.before.before
 past4 c r p = past3 c.before.before.before r (goes_on _ _ _ _ r (marks c.before) c.if-not-keep_ok.false-raw p)
 
 past5 : (c : tie.Else-not-qps_ok) (r : Answer)
-    → r ≡ rest5 c.before.before.before.before.before.before.before.before.before.before.before.before.before.before.before.before.before.before.before
-    → r ≡ asked c.before.before.before.before.before.before.before.before.before.before.before.before.before.before.before.before.before.before.before
+    → r ≡ rest5 c.before.before.before.before.before.before.before.before.before.before.before.before.before.before.before.before.before.before
+    → r ≡ asked c.before.before.before.before.before.before.before.before.before.before.before.before.before.before.before.before.before.before
 past5 c r p = past4 c.before.before.before r (goes_on _ _ _ _ r (qps c.before) c.if-not-qps_ok.false-raw p)
 
 lengths_ok_requires : tie.Need-lengths_ok-requires
@@ -167,94 +167,94 @@ returns-2 : tie.Need-returns-then-not-settings_ok
 returns-2 c = past1 c.before.before _ (stops _ _ _ _ c.settings_ok.ensures c.if-not-settings_ok.true-raw)
 
 returns-3 : tie.Need-returns-in-Refused
-returns-3 c = past2 c.before.before.before.before _ (on_refusal Refused _ _ _ _ (walk c.before.before.before) c.in-Refused.is)
+returns-3 c = past2 c.before.before _ (on_refusal Refused _ _ _ _ (walk c.before) c.in-Refused.is)
 
 mul_units : tie.Need-overflow_mul-units
-mul_units c = omega (arith, (before c.before.before.before.before.before.before.before.before.before.before.before.before.before).few_units)
+mul_units c = omega (arith, (before c.before.before.before.before.before.before.before.before.before.before.before.before).few_units)
 
 sub_keep_ok : tie.Need-slice_bounds-keep_ok-count
 sub_keep_ok c = omega
-    (arith, (before c.before.before.before.before.before.before.before.before.before.before.before.before.before).units, (told c.before.before.before.before.before).keep)
+    (arith, (before c.before.before.before.before.before.before.before.before.before.before.before.before).units, (told c.before.before.before.before).keep)
 
-part_keep_ok_start : tie.Need-slice-bounds-keep-ok-start
+part_keep_ok_start : tie.Need-slice_bounds-keep_ok-start
 part_keep_ok_start c = omega (
   arith,
   (before
-      c.before.before.before.before.before.before.before.before.before.before.before.before.before).units,
-  (told c.before.before.before.before.before).keep,
+      c.before.before.before.before.before.before.before.before.before.before.before.before).units,
+  (told c.before.before.before.before).keep,
 )
 
 returns-4 : tie.Need-returns-then-not-keep_ok
 returns-4 c = past3 c.before.before.before _ (stops _ _ _ _ (marks c.before) c.if-not-keep_ok.true-raw)
 
 mul_qps_ok : tie.Need-offset_bounds-words-units
-mul_qps_ok c = omega (arith, (before c.before.before.before.before.before.before.before.before.before.before.before.before.before.before.before.before).few_units)
+mul_qps_ok c = omega (arith, (before c.before.before.before.before.before.before.before.before.before.before.before.before.before.before.before).few_units)
 
 sub_qps_ok : tie.Need-slice_bounds-qps_ok-count
 sub_qps_ok c = omega (
   arith,
-  (before c.before.before.before.before.before.before.before.before.before.before.before.before.before.before.before.before).units,
-  (told c.before.before.before.before.before.before.before.before).words,
+  (before c.before.before.before.before.before.before.before.before.before.before.before.before.before.before.before).units,
+  (told c.before.before.before.before.before.before.before).words,
 )
 
-part_qps_ok_start : tie.Need-slice-bounds-qps-ok-start
+part_qps_ok_start : tie.Need-slice_bounds-qps_ok-start
 part_qps_ok_start c =
     omega (
       arith,
-      (before c.before.before.before.before.before.before.before.before.before.before.before.before.before.before.before.before).units,
-      (told c.before.before.before.before.before.before.before.before).words,
+      (before c.before.before.before.before.before.before.before.before.before.before.before.before.before.before.before).units,
+      (told c.before.before.before.before.before.before.before).words,
     )
 
 returns-5 : tie.Need-returns-then-not-qps_ok
 returns-5 c = past4 c.before.before.before _ (stops _ _ _ _ (qps c.before) c.if-not-qps_ok.true-raw)
 
 mul_luma : tie.Need-overflow_mul-luma
-mul_luma c = omega (arith, (before c.before.before.before.before.before.before.before.before.before.before.before.before.before.before.before.before.before.before.before).few_luma)
+mul_luma c = omega (arith, (before c.before.before.before.before.before.before.before.before.before.before.before.before.before.before.before.before.before.before).few_luma)
 
 mul_in_format : tie.Need-overflow_mul-w
 mul_in_format c = omega
-    (arith, (before c.before.before.before.before.before.before.before.before.before.before.before.before.before.before.before.before.before.before.before).few_chroma)
+    (arith, (before c.before.before.before.before.before.before.before.before.before.before.before.before.before.before.before.before.before.before).few_chroma)
 
 mul_planes_ok : tie.Need-offset_bounds-y-luma
 mul_planes_ok c = omega
-    (arith, (before c.before.before.before.before.before.before.before.before.before.before.before.before.before.before.before.before.before.before.before.before).few_luma)
+    (arith, (before c.before.before.before.before.before.before.before.before.before.before.before.before.before.before.before.before.before.before.before).few_luma)
 
 sub_planes_ok : tie.Need-slice_bounds-planes_ok-count
 sub_planes_ok c = omega (
   arith,
-  (before c.before.before.before.before.before.before.before.before.before.before.before.before.before.before.before.before.before.before.before.before).luma,
-  (told c.before.before.before.before.before.before.before.before.before.before.before.before).y,
+  (before c.before.before.before.before.before.before.before.before.before.before.before.before.before.before.before.before.before.before.before).luma,
+  (told c.before.before.before.before.before.before.before.before.before.before.before).y,
 )
 
-part_planes_ok_start : tie.Need-slice-bounds-planes-ok-start
+part_planes_ok_start : tie.Need-slice_bounds-planes_ok-start
 part_planes_ok_start c = omega (
   arith,
   (before
-      c.before.before.before.before.before.before.before.before.before.before.before.before.before.before.before.before.before.before.before.before).luma,
-  (told c.before.before.before.before.before.before.before.before.before.before.before.before).y,
+      c.before.before.before.before.before.before.before.before.before.before.before.before.before.before.before.before.before.before.before).luma,
+  (told c.before.before.before.before.before.before.before.before.before.before.before).y,
 )
 
 mul_planes_ok_2 : tie.Need-offset_bounds-u-chroma
 mul_planes_ok_2 c = omega (
   arith,
   c.in_format-chroma.ensures,
-  (before c.before.before.before.before.before.before.before.before.before.before.before.before.before.before.before.before.before.before.before.before.before).few_colour,
+  (before c.before.before.before.before.before.before.before.before.before.before.before.before.before.before.before.before.before.before.before.before).few_colour,
 )
 
 sub_planes_ok_2 : tie.Need-slice_bounds-planes_ok-count-2
 sub_planes_ok_2 c = omega (
   arith,
   c.in_format-chroma.ensures,
-  (before c.before.before.before.before.before.before.before.before.before.before.before.before.before.before.before.before.before.before.before.before.before).chroma,
-  (told c.before.before.before.before.before.before.before.before.before.before.before.before.before).u,
+  (before c.before.before.before.before.before.before.before.before.before.before.before.before.before.before.before.before.before.before.before.before).chroma,
+  (told c.before.before.before.before.before.before.before.before.before.before.before.before).u,
 )
 
-part_planes_ok_start_2 : tie.Need-slice-bounds-planes-ok-start-2
+part_planes_ok_start_2 : tie.Need-slice_bounds-planes_ok-start-2
 part_planes_ok_start_2 c = omega (
   arith,
   c.in_format-chroma.ensures,
-  (before c.before.before.before.before.before.before.before.before.before.before.before.before.before.before.before.before.before.before.before.before.before).chroma,
-  (told c.before.before.before.before.before.before.before.before.before.before.before.before.before).u,
+  (before c.before.before.before.before.before.before.before.before.before.before.before.before.before.before.before.before.before.before.before.before).chroma,
+  (told c.before.before.before.before.before.before.before.before.before.before.before.before).u,
 )
 
 mul_planes_ok_3 : tie.Need-offset_bounds-v-chroma
@@ -266,16 +266,16 @@ sub_planes_ok_3 : tie.Need-slice_bounds-planes_ok-count-3
 sub_planes_ok_3 c = omega (
   arith,
   c.in_format-chroma.ensures,
-  (before c.before.before.before.before.before.before.before.before.before.before.before.before.before.before.before.before.before.before.before.before.before.before).chroma,
-  (told c.before.before.before.before.before.before.before.before.before.before.before.before.before.before).v,
+  (before c.before.before.before.before.before.before.before.before.before.before.before.before.before.before.before.before.before.before.before.before.before).chroma,
+  (told c.before.before.before.before.before.before.before.before.before.before.before.before.before).v,
 )
 
-part_planes_ok_start_3 : tie.Need-slice-bounds-planes-ok-start-3
+part_planes_ok_start_3 : tie.Need-slice_bounds-planes_ok-start-3
 part_planes_ok_start_3 c = omega (
   arith,
   c.in_format-chroma.ensures,
-  (before c.before.before.before.before.before.before.before.before.before.before.before.before.before.before.before.before.before.before.before.before.before.before).chroma,
-  (told c.before.before.before.before.before.before.before.before.before.before.before.before.before.before).v,
+  (before c.before.before.before.before.before.before.before.before.before.before.before.before.before.before.before.before.before.before.before.before.before).chroma,
+  (told c.before.before.before.before.before.before.before.before.before.before.before.before.before).v,
 )
 
 returns-6 : tie.Need-returns-then-not-planes_ok

@@ -20,10 +20,10 @@ module _ (c : tie.After-roots_along-2) where
   abbrev s : tie.Start
   s = c.before.before.before.before
 
-  same : c.before.roots_along.result * c.roots_along2.result ≡ root_count s.args.w s.args.own
-  same = ap₂ ◌*◌ c.before.roots_along.ensures c.roots_along2.ensures
+  same : c.roots_along.result * c.roots_along-2.result ≡ root_count s.args.w s.args.own
+  same = ap₂ ◌*◌ c.roots_along.ensures c.roots_along-2.ensures
 
-  few : c.before.roots_along.result * c.roots_along2.result ≤ 4096
+  few : c.roots_along.result * c.roots_along-2.result ≤ 4096
   few = omega (arith, same, few_roots s.args.w s.args.own s.pre.1.wide s.pre.1.high)
 
 mul_roots : tie.Need-overflow_mul-roots

@@ -16,11 +16,11 @@ use Rattle.driver_rules.proofs.Checks.{read_told, walk_answer}
 use Rattle.driver_check.proofs.check.checked_leaves.Statement.{statement}
 use Rattle.driver_check.proofs.check.checked_leaves.Tie as tie
 
-size : (c : tie.Else-not-size_ok) → size_ok c.before.before.before.before.before.before.before.args.w c.before.before.before.before.before.before.before.args.h ≡ true
+size : (c : tie.Else-not-size_ok) → size_ok c.args.w c.args.h ≡ true
 size c = sym c.size_ok.ensures ∙ c.if-not-size_ok.false
 
 -- the walk's answer
-walked : (c : tie.After-check) → let a = c.before.before.before.before.before.before.before.before.before.before.before.before.args in
+walked : (c : tie.After-check) → let a = c.args in
     c.check.result ≡ (picture_walk a.splits.now (a.w / 4) (a.h / 4)).answer
 walked c =
     let read = read_told _ _ _ _ _ _ _ (sym c.read_ok.ensures ∙ c.if-not-read_ok.false) in
@@ -46,7 +46,7 @@ returns-3 c =
 data-checked-requires : tie.Need-data_checked-requires
 data-checked-requires c κs =
     let read = read_told _ _ _ _ _ _ _ (sym c.read_ok.ensures ∙ c.if-not-read_ok.false) in
-    record { size = size c.before.before.before.before.before.before.before; long = read.splits_long; walked = sym (walked c.before.before) ∙ c.in-Done.is }
+    record { size = size c.before.before.before.before.before.before; long = read.splits_long; walked = sym (walked c.before) ∙ c.in-Done.is }
 
 returns-4 : tie.Need-returns-in-Refused
 unfolding check_of
@@ -54,7 +54,7 @@ returns-4 c =
     goes_on _ _ _ _ _ c.size_ok.ensures c.if-not-size_ok.false-raw
     (goes_on _ _ _ _ _ c.read_ok.ensures c.if-not-read_ok.false-raw
     (goes_on _ _ _ _ _ c.written_ok.ensures c.if-not-written_ok.false-raw
-    (on_refusal Refused _ c.check.result _ _ (walked c.before.before.before) c.in-Refused.is)))
+    (on_refusal Refused _ c.check.result _ _ (walked c.before) c.in-Refused.is)))
 
 returns-5 : tie.Need-returns-in-Done
 unfolding check_of
@@ -62,7 +62,7 @@ returns-5 c =
     goes_on _ _ _ _ _ c.size_ok.ensures c.if-not-size_ok.false-raw
     (goes_on _ _ _ _ _ c.read_ok.ensures c.if-not-read_ok.false-raw
     (goes_on _ _ _ _ _ c.written_ok.ensures c.if-not-written_ok.false-raw
-    (on_done Refused _ c.check.result _ _ (walked c.before.before.before) c.in-Done.is c.data_checked.ensures)))
+    (on_done Refused _ c.check.result _ _ (walked c.before.before) c.in-Done.is c.data_checked.ensures)))
 
 pub checked_leaves_spec : {M : Type 1} → statement M
 checked_leaves_spec =

@@ -11,8 +11,8 @@ use Rattle.driver_rules.proofs.Checks.{data_row, data_row_lem, records_long}
 use Rattle.driver_check.proofs.check.data_checked.Statement.{statement}
 use Rattle.driver_check.proofs.check.data_checked.Tie as tie
 
-row : (c : tie.After-past_picture-end) → let a = c.before.before.before.before.before.before.args in
-    data_row a.format a.leaves.now a.residual c.past_picture.result.at c.past_picture.result.k a.pred_y.now a.pred_u.now
+row : (c : tie.After-past_picture-end) → let a = c.args in
+    data_row a.format a.leaves.now a.residual c.past_picture-end.result.at c.past_picture-end.result.k a.pred_y.now a.pred_u.now
     a.pred_v.now ≡ data_check a.format a.leaves.now a.residual a.pred_y.now a.pred_u.now a.pred_v.now (leaves_of a.w a.h a.splits.now)
 row c =
     let a = c.args in
@@ -20,7 +20,7 @@ row c =
     a.pred_v.now (leaves_of a.w a.h a.splits.now) c.past_picture-end.ensures.0
 
 -- as many records as leaves
-long : (c : tie.Else-not-records_ok) → length c.before.before.before.before.before.before.before.before.args.leaves.now ≡ 4 * c.before.before.past_picture.result.k
+long : (c : tie.Else-not-records_ok) → length c.args.leaves.now ≡ 4 * c.past_picture-end.result.k
 long c = records_long _ _ _ _ _ (sym c.records_ok.ensures ∙ c.if-not-records_ok.false)
 
 returns : tie.Need-returns-then-not-records_ok

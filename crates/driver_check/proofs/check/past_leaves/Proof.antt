@@ -21,10 +21,10 @@ loop_holds c =
     let e : s.args.from.k + 0 ≡ s.args.from.k = omega arith in
     (omega arith, ap (walked_to s.args.from.at) e ∙ passed_none s.args.leaves.now s.args.list.now (walked_to s.args.from.at s.args.from.k), omega (arith, s.requires.2))
 
-in_list : (c : tie.In-loop-j invariant-loop decreases-loop) → 3 * c.before.loop.j + 2 < length c.before.before.before.before.args.list.now
+in_list : (c : tie.In-loop-j invariant-loop decreases-loop) → 3 * c.loop-j.j + 2 < length c.args.list.now
 in_list c = let s = c.before.before.before.before in omega (arith, s.requires.0.long, s.requires.0.few)
 
-small : (c : tie.In-loop-j invariant-loop decreases-loop) → c.before.before.before.before.args.from.k + c.before.loop.j ≤ 1048576
+small : (c : tie.In-loop-j invariant-loop decreases-loop) → c.args.from.k + c.loop-j.j ≤ 1048576
 small c = let s = c.before.before.before.before in omega (arith, s.requires.0.few, s.requires.1)
 
 leaf_end_requires : tie.Need-leaf_end-at-requires invariant-loop decreases-loop

@@ -29,10 +29,10 @@ size : (s : tie.Start invariant-loop decreases-loop) → Sized s.args.w s.args.h
 size s = sized _ _ s.requires.size
 
 -- the loop's count is that of the roots
-counted : (c : tie.After-roots_along-2 invariant-loop decreases-loop) → let a = (start c).args in c.before.roots_along.result * c.roots_along2.result ≡ root_count a.w a.h
+counted : (c : tie.After-roots_along-2 invariant-loop decreases-loop) → let a = (start c).args in c.roots_along.result * c.roots_along-2.result ≡ root_count a.w a.h
 counted c = (λ k. c.roots_along.ensures k * c.roots_along-2.ensures k)
 
-few : (c : tie.After-roots_along-2 invariant-loop decreases-loop) → c.before.roots_along.result * c.roots_along2.result ≤ 4096
+few : (c : tie.After-roots_along-2 invariant-loop decreases-loop) → c.roots_along.result * c.roots_along-2.result ≤ 4096
 few c =
     let s = start c in
     rw (counted c) (few_roots s.args.w s.args.h (size s).wide (size s).high)
@@ -43,9 +43,9 @@ loop_holds c = let s = start c in (omega arith, refl, passed_no_root s.args.leav
 -- ---- a turn: where its root's leaves are counted, and its start
 
 abbrev turn_at_lem : tie.In-Done-2 invariant-loop decreases-loop → tie.In-loop-i invariant-loop decreases-loop
-turn_at_lem c = c.before.before.before.before.before
+turn_at_lem c = c.before.before.before.before
 
-early : (c : tie.In-loop-i invariant-loop decreases-loop) → let a = (start c.before.before).args in c.before.loop.i < root_count a.w a.h
+early : (c : tie.In-loop-i invariant-loop decreases-loop) → let a = (start c.before.before).args in c.loop-i.i < root_count a.w a.h
 early c = rw (counted c.before.before) at c.loop-i-test.true
 
 past_leaves_requires : tie.Need-past_leaves-place-requires invariant-loop decreases-loop
@@ -82,7 +82,7 @@ loop_less c = omega (arith, (turn_at_lem c.before.before.before).loop-test.taken
 -- the walk was accepted, so no root is refused
 returns : tie.Need-returns-in_default invariant-loop decreases-loop
 returns c =
-    let turn = c.before.before.before.before.before in
+    let turn = c.before.before.before.before in
     let a = (start turn.before.before).pre in
     let l = turn.loop-i in
     absurd (root_met _ _ _ a.size a.long a.walked l.i (early turn) _ _ _ l.invariant.1 c.root_leaves.ensures _ c.in_default.is)

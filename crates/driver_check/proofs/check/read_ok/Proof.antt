@@ -8,7 +8,7 @@ use Rattle.driver_rules.specs.Call.{read_ok}
 use Rattle.driver_check.proofs.check.read_ok.Statement.{statement}
 use Rattle.driver_check.proofs.check.read_ok.Tie as tie
 
-few : (c : tie.After-roots_along-2) → c.before.roots_along.result * c.roots_along2.result ≤ 4096
+few : (c : tie.After-roots_along-2) → c.roots_along.result * c.roots_along-2.result ≤ 4096
 few c =
     let s = c.before.before in
     rw (c.roots_along.ensures, c.roots_along-2.ensures) (few_roots s.args.w s.args.h s.requires.wide s.requires.high)

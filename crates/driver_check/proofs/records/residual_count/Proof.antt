@@ -7,7 +7,7 @@ use Rattle.nbr.proofs.Sides.{scaled_le}
 use Rattle.driver_check.proofs.records.residual_count.Statement.{statement}
 use Rattle.driver_check.proofs.records.residual_count.Tie as tie
 
-few : (c : tie.After-in_component-n) → c.in_component.result * c.in_component.result ≤ 4096
+few : (c : tie.After-in_component-n) → c.in_component-n.result * c.in_component-n.result ≤ 4096
 few c =
     let s = c.before in
     rw c.in_component-n.ensures

@@ -24,10 +24,10 @@ low_fits k l = omega arith
 two_less : {m n : ℕ} → m ≤ 65535 → n ≡ m - 2 → n ≤ 65535
 two_less l e = omega arith
 
-at_small : (c : tie.After-two_before) → c.before.before.before.args.along * c.before.step_along.result ≤ 268496895
+at_small : (c : tie.After-two_before) → c.args.along * c.step_along-next.result ≤ 268496895
 at_small c = along_small c.requires.2 c.step_along-next.ensures.1 c.requires.0
 
-before_small : (c : tie.After-two_before) → c.two_before.result * c.before.before.step_across.result ≤ 268496895
+before_small : (c : tie.After-two_before) → c.two_before.result * c.step_across-step.result ≤ 268496895
 before_small c = along_small (two_less c.requires.1 c.two_before.ensures) c.step_across-step.ensures.1 c.requires.0
 
 mul_at : tie.Need-overflow_mul-at

@@ -21,24 +21,24 @@ invariant-loop bytes list n j₀ j = (j ≤ n) × (judge bytes (marks_in list j)
 abbrev decreases-loop : tie.decreases-loop-j
 decreases-loop bytes list n j₀ j = n - j
 
-in_list : (c : tie.In-loop-j invariant-loop decreases-loop) → c.before.loop.j < length c.before.before.before.before.args.list.now
+in_list : (c : tie.In-loop-j invariant-loop decreases-loop) → c.loop-j.j < length c.args.list.now
 in_list c = omega (arith, c.loop-j-test.true, c.requires.1)
 
 -- its place lies among the root's bytes
-place_in_lem : (c : tie.After-mark_place-place invariant-loop decreases-loop) → c.mark_place.result < length c.before.before.before.before.before.before.args.bytes.now
+place_in_lem : (c : tie.After-mark_place-place invariant-loop decreases-loop) → c.mark_place-place.result < length c.args.bytes.now
 place_in_lem c =
     let p = c.requires.2 c.loop-j.j c.loop-j-test.true in
     let e : c.mark_place-place.result ≡ get_or c.args.list.now c.loop-j.j 0 / 2 = c.mark_place-place.ensures in
     omega (arith, c.requires.0)
 
 -- the byte that stands there
-stands : (c : tie.After-mark_place-place invariant-loop decreases-loop) → let a = c.before.before.before.before.before.before.args in
-    get_or a.bytes.now c.mark_place.result 0 ≡ get_or a.bytes.now (mark_from (get_or a.list.now c.before.before.before.loop.j 0)).place 0
+stands : (c : tie.After-mark_place-place invariant-loop decreases-loop) → let a = c.args in
+    get_or a.bytes.now c.mark_place-place.result 0 ≡ get_or a.bytes.now (mark_from (get_or a.list.now c.loop-j.j 0)).place 0
 stands c = ap (λ (p : ℕ). get_or c.args.bytes.now p 0) c.mark_place-place.ensures
 
-wrong_there : (c : tie.Then-byte-mark_byte invariant-loop decreases-loop) → let a = c.before.before.before.before.before.before.before.before.before.before.args in
+wrong_there : (c : tie.Then-byte-mark_byte invariant-loop decreases-loop) → let a = c.args in
     judge a.bytes.now (marks_in a.list.now a.n) ≡ Refused
-    (wrong (get_or a.bytes.now (mark_from (get_or a.list.now c.before.before.before.before.before.before.before.loop.j 0)).place 0))
+    (wrong (get_or a.bytes.now (mark_from (get_or a.list.now c.loop-j.j 0)).place 0))
 wrong_there c =
     judge_wrong _ _ _ c.loop-j.invariant.1 _ c.loop-j-test.true
     c.requires.1

@@ -30,48 +30,48 @@ abbrev decreases-loop : tie.decreases-loop-i
 decreases-loop w h splits roots list₀ digits₀ i₀ list digits i = roots - i
 
 -- the number of roots, in samples and in units
-all : (c : tie.After-root_count-roots invariant-loop decreases-loop) → c.root_count.result ≡ roots (c.before.before.args.w / 4) (c.before.before.args.h / 4)
+all : (c : tie.After-root_count-roots invariant-loop decreases-loop) → c.root_count-roots.result ≡ roots (c.args.w / 4) (c.args.h / 4)
 all c = count_units _ _ _ c.requires.size c.root_count-roots.ensures
 
-all_samples : (c : tie.After-root_count-roots invariant-loop decreases-loop) → c.root_count.result ≡ root_count c.before.before.args.w c.before.before.args.h
+all_samples : (c : tie.After-root_count-roots invariant-loop decreases-loop) → c.root_count-roots.result ≡ root_count c.args.w c.args.h
 all_samples c = roots_told _ _ _ c.requires.size c.root_count-roots.ensures
 
-few : (c : tie.After-root_count-roots invariant-loop decreases-loop) → c.root_count.result ≤ 4096
+few : (c : tie.After-root_count-roots invariant-loop decreases-loop) → c.root_count-roots.result ≤ 4096
 few c = omega (arith, all_samples c, few_of _ _ c.requires.size)
 
 loop_holds : tie.Need-loop-i-init invariant-loop decreases-loop
 unfolding joined
 loop_holds c = (zero-le, refl, ap (λ (v : Walk). v.answer) (turn_none _), refl)
 
-inside : (c : tie.In-loop-i invariant-loop decreases-loop) → c.before.loop.i < root_count c.before.before.before.before.args.w c.before.before.before.before.args.h
+inside : (c : tie.In-loop-i invariant-loop decreases-loop) → c.loop-i.i < root_count c.args.w c.args.h
 inside c = omega (arith, c.loop-i-test.true, all_samples c.before.before)
 
-inside_units : (c : tie.In-loop-i invariant-loop decreases-loop) → c.before.loop.i < roots (c.before.before.before.before.args.w / 4) (c.before.before.before.before.args.h / 4)
+inside_units : (c : tie.In-loop-i invariant-loop decreases-loop) → c.loop-i.i < roots (c.args.w / 4) (c.args.h / 4)
 inside_units c = omega (arith, c.loop-i-test.true, all c.before.before)
 
 returns : tie.Need-returns-in-Refused invariant-loop decreases-loop
 returns c =
     let v = c.loop-i.invariant in
     ap (counted _)
-    (sym (turn_refused _ _ _ _ (inside_units c.before.before.before.before.before.before) v.2
+    (sym (turn_refused _ _ _ _ (inside_units c.before.before.before.before) v.2
     (counted_refused _ _ _ (sym c.in-Refused.is ∙ c.root_digits.ensures))))
 
-next : (c : tie.In-Done-2 invariant-loop decreases-loop) → let a = c.before.before.before.before.before.before.before.before.before.args in
-    let i = c.before.before.before.before.before.before.loop.i in
+next : (c : tie.In-Done-2 invariant-loop decreases-loop) → let a = c.args in
+    let i = c.loop-i.i in
     ((root_walk a.splits.now (a.w / 4) (a.h / 4) i).answer ≡ Done)
-    × (c.before.before.before.before.before.before.loop.digits + c.n.given.0.0 ≡ length (digits_of a.splits.now (a.w / 4) (a.h / 4) (i + 1)))
+    × (c.loop-i.digits + c.in-Done.n ≡ length (digits_of a.splits.now (a.w / 4) (a.h / 4) (i + 1)))
 next c =
     let v = c.loop-i.invariant in
     let k = counted_done _ _ (root_walk c.args.splits.now
     (c.args.w / 4) (c.args.h / 4)
     c.loop-i.i).answer (sym c.in-Done.is ∙ c.root_digits.ensures) in
-    (k.0, ap₂ ◌+◌ v.1 k.1 ∙ sym (more_long _ _ _ _ (inside_units c.before.before.before.before.before)))
+    (k.0, ap₂ ◌+◌ v.1 k.1 ∙ sym (more_long _ _ _ _ (inside_units c.before.before.before.before)))
 
 add_digits : tie.Need-overflow_add-digits invariant-loop decreases-loop
 add_digits c =
     let a = c.args in
     let f = few_digits a.splits.now (a.w / 4) (a.h / 4) (c.loop-i.i + 1) in
-    omega (arith, (next c.before).1, f, c.loop-i-test.true, few c.before.before.before.before.before.before.before.before)
+    omega (arith, (next c.before).1, f, c.loop-i-test.true, few c.before.before.before.before.before.before)
 
 loop_again : tie.Need-loop-i-preserved invariant-loop decreases-loop
 loop_again c =

@@ -30,20 +30,20 @@ abbrev decreases-loop : tie.decreases-loop-i
 decreases-loop w h splits buf₀ at roots list₀ used₀ i₀ buf list used i = roots - i
 
 -- the number of roots, in samples and in units
-all : (c : tie.After-root_count-roots invariant-loop decreases-loop) → c.root_count.result ≡ roots (c.before.before.before.args.w / 4) (c.before.before.before.args.h / 4)
+all : (c : tie.After-root_count-roots invariant-loop decreases-loop) → c.root_count-roots.result ≡ roots (c.args.w / 4) (c.args.h / 4)
 all c = count_units _ _ _ c.requires.0.size c.root_count-roots.ensures
 
-all_samples : (c : tie.After-root_count-roots invariant-loop decreases-loop) → c.root_count.result ≡ root_count c.before.before.before.args.w c.before.before.before.args.h
+all_samples : (c : tie.After-root_count-roots invariant-loop decreases-loop) → c.root_count-roots.result ≡ root_count c.args.w c.args.h
 all_samples c = roots_told _ _ _ c.requires.0.size c.root_count-roots.ensures
 
-inside : (c : tie.In-loop-i invariant-loop decreases-loop) → c.before.loop.i < root_count c.before.before.before.before.before.args.w c.before.before.before.before.before.args.h
+inside : (c : tie.In-loop-i invariant-loop decreases-loop) → c.loop-i.i < root_count c.args.w c.args.h
 inside c = omega (arith, c.loop-i-test.true, all_samples c.before.before)
 
-inside_units : (c : tie.In-loop-i invariant-loop decreases-loop) → c.before.loop.i < roots (c.before.before.before.before.before.args.w / 4) (c.before.before.before.before.before.args.h / 4)
+inside_units : (c : tie.In-loop-i invariant-loop decreases-loop) → c.loop-i.i < roots (c.args.w / 4) (c.args.h / 4)
 inside_units c = omega (arith, c.loop-i-test.true, all c.before.before)
 
 -- the digits before root i are few
-near : (c : tie.In-loop-i invariant-loop decreases-loop) → c.before.before.before.before.before.args.at + c.before.loop.used ≤ 4611686018427736064
+near : (c : tie.In-loop-i invariant-loop decreases-loop) → c.args.at + c.loop-i.used ≤ 4611686018427736064
 near c =
     let a = c.args in
     let f = few_digits a.splits.now (a.w / 4) (a.h / 4) c.loop-i.i in

@@ -22,7 +22,7 @@ decreases-loop columns words motion refs rows size ok₀ k₀ ok k = length rows
 loop_holds : tie.Need-loop-k-init invariant-loop decreases-loop
 loop_holds c = (omega arith, sym (scan_none _))
 
-rem_run_length : tie.Need-nonzero-rem-run-length invariant-loop decreases-loop
+rem_run_length : tie.Need-nonzero_rem-x invariant-loop decreases-loop
 rem_run_length c = omega (arith, c.requires.0.some)
 
 run_length_requires : tie.Need-run_length-n-requires invariant-loop decreases-loop

@@ -22,7 +22,7 @@ loop_holds c = (omega arith, refl, (λ i h. absurd (none i h)), refl) where
   none : (i : ℕ) → i < 0 → ⊥
   none i h = omega arith
 
-rem_run_length : tie.Need-nonzero-rem-run-length invariant-loop decreases-loop
+rem_run_length : tie.Need-nonzero_rem-x invariant-loop decreases-loop
 rem_run_length c = omega (arith, c.requires.0.some)
 
 run_length_requires : tie.Need-run_length-n-requires invariant-loop decreases-loop

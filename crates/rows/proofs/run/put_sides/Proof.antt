@@ -15,9 +15,9 @@ use Rattle.rows.proofs.run.put_sides.Tie as tie
 
 -- both calls find their runs in the maps
 lefts : (c : tie.After-clear_first) →
-    let a = c.before.before.before.before.before.before.before.before.before.before.args in
+    let a = c.args in
     FirstOf (λ (j : ℕ). row_by a.words.now a.motion.now a.refs.now (a.k + j) (a.k - 1 + j)) a.n (replicate 128 0)
-    c.before.before.before.before.before.before.rows_at.new.1.1.1.1.1.1.0
+    c.rows_at.new.1.1.1.1.1.1.0
 lefts c =
     let s = c.before.before.before.before.before.before.before.before.before.before in
     let a = s.args in
@@ -27,9 +27,9 @@ lefts c =
     c.rows_at.ensures.1 p.3
 
 tops : (c : tie.After-clear_first) →
-    let a = c.before.before.before.before.before.before.before.before.before.before.args in
+    let a = c.args in
     FirstOf (λ (j : ℕ). row_by a.words.now a.motion.now a.refs.now (a.k + j) (a.k - a.columns + j)) a.n (replicate 128 0)
-    c.before.before.before.rows_at2.new.1.1.1.1.1.1.0
+    c.rows_at-2.new.1.1.1.1.1.1.0
 tops c =
     let s = c.before.before.before.before.before.before.before.before.before.before in
     let a = s.args in
@@ -39,7 +39,7 @@ tops c =
     c.rows_at-2.ensures.1 p.3
 
 left_rows : (c : tie.After-clear_first) →
-    let a = c.before.before.before.before.before.before.before.before.before.before.args in
+    let a = c.args in
     (j : ℕ) → j < a.n → get_or c.clear_first.new.1.0 j 0 ≡ edge_row a.words.now a.motion.now a.refs.now a.columns vertical (a.k + j)
 left_rows c =
     let s = c.before.before.before.before.before.before.before.before.before.before in
@@ -49,8 +49,8 @@ left_rows c =
     left_row a.words.now a.motion.now a.refs.now a.columns a.x.0 a.k a.n p.0.some p.1 p.2 _ _ _ u (omega (arith, u.long)) c.clear_first.ensures
 
 top_rows : (c : tie.After-clear_first) →
-    let a = c.before.before.before.before.before.before.before.before.before.before.args in
-    (j : ℕ) → j < a.n → get_or c.before.before.before.rows_at2.new.1.1.1.1.1.1.0 j 0 ≡ edge_row a.words.now a.motion.now a.refs.now a.columns horizontal (a.k + j)
+    let a = c.args in
+    (j : ℕ) → j < a.n → get_or c.rows_at-2.new.1.1.1.1.1.1.0 j 0 ≡ edge_row a.words.now a.motion.now a.refs.now a.columns horizontal (a.k + j)
 top_rows c =
     let s = c.before.before.before.before.before.before.before.before.before.before in
     let a = s.args in

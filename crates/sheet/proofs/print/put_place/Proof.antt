@@ -13,13 +13,13 @@ record Room (n k m : ℕ) : Type 0 where
   same : k ≡ m
   room : n ≤ k
 
-first : (c : tie.After-put_decimal-second) → Room (c.put_decimal.result + 5) (length c.put_decimal.new.0) (length c.before.before.before.args.out.now)
+first : (c : tie.After-put_decimal-second) → Room (c.put_decimal-second.result + 5) (length c.put_decimal-second.new.0) (length c.args.out.now)
 first c =
     let s = c.before.before.before in
     let e : length c.put_decimal-second.new.0 ≡ length s.args.out.now = c.put_decimal-second.auto.0 ∙ simp length-set in
     record { same = e; room = omega (arith, c.put_decimal-second.ensures.count, decimal_three s.args.x s.requires.0, s.requires.2) }
 
-second : (c : tie.After-put_decimal-end) → Room (c.put_decimal2.result + 1) (length c.put_decimal2.new.0) (length c.before.before.before.before.before.before.before.args.out.now)
+second : (c : tie.After-put_decimal-end) → Room (c.put_decimal-end.result + 1) (length c.put_decimal-end.new.0) (length c.args.out.now)
 second c =
     let f = c.before.before.before.before in
     let s = f.before.before.before in

@@ -13,8 +13,8 @@ record Room (n k m : ℕ) : Type 0 where
   same : k ≡ m
   room : n ≤ k
 
-first : (c : tie.After-put_decimal-next) → Room (c.put_decimal.result + 20) (length c.put_decimal.new.0)
-    (length c.before.before.before.before.before.before.before.before.before.args.out.now)
+first : (c : tie.After-put_decimal-next) → Room (c.put_decimal-next.result + 20) (length c.put_decimal-next.new.0)
+    (length c.args.out.now)
 first c =
     let d = c.put_decimal-next in
     let b = c.put_bytes-digits in
@@ -23,8 +23,8 @@ first c =
     let e : length d.new.0 ≡ length s.args.out.now = d.auto.0 ∙ b.auto.0 in
     record { same = e; room = omega (arith, d.ensures.count, b.ensures.count, decimal_four n (omega arith), s.requires.1) }
 
-second : (c : tie.After-put_line-end) → Room (c.put_line.result + 1) (length c.put_line.new.0)
-    (length c.before.before.before.before.before.before.before.before.before.before.before.before.before.args.out.now)
+second : (c : tie.After-put_line-end) → Room (c.put_line-end.result + 1) (length c.put_line-end.new.0)
+    (length c.args.out.now)
 second c =
     let f = c.before.before.before.before in
     let s = f.before.before.before.before.before.before.before.before.before in

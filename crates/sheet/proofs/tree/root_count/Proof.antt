@@ -8,7 +8,7 @@ use Rattle.sheet.proofs.Pictures.{count_roots}
 use Rattle.sheet.proofs.tree.root_count.Statement.{statement}
 use Rattle.sheet.proofs.tree.root_count.Tie as tie
 
-same : (c : tie.After-roots_along-2) → let a = c.before.before.args in c.before.roots_along.result * c.roots_along2.result ≡ root_count a.w a.h
+same : (c : tie.After-roots_along-2) → let a = c.args in c.roots_along.result * c.roots_along-2.result ≡ root_count a.w a.h
 same c = ap₂ ◌*◌ c.roots_along.ensures c.roots_along-2.ensures
 
 mul_result : tie.Need-overflow_mul-result

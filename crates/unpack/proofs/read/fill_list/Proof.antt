@@ -26,10 +26,10 @@ loop_holds c =
     let m = c.clear in
     (zero-le, m.auto.0 ∙ p, m.ensures ∙ ap (λ (n : ℕ). replicate n 0) p)
 
-in_list : (c : tie.In-loop-j invariant-loop decreases-loop) → c.before.loop.j < length c.before.before.before.before.before.before.before.before.args.list.now
+in_list : (c : tie.In-loop-j invariant-loop decreases-loop) → c.loop-j.j < length c.args.list.now
 in_list c = omega (arith, c.loop-j-test.true, c.requires.1)
 
-place_in_lem : (c : tie.After-mark_place-place invariant-loop decreases-loop) → c.mark_place.result < length c.before.before.before.loop.map
+place_in_lem : (c : tie.After-mark_place-place invariant-loop decreases-loop) → c.mark_place-place.result < length c.loop-j.map
 place_in_lem c =
     let p = c.requires.2 c.loop-j.j c.loop-j-test.true in
     let e : c.mark_place-place.result ≡ get_or c.args.list.now

@@ -31,23 +31,23 @@ abbrev decreases-loop : tie.decreases-loop-i
 decreases-loop w h src from to map₀ count list₀ used₀ i₀ map list used i = count - i
 
 -- the number of roots, in samples and in units
-all : (c : tie.After-root_count-count invariant-loop decreases-loop) → c.root_count.result ≡ roots (c.before.before.before.args.w / 4) (c.before.before.before.args.h / 4)
+all : (c : tie.After-root_count-count invariant-loop decreases-loop) → c.root_count-count.result ≡ roots (c.args.w / 4) (c.args.h / 4)
 all c = count_units _ _ _ c.requires.0.size c.root_count-count.ensures
 
-all_samples : (c : tie.After-root_count-count invariant-loop decreases-loop) → c.root_count.result ≡ root_count c.before.before.before.args.w c.before.before.before.args.h
+all_samples : (c : tie.After-root_count-count invariant-loop decreases-loop) → c.root_count-count.result ≡ root_count c.args.w c.args.h
 all_samples c = roots_told _ _ _ c.requires.0.size c.root_count-count.ensures
 
-inside : (c : tie.In-loop-i invariant-loop decreases-loop) → c.before.loop.i < root_count c.before.before.before.before.before.args.w c.before.before.before.before.before.args.h
+inside : (c : tie.In-loop-i invariant-loop decreases-loop) → c.loop-i.i < root_count c.args.w c.args.h
 inside c = omega (arith, c.loop-i-test.true, all_samples c.before.before)
 
-inside_units : (c : tie.In-loop-i invariant-loop decreases-loop) → c.before.loop.i < roots (c.before.before.before.before.before.args.w / 4) (c.before.before.before.before.before.args.h / 4)
+inside_units : (c : tie.In-loop-i invariant-loop decreases-loop) → c.loop-i.i < roots (c.args.w / 4) (c.args.h / 4)
 inside_units c = omega (arith, c.loop-i-test.true, all c.before.before)
 
-few : (c : tie.In-loop-i invariant-loop decreases-loop) → c.before.loop.i < 4096
+few : (c : tie.In-loop-i invariant-loop decreases-loop) → c.loop-i.i < 4096
 few c = omega (arith, inside c, few_of _ _ c.requires.0.size)
 
 -- root i's bytes lie in the map
-room : (c : tie.In-loop-i invariant-loop decreases-loop) → 1024 * c.before.loop.i + 1024 ≤ length c.before.loop.map
+room : (c : tie.In-loop-i invariant-loop decreases-loop) → 1024 * c.loop-i.i + 1024 ≤ length c.loop-i.map
 room c = omega (arith, inside c, c.requires.0.bytes, c.loop-i.invariant.1)
 
 -- root i, by the bits that are left, is not refused
@@ -71,8 +71,8 @@ fill_root_requires c κs =
     let m = c.loop-i in
     (c.requires.0.size, inside l, mid_len (1024 * i) (1024 * i + 1024) m.map (room l) ∙ e, m.invariant.4, goes l)
 
-next : (c : tie.After-fill_root-n invariant-loop decreases-loop) → let a = c.before.before.before.before.before.before.before.before.args in
-    At (a.w / 4) (a.h / 4) a.src.now a.from a.to (c.before.before.before.before.loop.i + 1) (c.before.before.before.before.loop.used + c.fill_root.result)
+next : (c : tie.After-fill_root-n invariant-loop decreases-loop) → let a = c.args in
+    At (a.w / 4) (a.h / 4) a.src.now a.from a.to (c.loop-i.i + 1) (c.loop-i.used + c.fill_root-n.result)
 next c = at_more _ _ _ _ _ c.loop-i.invariant.2 (goes c.before.before.before) _ c.fill_root-n.ensures.0
 
 add_used : tie.Need-overflow_add-used invariant-loop decreases-loop

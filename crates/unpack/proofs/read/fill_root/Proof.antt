@@ -27,22 +27,22 @@ told c =
     let t = take_told _ c.take_marks.result _ p.0 p.3 p.1 c.take_marks.ensures in
     (t.0 ∙ ap (counted _) p.4, t.1 p.4)
 
-count : (c : tie.In-Done-2) → c.n.given.0.0 ≡ length (own c.before.before.before.before.before.before.before.before.before).marks
-count c = (counted_done _ _ Done (sym c.in-Done.is ∙ (told c.before.before.before.before).0)).1
+count : (c : tie.In-Done-2) → c.in-Done.n ≡ length (own c.before.before.before.before.before.before.before.before).marks
+count c = (counted_done _ _ Done (sym c.in-Done.is ∙ (told c.before.before.before).0)).1
 
 fill_list_requires : tie.Need-fill_list-requires
 fill_list_requires c κs =
-    let n = count c.before.before.before in
-    let t = (told c.before.before.before.before.before.before.before).1 in
+    let n = count c.before.before in
+    let t = (told c.before.before.before.before).1 in
     (c.requires.2, omega (arith, n, t.few, t.long), λ j l. t.small j (subst (λ (k : ℕ). j < k) n l))
 
 returns : tie.Need-returns-in-Refused
-returns c = not_both _ _ _ (told c.before.before.before.before.before).0 c.in-Refused.is
+returns c = not_both _ _ _ (told c.before.before.before).0 c.in-Refused.is
 
 returns-2 : tie.Need-returns-in-Done
 returns-2 c =
-    let n = count c.before.before.before.before.before.before in
-    let t = (told c.before.before.before.before.before.before.before.before.before.before).1 in (
+    let n = count c.before.before.before.before.before in
+    let t = (told c.before.before.before.before.before.before.before).1 in (
       n,
       c.fill_list.ensures
           ∙ ap (λ (z : List Mark). put_all z (replicate 1024 0))

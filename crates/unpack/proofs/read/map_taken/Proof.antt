@@ -25,16 +25,16 @@ abbrev decreases-loop : tie.decreases-loop-i
 decreases-loop w h src from to count list₀ used₀ i₀ list used i = count - i
 
 -- the number of roots, in samples and in units
-all : (c : tie.After-root_count-count invariant-loop decreases-loop) → c.root_count.result ≡ roots (c.before.before.args.w / 4) (c.before.before.args.h / 4)
+all : (c : tie.After-root_count-count invariant-loop decreases-loop) → c.root_count-count.result ≡ roots (c.args.w / 4) (c.args.h / 4)
 all c = count_units _ _ _ c.requires.0 c.root_count-count.ensures
 
-all_samples : (c : tie.After-root_count-count invariant-loop decreases-loop) → c.root_count.result ≡ root_count c.before.before.args.w c.before.before.args.h
+all_samples : (c : tie.After-root_count-count invariant-loop decreases-loop) → c.root_count-count.result ≡ root_count c.args.w c.args.h
 all_samples c = roots_told _ _ _ c.requires.0 c.root_count-count.ensures
 
-inside : (c : tie.In-loop-i invariant-loop decreases-loop) → c.before.loop.i < root_count c.before.before.before.before.args.w c.before.before.before.before.args.h
+inside : (c : tie.In-loop-i invariant-loop decreases-loop) → c.loop-i.i < root_count c.args.w c.args.h
 inside c = omega (arith, c.loop-i-test.true, all_samples c.before.before)
 
-inside_units : (c : tie.In-loop-i invariant-loop decreases-loop) → c.before.loop.i < roots (c.before.before.before.before.args.w / 4) (c.before.before.before.before.args.h / 4)
+inside_units : (c : tie.In-loop-i invariant-loop decreases-loop) → c.loop-i.i < roots (c.args.w / 4) (c.args.h / 4)
 inside_units c = omega (arith, c.loop-i-test.true, all c.before.before)
 
 -- root i, by the bits that are left
@@ -48,21 +48,21 @@ told c = (take_told _ c.take_marks.result _ c.requires.0
 returns : tie.Need-returns-in-Refused invariant-loop decreases-loop
 returns c =
     ap (counted _)
-    (sym (at_stop _ _ _ _ _ c.loop-i.invariant.2 _ _ (inside_units c.before.before.before.before.before.before)
-    (counted_refused _ _ _ (sym c.in-Refused.is ∙ told c.before.before.before.before))))
+    (sym (at_stop _ _ _ _ _ c.loop-i.invariant.2 _ _ (inside_units c.before.before.before.before)
+    (counted_refused _ _ _ (sym c.in-Refused.is ∙ told c.before.before))))
 
-next : (c : tie.In-Done-2 invariant-loop decreases-loop) → let a = c.before.before.before.before.before.before.before.before.before.args in
-    At (a.w / 4) (a.h / 4) a.src.now a.from a.to (c.before.before.before.before.before.before.loop.i + 1)
-    (c.before.before.before.before.before.before.loop.used + c.n.given.0.0)
+next : (c : tie.In-Done-2 invariant-loop decreases-loop) → let a = c.args in
+    At (a.w / 4) (a.h / 4) a.src.now a.from a.to (c.loop-i.i + 1)
+    (c.loop-i.used + c.in-Done.n)
 next c =
-    let k = counted_done _ _ (here c.before.before.before.before.before.before).walk.answer (sym c.in-Done.is ∙ told c.before.before.before) in
+    let k = counted_done _ _ (here c.before.before.before.before.before).walk.answer (sym c.in-Done.is ∙ told c.before.before) in
     at_more _ _ _ _ _ c.loop-i.invariant.2 k.0 _ k.1
 
 add_used : tie.Need-overflow_add-used invariant-loop decreases-loop
 add_used c = omega (
   arith,
   at_few _ _ _ _ _ (next c.before),
-  inside c.before.before.before.before.before.before,
+  inside c.before.before.before.before,
   few_of _ _ c.requires.0,
 )
 

@@ -15,19 +15,19 @@ use Rattle.y4m_header.proofs.words.header_in.Statement.{statement}
 use Rattle.y4m_header.proofs.words.header_in.Tie as tie
 
 -- the bytes that are looked at are as many as they are to be
-head_long : (c : tie.After-head_length-n) → length (take c.head_length.result c.before.before.args.s.now) ≡ c.head_length.result
+head_long : (c : tie.After-head_length-n) → length (take c.head_length-n.result c.args.s.now) ≡ c.head_length-n.result
 head_long c = length-take-le _ _ (head_fits _ _ c.head_length-n.ensures).0
 
 slice_aggregate_head : tie.Need-slice_bounds-head-end
-slice_aggregate_head c = sym (head_long c.before)
+slice_aggregate_head c = sym (head_long c)
 
 slice_aggregate_same : tie.Need-slice_bounds-same-end
 slice_aggregate_same c = sym (length-take-le _ _
     (omega (arith, c.count_before-first.ensures, before_short 32 10 (take c.head_length-n.result c.args.s.now))))
 
 -- the first word is what was compared
-first : (c : tie.After-same) → let head = take c.before.before.before.before.before.head_length.result
-    c.before.before.before.before.before.before.before.args.s.now in c.same.result ≡ same_line magic (word_of head)
+first : (c : tie.After-same) → let head = take c.head_length-n.result
+    c.args.s.now in c.same.result ≡ same_line magic (word_of head)
 first c =
     let head = take c.head_length-n.result c.args.s.now in
     c.same.ensures ∙ ap (same_line magic) (ap (λ (k : _). take k head) c.count_before-first.ensures ∙ before_take 32 10 head)
@@ -35,8 +35,8 @@ first c =
 returns : tie.Need-returns-then-not-same
 returns c = no_magic _ _ (head_is _ _ c.head_length-n.ensures) (sym (first c.before) ∙ c.if-not-same.true)
 
-magic_there : (c : tie.Else-not-same) → let head = take c.before.before.before.before.before.before.head_length.result
-    c.before.before.before.before.before.before.before.before.args.s.now in same_line magic (word_of head) ≡ true
+magic_there : (c : tie.Else-not-same) → let head = take c.head_length-n.result
+    c.args.s.now in same_line magic (word_of head) ≡ true
 magic_there c = sym (first c.before) ∙ c.if-not-same.false
 
 words_in_requires : tie.Need-words_in-requires

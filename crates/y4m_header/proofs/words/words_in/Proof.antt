@@ -16,8 +16,8 @@ abbrev decreases-loop : tie.decreases-loop-at
 decreases-loop head said₀ at₀ said at = length head - at
 
 -- the word ends within the bytes
-fits : (c : tie.After-count_before invariant-loop decreases-loop) → c.before.before.before.before.loop.at + 1 + c.count_before.result ≤ length
-    c.before.before.before.before.before.before.before.args.head.now
+fits : (c : tie.After-count_before invariant-loop decreases-loop) → c.loop-at.at + 1 + c.count_before.result ≤ length
+    c.args.head.now
 fits c =
     let l = c.loop-at in
     omega (arith, c.count_before.ensures, before_fits 32 10 c.args.head.now (l.at + 1) (omega arith))
@@ -34,7 +34,7 @@ returns-2 c = let l = c.loop-at in at_missing _ _ _ l.invariant (omega arith) c.
 add_end : tie.Need-overflow_add-end invariant-loop decreases-loop
 add_end c = omega (arith, fits c)
 
-part_told_word_end : tie.Need-slice-bounds-told-word-end invariant-loop decreases-loop
+part_told_word_end : tie.Need-slice_bounds-told_word-end invariant-loop decreases-loop
 part_told_word_end c = fits c
 
 returns-3 : tie.Need-returns-in_default invariant-loop decreases-loop
@@ -44,7 +44,7 @@ returns-3 c =
     c.count_before.ensures _ c.told_word.ensures c.in_default.is
 
 loop_less : tie.Need-loop-at-smaller invariant-loop decreases-loop
-loop_less c = let f = fits c.before.before.before.before.before in omega arith
+loop_less c = let f = fits c.before.before.before in omega arith
 
 loop_again : tie.Need-loop-at-preserved invariant-loop decreases-loop
 loop_again c =

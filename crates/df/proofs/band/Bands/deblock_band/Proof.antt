@@ -30,7 +30,7 @@ input_of s =
 
 returns : tie.Need-returns-in-Refused
 unfolding input_of
-returns c = band_refused (input_of c.before.before.before.before.before.before.before.before.before.before.before.before.before.before.before) _
+returns c = band_refused (input_of c.before.before.before.before.before.before.before.before.before) _
     c.checked_band.ensures _ c.in-Refused.is
 
 deblock_checked_requires : tie.Need-deblock_checked-requires

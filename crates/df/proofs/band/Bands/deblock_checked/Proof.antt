@@ -60,13 +60,13 @@ rest_above : (k : ℕ) → rows_above k - rows_above k / 16 ≡ rows_above k - 1
 rest_above zero = refl
 rest_above (suc k) = refl
 
-top_is : (c : tie.After-rows_above-above) → c.rows_above.result / 16 ≡ near (start c).args.band
+top_is : (c : tie.After-rows_above-above) → c.rows_above-above.result / 16 ≡ near (start c).args.band
 top_is c = ap (λ (n : ℕ). n / 16) c.rows_above-above.ensures ∙ one_above (start c).args.band
 
-skip_is : (c : tie.After-rows_above-above) → c.rows_above.result - c.rows_above.result / 16 ≡ rows_above (start c).args.band - 1
+skip_is : (c : tie.After-rows_above-above) → c.rows_above-above.result - c.rows_above-above.result / 16 ≡ rows_above (start c).args.band - 1
 skip_is c = ap (λ (n : ℕ). n - n / 16) c.rows_above-above.ensures ∙ rest_above (start c).args.band
 
-own_is : (c : tie.After-rows_above-above) → 4 * c.before.band_rows.result ≡ 4 * band_rows ((start c).args.h / 4) (start c).args.band
+own_is : (c : tie.After-rows_above-above) → 4 * c.band_rows-rows.result ≡ 4 * band_rows ((start c).args.h / 4) (start c).args.band
 own_is c = ap (λ (n : ℕ). 4 * n) c.band_rows-rows.ensures
 
 own_fits : (h k : ℕ) {r : ℕ} → r ≡ band_rows h k → Fits w64 (4 * r)
@@ -79,7 +79,7 @@ sixteenth : (n : ℕ) → n / 16 ≤ n
 sixteenth n = omega arith
 
 -- the entries are as many as the passes ask for
-long : (c : tie.After-entries_by-table) → length c.entries_by.result ≡ 624
+long : (c : tie.After-entries_by-table) → length c.entries_by-table.result ≡ 624
 long c = ap length c.entries_by-table.ensures ∙ entries_long _ _ _ _ _ _
 
 band_passes_requires : tie.Need-band_passes-n-requires
