@@ -1,6 +1,7 @@
 // The five intra modes: a block's prediction from the run of its neighbours, left downwards, the corner, up rightwards.
 // The Rust beside it: ipred.rs, evc_ipred_b and the five ipred_*.
 #![tactic(auto)]
+
 ghost use Rattle.std.specs.Prelude.{◌≡◌, true, ℕ, ◌+◌, ◌-◌, ◌*◌, ◌/◌, ◌≤◌, ◌<◌, length, get_or};
 ghost use Rattle.laws.specs.Call.{Gives};
 ghost use Rattle.laws.specs.Plane.{with_row};

@@ -1,6 +1,7 @@
 // Eight lines filtered side by side, in 16 bits, without a sign and without a branch, so that a compiler takes all eight at a time.
 // Each is filtered as `line` filters one. The Rust beside it: df.rs, the lines of a unit's edge in the four deblock_scu_ functions.
 #![tactic(auto)]
+
 ghost use Rattle.std.specs.Prelude.{◌≡◌, ◌+◌, ◌-◌, ◌*◌, ◌≤◌, ◌<◌, min, get_or};
 ghost use Rattle.line.specs.Line.{line_of};
 ghost use Rattle.lanes.specs.Unsigned.{rise_of, ease_of};

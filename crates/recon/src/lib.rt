@@ -1,6 +1,7 @@
 // Residual addition: the prediction, or where a block is coded clip(0, 1023, prediction + residual).
 // The Rust beside it: recon.rs, evc_recon and evc_recon_plane_region.
 #![tactic(auto)]
+
 ghost use Rattle.std.specs.Prelude.{◌≡◌, true, ℕ, ◌+◌, ◌*◌, ◌/◌, ◌≤◌, eqb, pos, neg_ℤ, ◌+ℤ◌, length, get_or};
 ghost use Rattle.laws.specs.Call.{Gives};
 ghost use Rattle.laws.specs.Clip.{clip_z, sample_z};

@@ -2,6 +2,7 @@
 // space.
 // No contract can say what is read or written: what stands here is proved safe, and that a lent slice is only read.
 #![tactic(auto)]
+
 ghost use Rattle.std.specs.Prelude.{◌≡◌, ◌-◌, ◌≤◌, length};
 
 // Room for the largest file of cases. A call keeps the checker from looking into the array.

@@ -1,6 +1,7 @@
 // What a program tells: words and numbers on standard error, fields of its output, what a refusal's number means, and the exit status. It is for the
 // programs alone.
 #![tactic(auto)]
+
 use libc::{STDERR_FILENO, STDOUT_FILENO};
 
 // ---- words

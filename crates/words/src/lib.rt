@@ -1,6 +1,7 @@
 // What a program is asked by: its arguments' words and numbers, and the files that they name. It is for the programs alone.
 // No contract can say what is read: what stands here is proved safe.
 #![tactic(auto)]
+
 ghost use Rattle.std.specs.Prelude.{◌≤◌};
 
 use libc::STDERR_FILENO;

@@ -8,12 +8,9 @@ use Rattle.avail.proofs.inter_neighbours.Tie as tie
 
 returns : tie.Need-returns
 returns c =
-    let d = c.before.before.before in
-    let f = d.before.before.before in
-    let g = f.before.before in
-    inter_are _ (accepted _ g.requires) _ g.pel2scu-sy.ensures _ _ _ _ _ _ _ _
-    g.cod_nif_near-left.ensures g.cod_nif_near-right.ensures f.intra_near.ensures d.cod_nif_near.ensures
-    d.cod_nif_near-2.ensures d.cod_nif_near-3.ensures c.cod_nif_near-4.ensures c.intra_near-2.ensures
+    inter_are _ (accepted _ c.requires) _ c.pel2scu-sy.ensures _ _ _ _ _ _ _ _
+    c.cod_nif_near-left.ensures c.cod_nif_near-right.ensures c.intra_near.ensures c.cod_nif_near.ensures
+    c.cod_nif_near-2.ensures c.cod_nif_near-3.ensures c.cod_nif_near-4.ensures c.intra_near-2.ensures
 
 pub inter_neighbours_spec : {M : Type 1} → statement M
 inter_neighbours_spec =

@@ -8,10 +8,8 @@ use Rattle.avail.proofs.intra_neighbours.Tie as tie
 
 returns : tie.Need-returns
 returns c =
-    let d = c.before.before.before in
-    let f = d.before.before.before in
-    intra_are _ (accepted _ f.requires) _ f.pel2scu-sy.ensures _ _ _ _ _ _
-    f.done_near-left.ensures f.done_near-right.ensures d.done_near.ensures d.done_near-2.ensures
+    intra_are _ (accepted _ c.requires) _ c.pel2scu-sy.ensures _ _ _ _ _ _
+    c.done_near-left.ensures c.done_near-right.ensures c.done_near.ensures c.done_near-2.ensures
     c.done_near-3.ensures c.done_near-4.ensures
 
 pub intra_neighbours_spec : {M : Type 1} → statement M

@@ -22,9 +22,8 @@ returns-4 : tie.Need-returns-then-w-u
 returns-4 c = none_across _ _ _ _ _ _ _ (counted_in _ _ (omega arith) (omega arith)) (counted_past _ _ (omega arith))
 
 -- past the four tests the place is within the words
-place : (c : tie.Else-w-u) → let s = c.before.before.before.before in
-    let a = s.args in
-    (s.pel2scu-2.result.0 + a.b - 1) * (a.w / 4) + (s.pel2scu.result.0 + a.a - 1) < length a.words.now
+place : (c : tie.Else-w-u) → let a = c.args in
+    (c.pel2scu-2.result.0 + a.b - 1) * (a.w / 4) + (c.pel2scu.result.0 + a.a - 1) < length a.words.now
 place c = found_below _ _ _ _ _ (omega arith) (omega arith) (omega arith) (omega arith) c.requires.long
 
 mul_at : tie.Need-overflow_mul-at
@@ -41,11 +40,10 @@ shared_slice_read_result c = place c.before
 
 returns-5 : tie.Need-returns
 returns-5 c =
-    let s = c.before.before.before.before.before in
-    let a = s.args in
-    let p : s.pel2scu.result.0 ≡ a.x.0 / 4 = omega arith in
-    let q : s.pel2scu-2.result.0 ≡ a.y.0 / 4 = omega arith in
-    ap (λ (k : ℕ). word_at a.w a.words.now (k + a.a - 1) (s.pel2scu-2.result.0 + a.b - 1)) p
+    let a = c.args in
+    let p : c.pel2scu.result.0 ≡ a.x.0 / 4 = omega arith in
+    let q : c.pel2scu-2.result.0 ≡ a.y.0 / 4 = omega arith in
+    ap (λ (k : ℕ). word_at a.w a.words.now (k + a.a - 1) (c.pel2scu-2.result.0 + a.b - 1)) p
     ∙ ap (λ (k : ℕ). word_at a.w a.words.now (a.x.0 / 4 + a.a - 1) (k + a.b - 1)) q
     ∙ found _ _ _ _ _ _ _ (counted_in _ _ (omega arith) (omega arith)) (counted_in _ _ (omega arith) (omega arith))
 

@@ -37,8 +37,7 @@ value_requires c κs = search rules
 -- src/lib.rt:71:9
 returns-3 : tie.Need-returns-then-s-start-eq45
 returns-3 c =
-    let u = c.before.before.before.before in
-    number_below _ _ u.until-start.result _ (omega arith) u.until-start.ensures.0 u.until-stop.ensures.0 _ (λ e. omega arith) c.if-s-start-eq45.true c.value.ensures
+    number_below _ _ c.until-start.result _ (omega arith) c.until-start.ensures.0 c.until-stop.ensures.0 _ (λ e. omega arith) c.if-s-start-eq45.true c.value.ensures
 
 -- src/lib.rt:73:38
 value_requires_2 : tie.Need-value-requires-2
@@ -47,8 +46,7 @@ value_requires_2 c κs = search rules
 -- src/lib.rt:59:1
 returns-4 : tie.Need-returns
 returns-4 c =
-    let u = c.before.before.before.before in
-    number_above _ _ u.until-start.result _ (omega arith) u.until-start.ensures.0 u.until-stop.ensures.0 _ (λ e. omega arith) c.if-s-start-eq45.false c.value-2.ensures
+    number_above _ _ c.until-start.result _ (omega arith) c.until-start.ensures.0 c.until-stop.ensures.0 _ (λ e. omega arith) c.if-s-start-eq45.false c.value-2.ensures
 
 pub number_spec : {M : Type 1} → statement M
 number_spec =

@@ -12,8 +12,7 @@ front_long c = sym (length-take-le _ _ (omega arith))
 
 returns : tie.Need-returns
 returns c =
-    let l = c.before.before.before.before in
-    took _ _ _ _ _ _ _ _ l.number-n.ensures l.least-len.ensures.0 c.fill_u8-next.ensures
+    took _ _ _ _ _ _ _ _ c.number-n.ensures c.least-len.ensures.0 c.fill_u8-next.ensures
 
 pub slice_u8_spec : {M : Type 1} → statement M
 slice_u8_spec =

@@ -33,9 +33,8 @@ fill_requires c κs = let r = ready c.before in ((lengths _ _ r).t0, first_check
 
 copy_requires : tie.Need-copy-requires
 copy_requires c κs =
-    let f = c.before.before.before.before in
-    let l = lengths _ _ (ready f.before) in
-    omega (arith, f.fill.auto.0, l.t0, l.t1)
+    let l = lengths _ _ (ready c.before.before.before.before.before) in
+    omega (arith, c.fill.auto.t, l.t0, l.t1)
 
 fill_requires_2 : tie.Need-fill-requires-else-same_table
 fill_requires_2 c κs =
@@ -47,13 +46,11 @@ returns c = by_refusal _ _ _ c.checked_points.ensures c.in-Refused.is
 
 returns-2 : tie.Need-returns-then-same_table
 returns-2 c =
-    let f = c.before.before.before.before.before.before in
-    by_copy _ _ (ready f.before) _ _ f.fill.ensures c.if-same_table.true c.copy.ensures
+    by_copy _ _ (ready c.before.before.before.before.before.before.before) _ _ c.fill.ensures c.if-same_table.true c.copy.ensures
 
 returns-3 : tie.Need-returns-else-same_table
 returns-3 c =
-    let f = c.before.before.before.before.before in
-    by_both _ _ (ready f.before.before) _ _ f.fill.ensures c.if-same_table.false c.fill-else-same_table.ensures
+    by_both _ _ (ready c.before.before.before.before.before.before.before) _ _ c.fill.ensures c.if-same_table.false c.fill-else-same_table.ensures
 
 pub derived_chroma_qp_mapping_tables_spec : {M : Type 1} → statement M
 derived_chroma_qp_mapping_tables_spec =

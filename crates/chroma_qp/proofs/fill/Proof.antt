@@ -46,8 +46,7 @@ first_b : (c : tie.After-delta_out invariant-loop decreases-loop) → b_at (poin
 first_b c = delta_out_is _ _ (record { sfits = c.delta_out-arg-1.given }) c.delta_out.ensures.0
 
 -- pivot 0 is in range
-first : (c : tie.After-delta_out invariant-loop decreases-loop) → let at = c.before.before.before.before in
-    let i = at.args.s + c.delta_in.result in Tested (entry_qp at.args.s) (points at) 0 i (i + c.delta_out.result)
+first : (c : tie.After-delta_out invariant-loop decreases-loop) → let i = c.args.s + c.delta_in.result in Tested (entry_qp c.args.s) (points c.before.before.before.before) 0 i (i + c.delta_out.result)
 first c = first_range _ _ c.requires.1 _ _ (first_a c.before.before) (first_b c)
 
 sub_qp_out : tie.Need-overflow_sub-qp_out invariant-loop decreases-loop
@@ -58,9 +57,7 @@ fill_below_requires c κs = let r = first c.before in (c.requires.0, r.in_most, 
 
 loop_holds : tie.Need-loop-j-init invariant-loop decreases-loop
 loop_holds c =
-    let b = c.before.before.before in
-    let at = b.before.before.before.before in
-    rw c.fill_below.ensures (made_first _ _ at.requires.1 _ _ (first_a b.before.before) (first_b b) _ at.requires.0)
+    rw c.fill_below.ensures (made_first _ _ c.requires.1 _ _ (first_a c.before.before.before.before.before) (first_b c.before.before.before) _ c.requires.0)
 
 add_loop : tie.Need-overflow_add-j invariant-loop decreases-loop
 add_loop c = omega (arith, c.loop-j.invariant.within)
@@ -70,8 +67,7 @@ add_j c = omega arith
 
 shared_slice_copy_out_delta_in_2 : tie.Need-bounds-a-j invariant-loop decreases-loop
 shared_slice_copy_out_delta_in_2 c =
-    let at = c.before.before.before.before.before.before.before.before.before in
-    omega (arith, (countable _ _ at.requires.1.counted.points).most, at.requires.1.counted.a_long)
+    omega (arith, (countable _ _ c.requires.1.counted.points).most, c.requires.1.counted.a_long)
 
 add_n : tie.Need-overflow_add-n invariant-loop decreases-loop
 add_n c = omega arith
@@ -81,8 +77,7 @@ add_next c = omega (arith, c.loop-j.invariant.reached.out_most)
 
 shared_slice_copy_out_delta_out_2 : tie.Need-bounds-b-j invariant-loop decreases-loop
 shared_slice_copy_out_delta_out_2 c =
-    let at = c.before.before.before.before.before.before.before.before.before.before.before in
-    omega (arith, (countable _ _ at.requires.1.counted.points).most, at.requires.1.counted.b_long)
+    omega (arith, (countable _ _ c.requires.1.counted.points).most, c.requires.1.counted.b_long)
 
 add_next_2 : tie.Need-overflow_add-next-in-loop-j invariant-loop decreases-loop
 add_next_2 c = omega (arith, c.loop-j.invariant.reached.out_most)
@@ -91,20 +86,18 @@ add_next_2 c = omega (arith, c.loop-j.invariant.reached.out_most)
 point : (c : tie.After-delta_out-in-loop-j invariant-loop decreases-loop) → Next (points c.before.before.before.before.before.before.before.before.before.before.before.before.before)
     c.loop-j.j c.delta_in-n.result c.delta_out-in-loop-j.result
 point c =
-    let two = c.before.before in
     let p = points c.before.before.before.before.before.before.before.before.before.before.before.before.before in
     let j = c.loop-j.j in
     let there = c.loop-j-test.true in
     let k = countable _ _ c.requires.1.counted.points in
-    let a : a_at p (j + 1) ≡ pos two.delta_in-n.result =
-    delta_in_is _ _ (record { sfits = two.delta_in-arg-in-loop-j-1.given }) (k.not_below _ there) two.delta_in-n.ensures.0 in
+    let a : a_at p (j + 1) ≡ pos c.delta_in-n.result =
+    delta_in_is _ _ (record { sfits = c.delta_in-arg-in-loop-j-1.given }) (k.not_below _ there) c.delta_in-n.ensures.0 in
     let b : b_at p (j + 1) ≡ pos c.delta_out-in-loop-j.result -ℤ pos 128 =
     delta_out_is _ _ (record { sfits = c.delta_out-arg-in-loop-j-1.given }) c.delta_out-in-loop-j.ensures.0 in
     record { there = omega (arith, there); at_a = rw (add-one j) at a; at_b = rw (add-one j) at b }
 
-next : (c : tie.After-delta_out-in-loop-j invariant-loop decreases-loop) → let at = c.before.before.before.before.before.before.before.before.before.before.before.before.before in
-    let l = c.loop-j in
-    let n = c.delta_in-n.result + 1 in Tested (entry_qp at.args.s) (points at) (suc l.j) (l.qp_in + n) (l.qp_out + n + c.delta_out-in-loop-j.result)
+next : (c : tie.After-delta_out-in-loop-j invariant-loop decreases-loop) → let l = c.loop-j in
+    let n = c.delta_in-n.result + 1 in Tested (entry_qp c.args.s) (points c.before.before.before.before.before.before.before.before.before.before.before.before.before) (suc l.j) (l.qp_in + n) (l.qp_out + n + c.delta_out-in-loop-j.result)
 next c = next_range _ _ c.requires.1 _ _ _ _ _
     c.loop-j.invariant _ _ (point c)
 
@@ -121,29 +114,25 @@ add_qp_in_2 : tie.Need-overflow_add-qp_in-in-loop-j invariant-loop decreases-loo
 add_qp_in_2 c = omega (arith, (next c.before.before.before).in_most)
 
 held_at_requires : tie.Need-held_at-v-requires invariant-loop decreases-loop
-held_at_requires c κs =
-    let two = c.before.before.before.before in
-    let l = two.before.before.before.before.before in (
-      omega (arith, c.fill_between.auto.0, l.loop-j.invariant.filled.long, (next two).in_most),
-      next_entry _ _ l.requires.1 _ _ _ _ _ l.loop-j.invariant _ _ (point two) _ c.fill_between.ensures,
-    )
+held_at_requires c κs = (
+  omega (arith, c.fill_between.auto.t, c.loop-j.invariant.filled.long, (next c.before.before.before).in_most),
+  next_entry _ _ c.requires.1 _ _ _ _ _ c.loop-j.invariant _ _ (point c.before.before.before) _ c.fill_between.ensures,
+)
 
 loop_less : tie.Need-loop-j-smaller invariant-loop decreases-loop
 loop_less c = omega (arith, c.loop-j-test.true)
 
 loop_again : tie.Need-loop-j-preserved invariant-loop decreases-loop
 loop_again c =
-    let two = c.before.before.before.before.before in
-    let l = two.before.before.before.before.before in
-    rw (add-one l.loop-j.j)
-    (made_next _ _ l.requires.1 _ _ _ _ _ l.loop-j.invariant _ _ (point two) _
+    rw (add-one c.loop-j.j)
+    (made_next _ _ c.requires.1 _ _ _ _ _ c.loop-j.invariant _ _ (point c.before.before.before.before) _
     c.fill_between.ensures _ c.held_at-v.ensures)
 
 fill_past_requires : tie.Need-fill_past-requires invariant-loop decreases-loop
 fill_past_requires c κs = let m = c.loop-j.invariant in (m.filled.long, m.reached.in_most, omega (arith, m.reached.in_most, m.reached.most, m.reached.out_most))
 
 same_length : tie.Need-shape_of-t invariant-loop decreases-loop
-same_length c = c.fill_past.auto.0 ∙ c.loop-j.invariant.filled.long
+same_length c = c.fill_past.auto.t ∙ c.loop-j.invariant.filled.long
     ∙ sym c.requires.0
 
 returns : tie.Need-returns invariant-loop decreases-loop

@@ -25,8 +25,7 @@ put_requires c κs =
 
 returns : tie.Need-returns-then-n-eq1 invariant-loop decreases-loop
 returns c =
-    let s = c.before.before.before.before in
-    let a = s.args in
+    let a = c.args in
     let one = c.if-n-eq1.true in
     rowed_all _ _ _ _ _ _ 1 (sym one)
     (row_more _ _ _ _ _ 0 _ _ (omega arith) (omega arith) c.put.ensures

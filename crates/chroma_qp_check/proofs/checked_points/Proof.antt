@@ -46,17 +46,15 @@ second_points_ok_requires c κs = (lengths c.before.before).a1
 
 returns-3 : tie.Need-returns-then-not-second_points_ok
 returns-3 c =
-    let two = c.before.before in
-    at_second_points _ (past_1 two.before.before) (past_2 two) (sym c.second_points_ok.ensures ∙ c.if-not-second_points_ok.true)
+    at_second_points _ (past_1 c.before.before.before.before) (past_2 c.before.before) (sym c.second_points_ok.ensures ∙ c.if-not-second_points_ok.true)
 
 past_3 : (c : tie.Else-not-second_points_ok) → let i = input c.before.before.before.before.before.before in (i.same_table || points_ok i.second.count i.second.a) ≡ true
 past_3 c = sym c.second_points_ok.ensures ∙ c.if-not-second_points_ok.false
 
 pivots_ok_requires : tie.Need-pivots_ok-requires
 pivots_ok_requires c κs =
-    let two = c.before.before.before in
-    let l = lengths two.before.before in
-    record { start = c.start_qp-s.ensures.1; a_long = l.a0; b_long = l.b0; points = past_2 two }
+    let l = lengths c.before.before.before.before.before in
+    record { start = c.start_qp-s.ensures.1; a_long = l.a0; b_long = l.b0; points = past_2 c.before.before.before }
 
 -- what `pivots_ok` answers, at the start itself
 first_pivots : (c : tie.After-pivots_ok) → let i = input c.before.before.before.before.before.before.before.before in c.pivots_ok.result ≡ pivots_ok (input_start i) i.first
@@ -66,18 +64,15 @@ first_pivots c =
 
 returns-4 : tie.Need-returns-then-not-pivots_ok
 returns-4 c =
-    let three = c.before.before.before in
-    let two = three.before.before in
-    at_first_pivots _ (past_1 two.before.before) (past_2 two) (past_3 three) (sym (first_pivots c.before) ∙ c.if-not-pivots_ok.true)
+    at_first_pivots _ (past_1 c.before.before.before.before.before.before.before) (past_2 c.before.before.before.before.before) (past_3 c.before.before.before) (sym (first_pivots c.before) ∙ c.if-not-pivots_ok.true)
 
 past_4 : (c : tie.Else-not-pivots_ok) → let i = input c.before.before.before.before.before.before.before.before.before in pivots_ok (input_start i) i.first ≡ true
 past_4 c = sym (first_pivots c.before) ∙ c.if-not-pivots_ok.false
 
 second_pivots_ok_requires : tie.Need-second_pivots_ok-requires
 second_pivots_ok_requires c κs =
-    let three = c.before.before.before in
-    let l = lengths three.before.before.before.before in
-    (c.start_qp-s.ensures.1, l.a1, l.b1, past_3 three)
+    let l = lengths c.before.before.before.before.before.before.before in
+    (c.start_qp-s.ensures.1, l.a1, l.b1, past_3 c.before.before.before)
 
 second_pivots : (c : tie.After-second_pivots_ok) → let i = input c.before.before.before.before.before.before.before.before.before.before in
     c.second_pivots_ok.result ≡ (i.same_table || pivots_ok (input_start i) i.second)
@@ -87,22 +82,16 @@ second_pivots c =
 
 returns-5 : tie.Need-returns-then-not-second_pivots_ok
 returns-5 c =
-    let four = c.before.before in
-    let three = four.before.before.before in
-    let two = three.before.before in
-    at_second_pivots _ (past_1 two.before.before) (past_2 two) (past_3 three) (past_4 four) (sym (second_pivots c.before) ∙ c.if-not-second_pivots_ok.true)
+    at_second_pivots _ (past_1 c.before.before.before.before.before.before.before.before.before) (past_2 c.before.before.before.before.before.before.before) (past_3 c.before.before.before.before.before) (past_4 c.before.before) (sym (second_pivots c.before) ∙ c.if-not-second_pivots_ok.true)
 
 returns-6 : tie.Need-returns
 returns-6 c =
-    let four = c.before.before in
-    let three = four.before.before.before in
-    let two = three.before.before in
     past_all _
     (record {
-      lengths = past_1 two.before.before;
-      first_points = past_2 two;
-      second_points = past_3 three;
-      first_pivots = past_4 four;
+      lengths = past_1 c.before.before.before.before.before.before.before.before.before;
+      first_points = past_2 c.before.before.before.before.before.before.before;
+      second_points = past_3 c.before.before.before.before.before;
+      first_pivots = past_4 c.before.before;
       second_pivots = sym (second_pivots c.before) ∙ c.if-not-second_pivots_ok.false;
     })
 

@@ -82,13 +82,12 @@ add_qp_out c = omega (arith, c.requires.start)
 
 loop_holds : tie.Need-loop-qp_in-init invariant-loop decreases-loop
 loop_holds c =
-    let at = c.before.before.before.before in
     record {
-      within = (countable _ _ at.requires.points).some;
+      within = (countable _ _ c.requires.points).some;
       passed = scan_none _;
-      held = held_first _ _ at.args.s _ _ refl (first_a c.before.before) (delta_out_is _ _ (record { sfits = c.delta_out-arg-1.given }) c.delta_out.ensures.0);
-      in_small = omega (arith, at.requires.start);
-      out_small = omega (arith, at.requires.start);
+      held = held_first _ _ c.args.s _ _ refl (first_a c.before.before) (delta_out_is _ _ (record { sfits = c.delta_out-arg-1.given }) c.delta_out.ensures.0);
+      in_small = omega (arith, c.requires.start);
+      out_small = omega (arith, c.requires.start);
     }
 
 add_j : tie.Need-overflow_add-j invariant-loop decreases-loop
@@ -103,8 +102,7 @@ more_of c = omega (arith, c.loop-qp_in.invariant.within)
 
 shared_slice_copy_out_delta_in_2 : tie.Need-bounds-a-j invariant-loop decreases-loop
 shared_slice_copy_out_delta_in_2 c =
-    let at = c.before.before.before.before.before.before.before in
-    omega (arith, more_of c, (countable _ _ at.requires.points).most, at.requires.a_long)
+    omega (arith, more_of c, (countable _ _ c.requires.points).most, c.requires.a_long)
 
 add_n : tie.Need-overflow_add-n invariant-loop decreases-loop
 add_n c = omega arith
@@ -120,8 +118,7 @@ add_qp_out_2 c = omega (arith, c.loop-qp_in.invariant.out_small)
 
 shared_slice_copy_out_delta_out_2 : tie.Need-bounds-b-j invariant-loop decreases-loop
 shared_slice_copy_out_delta_out_2 c =
-    let at = c.before.before.before.before.before.before.before.before.before in
-    omega (arith, more_of c.before.before, (countable _ _ at.requires.points).most, at.requires.b_long)
+    omega (arith, more_of c.before.before, (countable _ _ c.requires.points).most, c.requires.b_long)
 
 add_qp_out_3 : tie.Need-overflow_add-qp_out-in-loop-qp_in-2 invariant-loop decreases-loop
 add_qp_out_3 c = omega (arith, c.loop-qp_in.invariant.out_small)
@@ -131,13 +128,11 @@ loop_less c = omega (arith, c.loop-qp_in.invariant.within)
 
 loop_again : tie.Need-loop-qp_in-preserved invariant-loop decreases-loop
 loop_again c =
-    let two = c.before.before in
-    let at = two.before.before.before in
-    let h = more_of two.before.before in
-    let k = countable _ _ two.requires.points in
-    next _ _ _ _ _ at.loop-qp_in.invariant at.loop-qp_in-test.true _ _ h
-    (delta_in_is _ _ (record { sfits = two.delta_in-arg-in-loop-qp_in-1.given }) (k.not_below _ h) two.delta_in-n.ensures.0)
-    two.delta_in-n.ensures.1
+    let h = more_of c.before.before.before.before in
+    let k = countable _ _ c.requires.points in
+    next _ _ _ _ _ c.loop-qp_in.invariant c.loop-qp_in-test.true _ _ h
+    (delta_in_is _ _ (record { sfits = c.delta_in-arg-in-loop-qp_in-1.given }) (k.not_below _ h) c.delta_in-n.ensures.0)
+    c.delta_in-n.ensures.1
     (delta_out_is _ _ (record { sfits = c.delta_out-arg-in-loop-qp_in-1.given }) c.delta_out-in-loop-qp_in.ensures.0)
     c.delta_out-in-loop-qp_in.ensures.1
 

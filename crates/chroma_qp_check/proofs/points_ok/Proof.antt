@@ -57,8 +57,7 @@ shared_slice_copy_out_if3 c = omega arith
 
 returns-3 : tie.Need-returns-then-a-j-lt0 invariant-loop decreases-loop
 returns-3 c =
-    let at = c.before.before in
-    below_zero _ _ at.loop-j.j (omega arith) (byte_sign (this at) true (record { sfits = c.t7-1.given }) c.if-a-j-lt0.true)
+    below_zero _ _ c.loop-j.j (omega arith) (byte_sign (this c.before.before) true (record { sfits = c.t7-1.given }) c.if-a-j-lt0.true)
 
 add_j : tie.Need-overflow_add-j invariant-loop decreases-loop
 add_j c = omega arith
@@ -67,11 +66,10 @@ loop_less : tie.Need-loop-j-smaller invariant-loop decreases-loop
 loop_less c = omega arith
 
 loop_again : tie.Need-loop-j-preserved invariant-loop decreases-loop
-loop_again c =
-    let at = c.before.before in (
-      omega arith,
-      scan_more _ _ at.loop-j.invariant.1 (byte_sign (this at) false (record { sfits = c.t7-1.given }) c.if-a-j-lt0.false),
-    )
+loop_again c = (
+  omega arith,
+  scan_more _ _ c.loop-j.invariant.1 (byte_sign (this c.before.before) false (record { sfits = c.t7-1.given }) c.if-a-j-lt0.false),
+)
 
 returns-4 : tie.Need-returns invariant-loop decreases-loop
 returns-4 c =

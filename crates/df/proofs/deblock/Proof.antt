@@ -37,8 +37,8 @@ deblock_spec =
     (tie.spec
     (λ c. refl)
     (λ c κs. tt)
-    (λ c. c.deblock_by_rows.auto.1.1.0)
-    (λ c. c.deblock_by_rows.auto.1.1.1.0)
-    (λ c. c.deblock_by_rows.auto.1.1.1.1.0)
-    (λ c. c.deblock_by_rows.auto.1.1.1.1.1.0)
+    (λ c. c.deblock_by_rows.auto.y)
+    (λ c. c.deblock_by_rows.auto.u)
+    (λ c. c.deblock_by_rows.auto.v)
+    (λ c. c.deblock_by_rows.auto.words)
     returns)

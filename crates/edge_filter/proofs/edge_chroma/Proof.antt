@@ -8,17 +8,15 @@ use Rattle.edge_filter.proofs.edge_chroma.Tie as tie
 
 returns : tie.Need-returns-then-marks-eq0
 returns c =
-    let back = c.before.before.before.before.before.before.before in
-    let e = back.requires in
+    let e = c.requires in
     let r = c.window_chroma.ensures in
-    let k = back.if-marks-eq0.true in
+    let k = c.if-marks-eq0.true in
     (edge_bare Chroma _ _ _ _ _ _ k (omega (arith, e)) r.0, edge_bare Chroma _ _ _ _ _ _ k (omega (arith, e)) r.1)
 
 returns-2 : tie.Need-returns
 returns-2 c =
-    let back = c.before.before.before.before.before.before.before in
-    let m = back.mask_by-inner.ensures in
-    let e = back.if-marks-eq0.false in
+    let m = c.mask_by-inner.ensures in
+    let e = c.if-marks-eq0.false in
     (edge_kept Chroma _ _ _ _ _ _ e m c.window_kept.ensures, edge_kept Chroma _ _ _ _ _ _ e m c.window_kept-2.ensures)
 
 pub edge_chroma_spec : {M : Type 1} → statement M

@@ -38,10 +38,9 @@ loop_less c = let t = c.turn_chroma-i.ensures.0 in omega (arith, t.on, t.within)
 
 loop_again : tie.Need-loop-i-preserved invariant-loop decreases-loop
 loop_again c =
-    let back = c.before.before.before.before.before.before.before in
     let t = c.turn_chroma-i.ensures in
     let k = c.turn_chroma-i.auto in
-    let l = back.loop-i.invariant in
+    let l = c.loop-i.invariant in
     (t.0.within, k.1.1.0 ∙ l.1, k.1.1.1.0 ∙ l.2, t.0.done _ l.3, t.1.done _ l.4)
 
 returns : tie.Need-returns invariant-loop decreases-loop

@@ -30,13 +30,12 @@ strength_at_requires_2 c κs = omega arith
 
 returns : tie.Need-returns-then-u0-v0
 returns c =
-    let s = c.before.before.before.before.before.before in
-    let a = s.args in
+    let a = c.args in
     let u₀ = c.strength_at-u0 in
     let v₀ = c.strength_at-v0 in
     let q₀ = sym (λ k. eqb (u₀.ensures k) 0 && eqb (v₀.ensures k) 0) ∙ c.if-u0-v0.true in (
-      turn_quiet (quiet_chroma a.entries.now a.places.now) _ 208 Chroma (pass_of a.pass) _ _ _ _ a.n a.i a.u.now s.requires.1 q₀,
-      turn_quiet (quiet_chroma a.entries.now a.places.now) _ 416 Chroma (pass_of a.pass) _ _ _ _ a.n a.i a.v.now s.requires.1 q₀,
+      turn_quiet (quiet_chroma a.entries.now a.places.now) _ 208 Chroma (pass_of a.pass) _ _ _ _ a.n a.i a.u.now c.requires.1 q₀,
+      turn_quiet (quiet_chroma a.entries.now a.places.now) _ 416 Chroma (pass_of a.pass) _ _ _ _ a.n a.i a.v.now c.requires.1 q₀,
     )
 
 strength_at_requires_3 : tie.Need-strength_at-u1-requires
@@ -60,23 +59,21 @@ own_loud c =
 
 add_result_2 : tie.Need-overflow_add-result-then-two_chroma
 add_result_2 c =
-    let tried = c.before.before.before.before.before in
-    omega (arith, (start (first tried)).requires.2, tried.after-j.ensures.2)
+    omega (arith, (start (first c.before.before.before.before.before)).requires.2, c.after-j.ensures.2)
 
 returns-2 : tie.Need-returns-then-two_chroma
 returns-2 c =
-    let tried = c.before.before.before.before.before in
-    let own = first tried in
+    let own = first c.before.before.before.before.before in
     let a = (start own).args in
     let q₀ = own_loud own in
     let u₀ = own.before.before.strength_at.ensures in
     let v₀ = own.before.strength_at2.ensures in
-    let p = tried.chroma_place-p.ensures in
-    let r = tried.after-j in
-    let u₁ = tried.strength_at-u1 in
-    let v₁ = tried.strength_at-v1 in
+    let p = c.chroma_place-p.ensures in
+    let r = c.after-j in
+    let u₁ = c.strength_at-u1 in
+    let v₁ = c.strength_at-v1 in
     let q₁ = heard u₁.result v₁.result _ _ u₁.ensures v₁.ensures in
-    let t = tried.two_chroma.ensures in (
+    let t = c.two_chroma.ensures in (
       turn_pair (quiet_chroma a.entries.now a.places.now) _ 208 Chroma (pass_of a.pass) _ _ _ _ _ a.n a.i r.result _ _ _ _ a.u.now _
           r.ensures.0 r.ensures.1 r.ensures.2 q₀ q₁ u₀ u₁.ensures p c.if-two_chroma.true t.0,
       turn_pair (quiet_chroma a.entries.now a.places.now) _ 416 Chroma (pass_of a.pass) _ _ _ _ _ a.n a.i r.result _ _ _ _ a.v.now _
@@ -94,9 +91,8 @@ marked c = let s = start (first (tried c.before.before.before)) in omega (arith,
 -- both planes are as they were
 edge_chroma_requires : tie.Need-edge_chroma-requires
 edge_chroma_requires c κs =
-    let d = c.before.before.before in
-    let t = (tried d.before).two-chroma.ensures in
-    ap length (pair_left d.if-two_chroma.false t.0) ∙ (start (first (tried d.before))).requires.3 ∙ sym (ap length (pair_left d.if-two_chroma.false t.1))
+    let t = (tried c.before.before.before.before).two-chroma.ensures in
+    ap length (pair_left c.if-two_chroma.false t.0) ∙ (start (first (tried c.before.before.before.before))).requires.3 ∙ sym (ap length (pair_left c.if-two_chroma.false t.1))
 
 add_result_3 : tie.Need-overflow_add-result-2
 add_result_3 c =
@@ -105,20 +101,19 @@ add_result_3 c =
 
 returns-3 : tie.Need-returns
 returns-3 c =
-    let d = c.before.before.before.before.before.before.before.before in
-    let own = first (tried d.before) in
+    let own = first (tried c.before.before.before.before.before.before.before.before.before) in
     let s = start own in
     let a = s.args in
     let q₀ = own_loud own in
     let u₀ = own.before.before.strength_at in
     let v₀ = own.before.strength_at2 in
-    let p = (tried d.before).before.before.before.before.before.before.before.chroma-place in
-    let two = (tried d.before).two-chroma.ensures in
+    let p = (tried c.before.before.before.before.before.before.before.before.before).before.before.before.before.before.before.before.chroma-place in
+    let two = (tried c.before.before.before.before.before.before.before.before.before).two-chroma.ensures in
     let t = c.edge_chroma.ensures in (
       turn_edge (quiet_chroma a.entries.now a.places.now) _ 208 Chroma (pass_of a.pass) _ _ _ _ a.n a.i _ _ a.u.now _ s.pre.1
-          q₀ u₀.ensures p.ensures (t.0 ∙ ap (edge_of Chroma _ u₀.result p.result) (pair_left d.if-two_chroma.false two.0)),
+          q₀ u₀.ensures p.ensures (t.0 ∙ ap (edge_of Chroma _ u₀.result p.result) (pair_left c.if-two_chroma.false two.0)),
       turn_edge (quiet_chroma a.entries.now a.places.now) _ 416 Chroma (pass_of a.pass) _ _ _ _ a.n a.i _ _ a.v.now _ s.pre.1
-          q₀ v₀.ensures p.ensures (t.1 ∙ ap (edge_of Chroma _ v₀.result p.result) (pair_left d.if-two_chroma.false two.1)),
+          q₀ v₀.ensures p.ensures (t.1 ∙ ap (edge_of Chroma _ v₀.result p.result) (pair_left c.if-two_chroma.false two.1)),
     )
 
 pub turn_chroma_spec : {M : Type 1} → statement M

@@ -17,9 +17,8 @@ strength_at_requires c κs = omega arith
 
 returns : tie.Need-returns-then-s0-eq0
 returns c =
-    let s = c.before.before.before.before in
-    let a = s.args in
-    turn_quiet (quiet_luma a.entries.now a.places.now) _ 0 Luma (pass_of a.pass) _ _ _ _ a.n a.i a.y.now s.requires.1
+    let a = c.args in
+    turn_quiet (quiet_luma a.entries.now a.places.now) _ 0 Luma (pass_of a.pass) _ _ _ _ a.n a.i a.y.now c.requires.1
     (eq-eqb _ 0 (sym c.strength_at-s0.ensures ∙ c.if-s0-eq0.true))
 
 strength_at_requires_2 : tie.Need-strength_at-s1-requires
@@ -38,12 +37,11 @@ returns-2 c =
 
 returns-3 : tie.Need-returns
 returns-3 c =
-    let s = c.before.before.before.before.before.before.before.before.before.before.before.before.before.before.before.before.before.before in
-    let a = s.args in
+    let a = c.args in
     let s₀ = c.strength_at-s0 in
     let p = c.luma_place-p in
     let e = pair_left c.if-two_luma.false c.two_luma.ensures in
-    turn_edge (quiet_luma a.entries.now a.places.now) _ 0 Luma (pass_of a.pass) _ _ _ _ a.n a.i _ _ a.y.now _ s.requires.1
+    turn_edge (quiet_luma a.entries.now a.places.now) _ 0 Luma (pass_of a.pass) _ _ _ _ a.n a.i _ _ a.y.now _ c.requires.1
     (ne_eqb _ 0 (λ e. c.if-s0-eq0.false (s₀.ensures ∙ e))) s₀.ensures p.ensures
     (c.edge_luma.ensures ∙ ap (edge_of Luma _ s₀.result p.result) e)
 

@@ -72,20 +72,17 @@ unit_at_requires : tie.Need-unit_at-q-requires invariant-loop decreases-loop
 unit_at_requires c κs = (fits c.before.before).few
 
 -- Q of a turn's edge
-is_q : (c : tie.After-unit_at-q invariant-loop decreases-loop) → let s = c.before.before.before.before.before.before.before.before.before.before.before.before.before.before in
-    c.unit_at-q.result ≡ unit_q s.args.columns (edge_from s.args.list.now c.loop-k.k)
+is_q : (c : tie.After-unit_at-q invariant-loop decreases-loop) → c.unit_at-q.result ≡ unit_q c.args.columns (edge_from c.args.list.now c.loop-k.k)
 is_q c = c.unit_at-q.ensures
 
 -- the test of its units
-tested : (c : tie.After-has_units invariant-loop decreases-loop) → let s = c.before.before.before.before.before.before.before.before.before.before.before.before.before.before.before in
-    c.has_units.result ≡ told (of s) c.loop-k.k
+tested : (c : tie.After-has_units invariant-loop decreases-loop) → c.has_units.result ≡ told (of c.before.before.before.before.before.before.before.before.before.before.before.before.before.before.before) c.loop-k.k
 tested c =
     c.has_units.ensures ∙ (λ t. has_units (c.step_across-step.ensures t)
     (c.units_in-units.ensures t) (is_q c.before t))
 
 -- where it passes
-passed : (c : tie.Then-has_units invariant-loop decreases-loop) → let d = c.before.before in
-    Both d.step_across-step.result d.units_in-units.result d.unit_at-q.result
+passed : (c : tie.Then-has_units invariant-loop decreases-loop) → Both c.step_across-step.result c.units_in-units.result c.unit_at-q.result
 passed c = both_units _ _ _ (sym c.has_units.ensures ∙ c.if-has_units.true)
 
 unit_of_lem : (c : tie.Then-has_units invariant-loop decreases-loop) → let a = c.args in
@@ -101,22 +98,22 @@ place_at_requires c κs = ((unit_of_lem c).word, omega (arith, (unit_of_lem c).w
 
 slice_write_places : tie.Need-bounds-places-k invariant-loop decreases-loop
 slice_write_places c =
-    let t = c.before.before.before.before.before.before in omega (arith, (fits t).place, t.loop-k.invariant.1.long)
+    omega (arith, (fits c.before.before.before.before.before.before).place, c.loop-k.invariant.1.long)
 
 marks_at_requires : tie.Need-marks_at-requires invariant-loop decreases-loop
 marks_at_requires c κs = ((unit_of_lem c.before).mark, omega (arith, (unit_of_lem c.before).mark))
 
 slice_write_marks : tie.Need-bounds-marks-k invariant-loop decreases-loop
 slice_write_marks c =
-    let t = c.before.before.before.before.before.before.before in omega (arith, (fits t).mark, t.loop-k.invariant.2.long)
+    omega (arith, (fits c.before.before.before.before.before.before.before).mark, c.loop-k.invariant.2.long)
 
 slice_write_places_2 : tie.Need-bounds-places-k-else-has_units invariant-loop decreases-loop
 slice_write_places_2 c =
-    let t = c.before.before.before.before.before in omega (arith, (fits t).place, t.loop-k.invariant.1.long)
+    omega (arith, (fits c.before.before.before.before.before).place, c.loop-k.invariant.1.long)
 
 slice_write_marks_2 : tie.Need-bounds-marks-k-else-has_units invariant-loop decreases-loop
 slice_write_marks_2 c =
-    let t = c.before.before.before.before.before in omega (arith, (fits t).mark, t.loop-k.invariant.2.long)
+    omega (arith, (fits c.before.before.before.before.before).mark, c.loop-k.invariant.2.long)
 
 add_k : tie.Need-overflow_step-k invariant-loop decreases-loop
 add_k c = omega (arith, c.loop-k-test.true)
@@ -129,42 +126,33 @@ stored : (f : ℕ → ℕ) {l₀ l m : List ℕ} {k v : ℕ} → k < length l₀
 stored f {l₀} {l} {m} {k} {v} h e g u = subst (λ (x : List ℕ). Upto 0 f l₀ x (k + 1)) (sym g) (upto_more 0 f l₀ l k v h e u)
 
 -- a turn's place and marks are those of its units
-place_of : (c : tie.After-place_at invariant-loop decreases-loop) → let t = c.before.before.before.before.before.before.before in
-    c.place_at.result ≡ planned_place (of t.before.before.before.before.before.before.before.before.before.before) t.loop-k.k
+place_of : (c : tie.After-place_at invariant-loop decreases-loop) → c.place_at.result ≡ planned_place (of c.before.before.before.before.before.before.before.before.before.before.before.before.before.before.before.before.before) c.loop-k.k
 place_of c =
-    let d = c.before.before in
-    let s = d.before.before.before.before.before.before.before.before.before.before.before.before.before.before.before in
-    let a = s.args in
-    let q = is_q d.before in
-    let w = d.step_across-step.ensures in
+    let a = c.args in
+    let q = is_q c.before.before.before in
+    let w = c.step_across-step.ensures in
     c.place_at.ensures ∙ (λ t. place_in (pass_of a.horizontal) a.words.now a.motion.now a.refs.now a.rows.now (q t) (q t - w t))
-    ∙ place_told (of s) d.loop-k.k (sym (tested d) ∙ c.if-has_units.true)
+    ∙ place_told (of c.before.before.before.before.before.before.before.before.before.before.before.before.before.before.before.before.before) c.loop-k.k (sym (tested c.before.before) ∙ c.if-has_units.true)
 
-marks_of : (c : tie.After-marks_at invariant-loop decreases-loop) → let t = c.before.before.before.before.before.before.before.before in
-    c.marks_at.result ≡ planned_marks (of t.before.before.before.before.before.before.before.before.before.before) t.loop-k.k
+marks_of : (c : tie.After-marks_at invariant-loop decreases-loop) → c.marks_at.result ≡ planned_marks (of c.before.before.before.before.before.before.before.before.before.before.before.before.before.before.before.before.before.before) c.loop-k.k
 marks_of c =
-    let d = c.before.before.before in
-    let s = d.before.before.before.before.before.before.before.before.before.before.before.before.before.before.before in
-    let q = is_q d.before in
-    let w = d.step_across-step.ensures in
-    c.marks_at.ensures ∙ (λ t. marks_in s.args.keep.now (q t) (q t - w t))
-    ∙ marks_told (of s) d.loop-k.k (sym (tested d) ∙ c.if-has_units.true)
+    let q = is_q c.before.before.before.before in
+    let w = c.step_across-step.ensures in
+    c.marks_at.ensures ∙ (λ t. marks_in c.args.keep.now (q t) (q t - w t))
+    ∙ marks_told (of c.before.before.before.before.before.before.before.before.before.before.before.before.before.before.before.before.before.before) c.loop-k.k (sym (tested c.before.before.before) ∙ c.if-has_units.true)
 
 loop_again : tie.Need-loop-k-preserved invariant-loop decreases-loop
 loop_again c =
-    let d = c.before in
-    let t = d.before.before.before.before in
-    let s = d.before.before.before.before.before.before.before.before.before.before.before.before.before.before.before in
-    let l = t.loop-k in (
-      omega (arith, t.loop-k-test.true),
+    let l = c.loop-k in (
+      omega (arith, c.loop-k-test.true),
       ⊎_elim
-          (λ w. stored (planned_place (of s)) (fits t).place (place_of (record { before = record { before = d; if1 = w.0 }; place_at = w.1 })) w.3 l.invariant.1)
-          (λ w. stored (planned_place (of s)) (fits t).place (place_untold (of s) l.k (sym (tested d) ∙ w.0.left)) w.1 l.invariant.1)
+          (λ w. stored (planned_place (of c.before.before.before.before.before.before.before.before.before.before.before.before.before.before.before.before)) (fits c.before.before.before.before.before).place (place_of (record { before = record { before = c; if1 = w.0 }; place_at = w.1 })) w.3 l.invariant.1)
+          (λ w. stored (planned_place (of c.before.before.before.before.before.before.before.before.before.before.before.before.before.before.before.before)) (fits c.before.before.before.before.before).place (place_untold (of c.before.before.before.before.before.before.before.before.before.before.before.before.before.before.before.before) l.k (sym (tested c.before) ∙ w.0.left)) w.1 l.invariant.1)
           c.if-has_units.branch,
       ⊎_elim
-          (λ w. stored (planned_marks (of s)) (fits t).mark
-          (marks_of (record { before = record { before = record { before = d; if1 = w.0 }; place_at = w.1 }; marks-at = w.2 })) w.4 l.invariant.2)
-          (λ w. stored (planned_marks (of s)) (fits t).mark (marks_untold (of s) l.k (sym (tested d) ∙ w.0.left)) w.2 l.invariant.2)
+          (λ w. stored (planned_marks (of c.before.before.before.before.before.before.before.before.before.before.before.before.before.before.before.before)) (fits c.before.before.before.before.before).mark
+          (marks_of (record { before = record { before = record { before = c; if1 = w.0 }; place_at = w.1 }; marks-at = w.2 })) w.4 l.invariant.2)
+          (λ w. stored (planned_marks (of c.before.before.before.before.before.before.before.before.before.before.before.before.before.before.before.before)) (fits c.before.before.before.before.before).mark (marks_untold (of c.before.before.before.before.before.before.before.before.before.before.before.before.before.before.before.before) l.k (sym (tested c.before) ∙ w.0.left)) w.2 l.invariant.2)
           c.if-has_units.branch,
     )
 

@@ -7,17 +7,15 @@ use Rattle.edges.proofs.leaf_edges.Tie as tie
 
 near_edge_requires : tie.Need-near_edge-k-requires
 near_edge_requires c κs =
-    let s = c.before.before in
-    (s.requires.0, near_room _ _ s.args.side s.requires.2 s.requires.3)
+    (c.requires.0, near_room _ _ c.args.side c.requires.2 c.requires.3)
 
 put_stretch_requires : tie.Need-put_stretch-requires
 put_stretch_requires c κs =
-    let s = c.before.before.before.before.before.before.before.before in
-    let a = s.args in
+    let a = c.args in
     let e = whole_root a.halved a.side c.if-halved-side.true in
     let n = c.near_edge-k in (
-      half_starts _ _ _ s.requires.0 s.requires.1 e,
-      half_room a.horizontal a.cross.0 a.along.0 a.at _ _ a.side e n.ensures.count (omega (arith, s.requires.3, n.auto.1.1.1.1.0)),
+      half_starts _ _ _ c.requires.0 c.requires.1 e,
+      half_room a.horizontal a.cross.0 a.along.0 a.at _ _ a.side e n.ensures.count (omega (arith, c.requires.3, n.auto.1.1.1.1.0)),
     )
 
 returns : tie.Need-returns-then-halved-side

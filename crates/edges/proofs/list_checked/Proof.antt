@@ -25,27 +25,21 @@ returns c = stops _ _ _ _ c.size_ok.ensures c.if-not-size_ok.true-raw
 returns-2 : tie.Need-returns-then-not-list_lengths_ok
 unfolding check_of
 returns-2 c =
-    let d = c.before.before in
-    goes_on _ _ _ _ _ d.size_ok.ensures d.if-not-size_ok.false-raw (stops _ _ _ _ c.list_lengths_ok.ensures c.if-not-list_lengths_ok.true-raw)
+    goes_on _ _ _ _ _ c.size_ok.ensures c.if-not-size_ok.false-raw (stops _ _ _ _ c.list_lengths_ok.ensures c.if-not-list_lengths_ok.true-raw)
 
 returns-3 : tie.Need-returns-then-not-limit_ok
 unfolding check_of
 returns-3 c =
-    let e = c.before.before in
-    let d = e.before.before in
-    goes_on _ _ _ _ _ d.size_ok.ensures d.if-not-size_ok.false-raw
-    (goes_on _ _ _ _ _ e.list_lengths_ok.ensures e.if-not-list_lengths_ok.false-raw (stops _ _ _ _ c.limit_ok.ensures c.if-not-limit_ok.true-raw))
+    goes_on _ _ _ _ _ c.size_ok.ensures c.if-not-size_ok.false-raw
+    (goes_on _ _ _ _ _ c.list_lengths_ok.ensures c.if-not-list_lengths_ok.false-raw (stops _ _ _ _ c.limit_ok.ensures c.if-not-limit_ok.true-raw))
 
 returns-4 : tie.Need-returns
 unfolding check_of
 returns-4 c =
-    let f = c.before in
-    let e = f.before.before in
-    let d = e.before.before in
-    goes_on _ _ _ _ _ d.size_ok.ensures d.if-not-size_ok.false-raw
-    (goes_on _ _ _ _ _ e.list_lengths_ok.ensures e.if-not-list_lengths_ok.false-raw
-    (goes_on _ _ _ _ _ f.limit_ok.ensures f.if-not-limit_ok.false-raw
-    (check_answer _ _ _ _ (passed d.size_ok.ensures d.if-not-size_ok.false-raw) (list_lengths_told _ _ _ _ _ (passed e.list_lengths_ok.ensures e.if-not-list_lengths_ok.false-raw)).0 c.check.ensures)))
+    goes_on _ _ _ _ _ c.size_ok.ensures c.if-not-size_ok.false-raw
+    (goes_on _ _ _ _ _ c.list_lengths_ok.ensures c.if-not-list_lengths_ok.false-raw
+    (goes_on _ _ _ _ _ c.limit_ok.ensures c.if-not-limit_ok.false-raw
+    (check_answer _ _ _ _ (passed c.size_ok.ensures c.if-not-size_ok.false-raw) (list_lengths_told _ _ _ _ _ (passed c.list_lengths_ok.ensures c.if-not-list_lengths_ok.false-raw)).0 c.check.ensures)))
 
 pub list_checked_spec : {M : Type 1} → statement M
 list_checked_spec =

@@ -7,14 +7,12 @@ use Rattle.edges.proofs.list_edges.Tie as tie
 
 pass_edges_requires : tie.Need-pass_edges-vertical_end-requires
 pass_edges_requires c κs =
-    let d = c.before.before in
-    let p = list_passed _ _ _ _ _ _ (sym d.list_checked.ensures ∙ c.in-Done.is) in
+    let p = list_passed _ _ _ _ _ _ (sym c.list_checked.ensures ∙ c.in-Done.is) in
     (p.accepted, p.vertical)
 
 pass_edges_requires_2 : tie.Need-pass_edges-horizontal_end-requires
 pass_edges_requires_2 c κs =
-    let d = c.before.before.before.before.before.before in
-    let p = list_passed _ _ _ _ _ _ (sym d.list_checked.ensures ∙ c.in-Done.is) in
+    let p = list_passed _ _ _ _ _ _ (sym c.list_checked.ensures ∙ c.in-Done.is) in
     (p.accepted, p.horizontal)
 
 returns : tie.Need-returns-in-Refused

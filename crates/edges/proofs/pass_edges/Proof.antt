@@ -21,7 +21,7 @@ size : (s : tie.Start invariant-loop decreases-loop) → Sized s.args.w s.args.h
 size s = sized _ _ s.requires.0.size
 
 -- a turn's root is one of the picture's
-root : (c : tie.In-loop-i invariant-loop decreases-loop) → let s = c.before.before.before.before in c.loop-i.i < root_count s.args.w s.args.h
+root : (c : tie.In-loop-i invariant-loop decreases-loop) → c.loop-i.i < root_count c.args.w c.args.h
 root c = omega (arith, c.requires.0.long, c.loop-i-test.true)
 
 loop_holds : tie.Need-loop-i-init invariant-loop decreases-loop
@@ -29,24 +29,20 @@ loop_holds c = (omega arith, refl, none_rooted _ _ _ _ _ _)
 
 root_edges_requires : tie.Need-root_edges-k-requires invariant-loop decreases-loop
 root_edges_requires c κs =
-    let d = c.before in
-    let s = d.before.before.before.before in
-    let l = d.loop-i in
-    let room = root_room l.invariant.2 (some_wide (size s)) s.requires.0.walked (omega (arith, root d, roots_units (size s))) in
-    (s.requires.0, root d, omega (arith, l.invariant.1, s.requires.1, room))
+    let l = c.loop-i in
+    let room = root_room l.invariant.2 (some_wide (size c.before.before.before.before.before)) c.requires.0.walked (omega (arith, root c.before, roots_units (size c.before.before.before.before.before))) in
+    (c.requires.0, root c.before, omega (arith, l.invariant.1, c.requires.1, room))
 
 loop_again : tie.Need-loop-i-preserved invariant-loop decreases-loop
 loop_again c =
-    let d = c.before.before.before.before in
-    let l = d.loop-i in
+    let l = c.loop-i in
     let e = c.root_edges-k in
     (omega arith, e.auto.1.1.1.1.1.1.0 ∙ l.invariant.1, one_rooted l.invariant.2 _ _ e.ensures)
 
 returns : tie.Need-returns invariant-loop decreases-loop
 returns c =
-    let s = c.before.before.before.before in
     let v = c.loop-i.invariant in
-    all_rooted v.2 (omega (arith, c.loop-i-test.false, s.requires.0.long, roots_units (size s))) (omega (arith, v.0, s.requires.0.long, roots_units (size s)))
+    all_rooted v.2 (omega (arith, c.loop-i-test.false, c.requires.0.long, roots_units (size c.before.before.before.before))) (omega (arith, v.0, c.requires.0.long, roots_units (size c.before.before.before.before)))
 
 pub pass_edges_spec : {M : Type 1} → statement M
 pass_edges_spec =

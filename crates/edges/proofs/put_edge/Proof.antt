@@ -14,15 +14,13 @@ slice_write_out_4 c = simp length-set (omega arith)
 
 returns : tie.Need-returns-then-horizontal
 returns c =
-    let t = c.before.before in
-    let a = t.args in
-    edge_across a.out.now a.at a.cross.0 a.along.0 t.requires.2 t.requires.3 a.horizontal t.if-horizontal.true
+    let a = c.args in
+    edge_across a.out.now a.at a.cross.0 a.along.0 c.requires.2 c.requires.3 a.horizontal c.if-horizontal.true
 
 returns-2 : tie.Need-returns-else-horizontal
 returns-2 c =
-    let t = c.before.before in
-    let a = t.args in
-    edge_down_lem a.out.now a.at a.cross.0 a.along.0 t.requires.2 t.requires.3 a.horizontal t.if-horizontal.false
+    let a = c.args in
+    edge_down_lem a.out.now a.at a.cross.0 a.along.0 c.requires.2 c.requires.3 a.horizontal c.if-horizontal.false
 
 pub put_edge_spec : {M : Type 1} → statement M
 put_edge_spec =

@@ -18,33 +18,24 @@ use Rattle.edges.proofs.root_edges.Tie as tie
 
 returns : tie.Need-returns-in_default
 returns c =
-    let l = c.before.before in
-    let s = l.before.before.before.before in
-    let p = s.requires.0 in
-    absurd (root_met _ _ _ p.size p.long p.walked s.args.i s.requires.1 _ _ _ refl l.root_leaves.ensures _ c.in_default.is)
+    let p = c.requires.0 in
+    absurd (root_met _ _ _ p.size p.long p.walked c.args.i c.requires.1 _ _ _ refl c.root_leaves.ensures _ c.in_default.is)
 
 leaves_edges_requires : tie.Need-leaves_edges-requires
 leaves_edges_requires c κs =
-    let n = c.before.before.before in
-    let l = n.before.before in
-    let s = l.before.before.before.before in
-    let p = s.requires.0 in
-    let a = s.args in
-    let t = root_told _ _ _ p.size p.long p.walked a.i s.requires.1 _ _ _ refl l.root_leaves.ensures _ n.in-Done.is in (
+    let p = c.requires.0 in
+    let a = c.args in
+    let t = root_told _ _ _ p.size p.long p.walked a.i c.requires.1 _ _ _ refl c.root_leaves.ensures _ c.in-Done.is in (
       ready_zero (record { long = omega (arith, t.long, t.few); leaves = λ j h. (t.leaves j h).numbers }),
-      subst (λ (m : List Leaf). a.at + 2 * area m ≤ length a.out.now) (sym t.same) s.requires.2,
+      subst (λ (m : List Leaf). a.at + 2 * area m ≤ length a.out.now) (sym t.same) c.requires.2,
     )
 
 returns-2 : tie.Need-returns
 returns-2 c =
-    let e = c.before.before in
-    let n = e.before.before.before.before in
-    let l = n.before.before in
-    let s = l.before.before.before.before in
-    let p = s.requires.0 in
-    let a = s.args in
-    let t = root_told _ _ _ p.size p.long p.walked a.i s.requires.1 _ _ _ refl l.root_leaves.ensures _ n.in-Done.is in
-    put_as (ap (λ (m : List Leaf). each edge_numbers (edges_of (pass_of a.horizontal) a.halved m)) (down_zero _ ∙ t.same)) e.leaves_edges.ensures
+    let p = c.requires.0 in
+    let a = c.args in
+    let t = root_told _ _ _ p.size p.long p.walked a.i c.requires.1 _ _ _ refl c.root_leaves.ensures _ c.in-Done.is in
+    put_as (ap (λ (m : List Leaf). each edge_numbers (edges_of (pass_of a.horizontal) a.halved m)) (down_zero _ ∙ t.same)) c.leaves_edges.ensures
 
 pub root_edges_spec : {M : Type 1} → statement M
 root_edges_spec =

@@ -21,20 +21,16 @@ lengths_ok_requires c κs = (component_side _ (side_at c)).most
 
 returns-2 : tie.Need-returns-then-not-lengths_ok
 returns-2 c =
-    let s = c.before.before in
-    length_refused _ _ s.component_side_ok.ensures s.if-not-component_side_ok.false-raw _ c.lengths_ok.ensures c.if-not-lengths_ok.true-raw
+    length_refused _ _ c.component_side_ok.ensures c.if-not-component_side_ok.false-raw _ c.lengths_ok.ensures c.if-not-lengths_ok.true-raw
 
 predict_requires : tie.Need-predict-requires
 predict_requires c κs =
-    let l = c.before in
-    let side = side_at l.before.before in
-    (lent _ _ _ side (sym l.lengths_ok.ensures ∙ l.if-not-lengths_ok.false), side)
+    let side = side_at c.before.before.before in
+    (lent _ _ _ side (sym c.lengths_ok.ensures ∙ c.if-not-lengths_ok.false), side)
 
 returns-3 : tie.Need-returns
 returns-3 c =
-    let l = c.before.before.before.before in
-    let s = l.before.before in
-    goes_to_data _ _ s.component_side_ok.ensures s.if-not-component_side_ok.false-raw _ l.lengths_ok.ensures _ l.if-not-lengths_ok.false-raw c.predict.ensures
+    goes_to_data _ _ c.component_side_ok.ensures c.if-not-component_side_ok.false-raw _ c.lengths_ok.ensures _ c.if-not-lengths_ok.false-raw c.predict.ensures
 
 pub ipred_b_spec : {M : Type 1} → statement M
 ipred_b_spec =

@@ -11,9 +11,8 @@ cast_fill_row c = record { fits = quotient_below _ _ _ (omega arith) (omega arit
 
 returns : tie.Need-returns
 returns c =
-    let sums = c.before.before.before.before in
-    let pre = sums.requires in
-    c.fill_row.ensures ∙ dc_block _ _ _ _ _ pre.1 pre.0.block_long sums.sum_of.ensures.0 sums.sum_of-2.ensures.0
+    let pre = c.requires in
+    c.fill_row.ensures ∙ dc_block _ _ _ _ _ pre.1 pre.0.block_long c.sum_of.ensures.0 c.sum_of-2.ensures.0
 
 pub ipred_dc_b_spec : {M : Type 1} → statement M
 ipred_dc_b_spec =

@@ -32,7 +32,7 @@ add_copy_row : tie.Need-overflow_add-at invariant-loop decreases-loop
 add_copy_row c = omega (arith, row c.before.before.before.before.before)
 
 copy_row_requires : tie.Need-copy_row-requires invariant-loop decreases-loop
-copy_row_requires c κs = omega (arith, row c.before.before.before.before.before, c.reverse_row.auto.0)
+copy_row_requires c κs = omega (arith, row c.before.before.before.before.before, c.reverse_row.auto.block)
 
 loop_again : tie.Need-loop-i-preserved invariant-loop decreases-loop
 loop_again c =

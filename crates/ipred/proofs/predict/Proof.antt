@@ -61,48 +61,43 @@ returns-2 c = no_mode _ (omega arith)
 
 returns-3 : tie.Need-returns-then-side-eq4
 unfolding predicted
-returns-3 c = let m = c.before.before.before.before.before in
-    arm m.before 0 4 m.in-0.is c.if-side-eq4.true (omega arith) c.ipred_dc_b.ensures
+returns-3 c = arm c.before.before.before.before.before.before 0 4 c.in-0.is c.if-side-eq4.true (omega arith) c.ipred_dc_b.ensures
 
 returns-4 : tie.Need-returns-else-side-eq4
 unfolding predicted
-returns-4 c = let m = c.before.before.before.before.before in arm m.before 0 _ m.in-0.is refl (omega arith) c.ipred_dc_b-else-side-eq4.ensures
+returns-4 c = arm c.before.before.before.before.before.before 0 _ c.in-0.is refl (omega arith) c.ipred_dc_b-else-side-eq4.ensures
 
 returns-5 : tie.Need-returns-then-side-eq4-2
 unfolding predicted
-returns-5 c = let m = c.before.before.before.before.before in
-    arm m.before 1 4 m.in-1.is c.if-side-eq4-2.true (omega arith) c.ipred_hor_b.ensures
+returns-5 c = arm c.before.before.before.before.before.before 1 4 c.in-1.is c.if-side-eq4-2.true (omega arith) c.ipred_hor_b.ensures
 
 returns-6 : tie.Need-returns-else-side-eq4-2
 unfolding predicted
-returns-6 c = let m = c.before.before.before.before.before in arm m.before 1 _ m.in-1.is refl (omega arith) c.ipred_hor_b-else-side-eq4-2.ensures
+returns-6 c = arm c.before.before.before.before.before.before 1 _ c.in-1.is refl (omega arith) c.ipred_hor_b-else-side-eq4-2.ensures
 
 returns-7 : tie.Need-returns-then-side-eq4-3
 unfolding predicted
-returns-7 c = let m = c.before.before.before.before.before in
-    arm m.before 2 4 m.in-2.is c.if-side-eq4-3.true (omega arith) c.ipred_vert.ensures
+returns-7 c = arm c.before.before.before.before.before.before 2 4 c.in-2.is c.if-side-eq4-3.true (omega arith) c.ipred_vert.ensures
 
 returns-8 : tie.Need-returns-else-side-eq4-3
 unfolding predicted
-returns-8 c = let m = c.before.before.before.before.before in arm m.before 2 _ m.in-2.is refl (omega arith) c.ipred_vert-else-side-eq4-3.ensures
+returns-8 c = arm c.before.before.before.before.before.before 2 _ c.in-2.is refl (omega arith) c.ipred_vert-else-side-eq4-3.ensures
 
 returns-9 : tie.Need-returns-then-side-eq4-4
 unfolding predicted
-returns-9 c = let m = c.before.before.before.before.before in
-    arm m.before 3 4 m.in-3.is c.if-side-eq4-4.true (omega arith) c.ipred_ul.ensures
+returns-9 c = arm c.before.before.before.before.before.before 3 4 c.in-3.is c.if-side-eq4-4.true (omega arith) c.ipred_ul.ensures
 
 returns-10 : tie.Need-returns-else-side-eq4-4
 unfolding predicted
-returns-10 c = let m = c.before.before.before.before.before in arm m.before 3 _ m.in-3.is refl (omega arith) c.ipred_ul-else-side-eq4-4.ensures
+returns-10 c = arm c.before.before.before.before.before.before 3 _ c.in-3.is refl (omega arith) c.ipred_ul-else-side-eq4-4.ensures
 
 returns-11 : tie.Need-returns-then-side-eq4-5
 unfolding predicted
-returns-11 c = let m = c.before.before.before.before.before in
-    arm m.before 4 4 m.in-4.is c.if-side-eq4-5.true (omega arith) c.ipred_ur.ensures
+returns-11 c = arm c.before.before.before.before.before.before 4 4 c.in-4.is c.if-side-eq4-5.true (omega arith) c.ipred_ur.ensures
 
 returns-12 : tie.Need-returns-else-side-eq4-5
 unfolding predicted
-returns-12 c = let m = c.before.before.before.before.before in arm m.before 4 _ m.in-4.is refl (omega arith) c.ipred_ur-else-side-eq4-5.ensures
+returns-12 c = arm c.before.before.before.before.before.before 4 _ c.in-4.is refl (omega arith) c.ipred_ur-else-side-eq4-5.ensures
 
 pub predict_spec : {M : Type 1} → statement M
 predict_spec =

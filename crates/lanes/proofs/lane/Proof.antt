@@ -7,8 +7,7 @@ use Rattle.lanes.proofs.lane.Tie as tie
 
 returns : tie.Need-returns
 returns c =
-    let s = c.before.before.before.before.before.before in
-    line_steps s.args.a s.args.b s.args.c s.args.d s.args.st _ _ _ _ _ _ s.requires.0 s.requires.1 s.requires.2 s.requires.3
+    line_steps c.args.a c.args.b c.args.c c.args.d c.args.st _ _ _ _ _ _ c.requires.0 c.requires.1 c.requires.2 c.requires.3
     c.rise-u.ensures.0 c.rise-v.ensures.0
     c.ease-e.ensures.0 c.ease-f.ensures.0 c.nudge.ensures c.nudge-2.ensures
 

@@ -10,11 +10,10 @@ use Rattle.line.proofs.any_far.Tie as tie
 returns : tie.Need-returns
 unfolding any_far
 returns c =
-    let s = c.before.before.before.before.before.before.before.before.before.before.before.before.before.before.before.before.before.before.before in
-    let f = s.struct_told-1.given in
+    let f = c.struct_told-1.given in
     let g = c.struct_told-3-1.given in
-    let q = read s.args.q f.0.1 f.1.0.1 f.1.1.0.1 f.1.1.1.0.1 f.1.1.1.1.0.1 f.1.1.1.1.1.0.1 in
-    let p = read s.args.p g.0.1 g.1.0.1 g.1.1.0.1 g.1.1.1.0.1 g.1.1.1.1.0.1 g.1.1.1.1.1.0.1 in
+    let q = read c.args.q f.0.1 f.1.0.1 f.1.1.0.1 f.1.1.1.0.1 f.1.1.1.1.0.1 f.1.1.1.1.1.0.1 in
+    let p = read c.args.p g.0.1 g.1.0.1 g.1.1.0.1 g.1.1.1.0.1 g.1.1.1.1.0.1 g.1.1.1.1.1.0.1 in
     (λ i.
     (c.counted_far.ensures
     ∙ (λ j. far (counted_as (q.refi0 j) (q.x0 j)) (counted_as (p.refi0 j) (p.x0 j)))) i

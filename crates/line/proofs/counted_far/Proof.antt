@@ -9,9 +9,8 @@ use Rattle.line.proofs.counted_far.Tie as tie
 
 returns : tie.Need-returns
 returns c =
-    let s = c.before.before.before in
-    let q = back w16 _ (record { sfits = c.component.type_inv }) ∙ c.component.ensures ∙ (λ i. counted_as (back w8 _ s.ranges.rq i) (back w16 _ s.ranges.q i)) in
-    let p = back w16 _ (record { sfits = c.component-2.type_inv }) ∙ c.component-2.ensures ∙ (λ i. counted_as (back w8 _ s.ranges.rp i) (back w16 _ s.ranges.p i)) in
+    let q = back w16 _ (record { sfits = c.component.type_inv }) ∙ c.component.ensures ∙ (λ i. counted_as (back w8 _ c.ranges.rq i) (back w16 _ c.ranges.q i)) in
+    let p = back w16 _ (record { sfits = c.component-2.type_inv }) ∙ c.component-2.ensures ∙ (λ i. counted_as (back w8 _ c.ranges.rp i) (back w16 _ c.ranges.p i)) in
     c.is_far.ensures ∙ (λ i. far (q i) (p i))
 
 pub counted_far_spec : {M : Type 1} → statement M

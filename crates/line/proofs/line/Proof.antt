@@ -6,14 +6,12 @@ use Rattle.line.proofs.line.Tie as tie
 
 returns : tie.Need-returns
 returns c =
-    let e = c.before.before.before.before in
-    let h = e.before.before in
-    let a = h.args in
+    let a = c.args in
     line_made a.a a.b a.c a.d a.st _ _ _ _ _ _ _ _
-    h.gap.ensures.0
-    h.limit-h.ensures.0
-    e.gap-2.ensures.0
-    e.reach-e.ensures.0
+    c.gap.ensures.0
+    c.limit-h.ensures.0
+    c.gap-2.ensures.0
+    c.reach-e.ensures.0
     c.moved.ensures
     c.moved-2.ensures
     c.moved-3.ensures

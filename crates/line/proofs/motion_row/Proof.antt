@@ -14,9 +14,8 @@ use Rattle.line.proofs.motion_row.Tie as tie
 row : (c : tie.After-any_far-near) (near : Bool) → ((c.same_refs-straight.result || c.same_refs-across.result) && not c.any_far-near.result) ≡ near
     → pick {A = ℕ} near 3 2 ≡ motion_row c.args.q c.args.p
 row c near e =
-    let s = c.before.before.before.before in
-    let q = s.args.q in
-    by_tests q s.args.p _ _ _ near s.same_refs-straight.ensures
+    let q = c.args.q in
+    by_tests q c.args.p _ _ _ near c.same_refs-straight.ensures
     (c.same_refs-across.ensures ∙ ap (same_refs q) c.crossed.ensures)
     (c.any_far-near.ensures ∙ ap (any_far q) c.facing.ensures) e
 

@@ -10,11 +10,10 @@ use Rattle.line.proofs.same_refs.Tie as tie
 returns : tie.Need-returns
 unfolding same_refs
 returns c =
-    let s = c.before.before.before.before.before in
-    let f = s.struct_told-1.given in
+    let f = c.struct_told-1.given in
     let g = c.struct_told-2-1.given in
-    let q = read s.args.q f.0.1 f.1.0.1 f.1.1.0.1 f.1.1.1.0.1 f.1.1.1.1.0.1 f.1.1.1.1.1.0.1 in
-    let p = read s.args.p g.0.1 g.1.0.1 g.1.1.0.1 g.1.1.1.0.1 g.1.1.1.1.0.1 g.1.1.1.1.1.0.1 in
+    let q = read c.args.q f.0.1 f.1.0.1 f.1.1.0.1 f.1.1.1.0.1 f.1.1.1.1.0.1 f.1.1.1.1.1.0.1 in
+    let p = read c.args.p g.0.1 g.1.0.1 g.1.1.0.1 g.1.1.1.0.1 g.1.1.1.1.0.1 g.1.1.1.1.1.0.1 in
     (λ i.
     (c.same_refi.ensures ∙ (λ j. eq_z (q.refi0 j) (p.refi0 j))) i
     && (c.same_refi-2.ensures ∙ (λ j. eq_z (q.refi1 j) (p.refi1 j))) i)

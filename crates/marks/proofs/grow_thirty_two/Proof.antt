@@ -40,15 +40,14 @@ returns c = c.own_digit-own.ensures.whole (not-true _ c.if-not-own.true)
 
 -- the loop over the four parts
 loop_holds : tie.Need-loop-part-init invariant-loop decreases-loop
-loop_holds c = let a = c.before.before.before.before.before in (zero-le, λ m e. no_part (digits a) a.requires.0 _ m e)
+loop_holds c = (zero-le, λ m e. no_part (digits c.before.before.before.before.before) c.requires.0 _ m e)
 
 -- a part that is refused ends the block
 returns-2 : tie.Need-returns-in_default invariant-loop decreases-loop
 returns-2 c =
-    let a = c.before.before.before.before.before.before.before.before in
     let d = c.own_digit-own.ensures.divided (not-false _ c.if-not-own.false) in
     divided_then d
-    (part_refused (digits a) a.requires.0 (omega arith) _ (c.loop-part.invariant.1 _ d.answer) _ c.loop-part-test.true c.in_default.is)
+    (part_refused (digits c.before.before.before.before.before.before.before.before) c.requires.0 (omega arith) _ (c.loop-part.invariant.1 _ d.answer) _ c.loop-part-test.true c.in_default.is)
 
 part_of_requires : tie.Need-part_of-place-requires invariant-loop decreases-loop
 part_of_requires c κs =
@@ -57,15 +56,13 @@ part_of_requires c κs =
 
 grow_sixteen_requires : tie.Need-grow_sixteen-marked-requires invariant-loop decreases-loop
 grow_sixteen_requires c κs =
-    let a = c.before.before.before.before.before.before.before.before.before.before in
-    let p = a.requires in
+    let p = c.requires in
     let z = halved p.0 (omega arith) in
     let v = c.loop-part.invariant in
     let l = c.loop-part-test.true in
     let q = c.part_of-place.ensures in
-    let own = c.before.before.before.before.before in
-    let d = own.own_digit-own.ensures.divided (not-false _ own.if-not-own.false) in
-    let f = few_taken (digits a) p.0 c.loop-part.part d.count in
+    let d = c.own_digit-own.ensures.divided (not-false _ c.if-not-own.false) in
+    let f = few_taken (digits c.before.before.before.before.before.before.before.before.before.before) p.0 c.loop-part.part d.count in
     let e = grew_count c.in-Done.is (v.1 _ d.answer) in
     let r = next_room _ _ _ _ _ 85 l f e (omega (arith, d.own.count, z.room, p.2)) in
     (part_block z _ _ _ l q.0 q.1, p.1, r)
@@ -79,21 +76,19 @@ loop_less c = fewer _ c.loop-part-test.true
 
 loop_again : tie.Need-loop-part-preserved invariant-loop decreases-loop
 loop_again c =
-    let a = c.before.before.before.before.before.before.before.before.before.before.before in
-    let p = a.requires in
+    let p = c.requires in
     let v = c.loop-part.invariant in
     let l = c.loop-part-test.true in
     let q = c.part_of-place.ensures in
     let g = c.grow_sixteen-marked.ensures in
-    (within _ l, λ k e. part_more (digits a) p.0 (omega arith) _ (v.1 k e) c.in-Done.is q.0 q.1 g)
+    (within _ l, λ k e. part_more (digits c.before.before.before.before.before.before.before.before.before.before.before) p.0 (omega arith) _ (v.1 k e) c.in-Done.is q.0 q.1 g)
 
 -- all four
 returns-3 : tie.Need-returns invariant-loop decreases-loop
 returns-3 c =
-    let a = c.before.before.before.before.before.before.before in
     let d = c.own_digit-own.ensures.divided (not-false _ c.if-not-own.false) in
     let v = c.loop-part.invariant in
-    divided_then d (part_all (digits a) a.requires.0 (omega arith) _ (v.1 _ d.answer) c.loop-part-test.false v.0)
+    divided_then d (part_all (digits c.before.before.before.before.before.before.before) c.requires.0 (omega arith) _ (v.1 _ d.answer) c.loop-part-test.false v.0)
 
 pub grow_thirty_two_spec : {M : Type 1} → statement M
 grow_thirty_two_spec =

@@ -12,13 +12,11 @@ returns c = ap (λ (v : Walk). counted c.args.n v.answer) (sym (past_x c.require
 
 returns-2 : tie.Need-returns-then-h-y
 returns-2 c =
-    let s = c.before.before.before.before in
-    ap (λ (v : Walk). counted s.args.n v.answer) (sym (past_y s.requires c.if-w-x.false c.if-h-y.true))
+    ap (λ (v : Walk). counted c.args.n v.answer) (sym (past_y c.requires c.if-w-x.false c.if-h-y.true))
 
 returns-3 : tie.Need-returns
 returns-3 c =
-    let s = c.before.before.before.before in
-    ap (λ (v : Walk). counted s.args.n v.answer) (sym (inside s.requires c.if-w-x.false c.if-h-y.false))
+    ap (λ (v : Walk). counted c.args.n v.answer) (sym (inside c.requires c.if-w-x.false c.if-h-y.false))
 
 pub leaf_spec : {M : Type 1} → statement M
 leaf_spec = tie.close (tie.spec (λ c. search rules) returns (λ c. search rules) returns-2 returns-3)

@@ -30,32 +30,30 @@ own_mark_requires c κs = let p = c.requires in (p.0, omega arith, p.1, room_one
 
 -- not cut: its own mark is all that it has
 same_length : tie.Need-shape_of-out-then-not-own invariant-loop decreases-loop
-same_length c = c.own_mark-own.auto.1.1.1.1.1.1.0
+same_length c = c.own_mark-own.auto.out
 
 returns : tie.Need-returns-then-not-own invariant-loop decreases-loop
 returns c =
-    let a = c.before.before.before.before.before.before.before.before in
-    open_whole a.args.bytes.now a.requires.0 c.own_mark-own.ensures (not-true _ c.if-not-own.true)
+    open_whole c.args.bytes.now c.requires.0 c.own_mark-own.ensures (not-true _ c.if-not-own.true)
 
 -- the loop over the four parts
 loop_holds : tie.Need-loop-part-init invariant-loop decreases-loop
-loop_holds c = let a = c.before.before.before.before.before.before.before.before in (zero-le, refl, no_part a.args.bytes.now a.requires.0 _ _)
+loop_holds c = (zero-le, refl, no_part c.args.bytes.now c.requires.0 _ _)
 
 part_of_requires : tie.Need-part_of-place-requires invariant-loop decreases-loop
 part_of_requires c κs = let z = halved c.requires.0 (omega arith) in (z.right, z.bottom, c.loop-part-test.true)
 
 mark_sixteen_requires : tie.Need-mark_sixteen-count-requires invariant-loop decreases-loop
 mark_sixteen_requires c κs =
-    let a = c.before.before.before.before.before.before.before.before.before.before.before.before in
-    let p = a.requires in
+    let p = c.requires in
     let z = halved p.0 (omega arith) in
     let v = c.loop-part.invariant in
     let l = c.loop-part-test.true in
     let q = c.part_of-place.ensures in
     let m = c.own_mark-own in
-    let k = open_count a.args.bytes.now p.0 m.ensures in
+    let k = open_count c.args.bytes.now p.0 m.ensures in
     let r = m.auto.1.1.1.1.1.1.0 in
-    (part_block z _ _ _ l q.0 q.1, p.1, next_room _ _ _ _ _ _ l (few_parts a.args.bytes.now p.0 _) v.2.count (omega (arith, v.1, r, k, z.room, p.2)))
+    (part_block z _ _ _ l q.0 q.1, p.1, next_room _ _ _ _ _ _ l (few_parts c.args.bytes.now p.0 _) v.2.count (omega (arith, v.1, r, k, z.room, p.2)))
 
 add_part : tie.Need-overflow_add-part invariant-loop decreases-loop
 add_part c = record { fits = counted _ c.loop-part-test.true }
@@ -65,22 +63,20 @@ loop_less c = fewer _ c.loop-part-test.true
 
 loop_again : tie.Need-loop-part-preserved invariant-loop decreases-loop
 loop_again c =
-    let a = c.before.before.before.before.before.before.before.before.before.before.before.before.before.before.before in
     let v = c.loop-part.invariant in
     let q = c.part_of-place.ensures in
     let m = c.mark_sixteen-count.ensures in
-    (within _ c.loop-part-test.true, listed_long m ∙ v.1, part_more a.args.bytes.now a.requires.0 (omega arith) _ v.2 q.0 q.1 m)
+    (within _ c.loop-part-test.true, listed_long m ∙ v.1, part_more c.args.bytes.now c.requires.0 (omega arith) _ v.2 q.0 q.1 m)
 
 -- all four
 same_length_2 : tie.Need-shape_of-out invariant-loop decreases-loop
-same_length_2 c = c.loop-part.invariant.1 ∙ c.own_mark-own.auto.1.1.1.1.1.1.0
+same_length_2 c = c.loop-part.invariant.1 ∙ c.own_mark-own.auto.out
 
 returns-2 : tie.Need-returns invariant-loop decreases-loop
 returns-2 c =
-    let a = c.before.before.before.before.before.before.before.before.before.before in
     let v = c.loop-part.invariant in
-    open_cut a.args.bytes.now a.requires.0 c.own_mark-own.ensures (not-false _ c.if-not-own.false)
-    (part_all a.args.bytes.now a.requires.0 (omega arith) _ v.2 c.loop-part-test.false v.0)
+    open_cut c.args.bytes.now c.requires.0 c.own_mark-own.ensures (not-false _ c.if-not-own.false)
+    (part_all c.args.bytes.now c.requires.0 (omega arith) _ v.2 c.loop-part-test.false v.0)
 
 pub mark_thirty_two_spec : {M : Type 1} → statement M
 mark_thirty_two_spec =

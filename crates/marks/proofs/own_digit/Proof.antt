@@ -21,46 +21,41 @@ inside : (c : tie.Else-w-at) → let a = c.args in (a.at.x.0 < a.w) × (a.at.y.0
 inside c = started _ _ _ _ c.if-w-at.false
 
 -- a digit was read
-some : (c : tie.After-get_bit-byte) → let a = c.before.before.before.before.before.before in a.args.n < length (digits a)
+some : (c : tie.After-get_bit-byte) → c.args.n < length (digits c.before.before.before.before.before.before)
 some c = let a = c.args in subst (λ (m : ℕ). a.n < m) (sym (digits_long _ a.from a.count)) c.if-count-n.false
 
-digit : (c : tie.After-get_bit-byte) → let a = c.before.before.before.before.before.before in c.get_bit-byte.result ≡ get_or (digits a) a.args.n 0
+digit : (c : tie.After-get_bit-byte) → c.get_bit-byte.result ≡ get_or (digits c.before.before.before.before.before.before) c.args.n 0
 digit c = let a = c.args in c.get_bit-byte.ensures ∙ digit_at_lem _ a.from a.count _ c.if-count-n.false
 
 small : (c : tie.After-get_bit-byte) → c.get_bit-byte.result < 2
 small c = subst (λ (b : ℕ). b < 2) (sym c.get_bit-byte.ensures) (bit_small _ _)
 
 returns : tie.Need-returns-then-w-at
-returns c = let a = c.before.before.before.before in began_whole (grew_quiet _ _ (skip (digits a) a.args.n a.requires.0 c.if-w-at.true))
+returns c = began_whole (grew_quiet _ _ (skip (digits c.before.before.before.before) c.args.n c.requires.0 c.if-w-at.true))
 
 returns-2 : tie.Need-returns-then-count-n
 returns-2 c =
-    let a = c.before.before.before.before.before in
     let i = inside c.before in
-    let l = subst (λ (m : ℕ). m ≤ a.args.n) (sym (digits_long _ a.args.from a.args.count)) c.if-count-n.true in
-    began_whole (grew_as (short (digits a) _ a.requires.0 a.requires.1 i.0 i.1 l) (grew_short _ _))
+    let l = subst (λ (m : ℕ). m ≤ c.args.n) (sym (digits_long _ c.args.from c.args.count)) c.if-count-n.true in
+    began_whole (grew_as (short (digits c.before.before.before.before.before) _ c.requires.0 c.requires.1 i.0 i.1 l) (grew_short _ _))
 
 put_mark_requires : tie.Need-put_mark-next-requires
 put_mark_requires c κs = (c.byte_place-place.ensures.1, small c.before.before.before.before, search rules)
 
 returns-3 : tie.Need-returns-then-byte-eq0
 returns-3 c =
-    let a = c.before.before.before.before.before.before.before.before.before.before.before in
     let i = inside c.before.before.before.before.before.before.before.before.before.before.before in
-    let b = c.before.before.before.before.before in
     let p = c.byte_place-place.ensures.0 in
     began_whole
-    (grew_as (whole (digits a.before.before.before.before) _ a.requires.0 a.requires.1 i.0 i.1 (some b.before.before.before.before) _ _ p (digit b.before.before.before.before) c.if-byte-eq0.true)
+    (grew_as (whole (digits c.before.before.before.before.before.before.before.before.before.before.before.before.before.before.before) _ c.requires.0 c.requires.1 i.0 i.1 (some c.before.before.before.before.before.before.before.before.before) _ _ p (digit c.before.before.before.before.before.before.before.before.before) c.if-byte-eq0.true)
     (grew_leaf c.put_mark-next.ensures c.leaf.ensures))
 
 returns-4 : tie.Need-returns
 returns-4 c =
-    let a = c.before.before.before.before.before.before.before.before.before.before in
     let i = inside c.before.before.before.before.before.before.before.before in
-    let b = c.before.before.before.before in
     began_cut
-    (divided (digits a.before.before) _ a.requires.0 a.requires.1 i.0 i.1 (some b.before.before) _ _ c.byte_place-place.ensures.0 (digit b.before.before)
-    c.put_mark-next.ensures (only_one _ (small b.before.before) c.if-byte-eq0.false))
+    (divided (digits c.before.before.before.before.before.before.before.before.before.before.before.before) _ c.requires.0 c.requires.1 i.0 i.1 (some c.before.before.before.before.before.before) _ _ c.byte_place-place.ensures.0 (digit c.before.before.before.before.before.before)
+    c.put_mark-next.ensures (only_one _ (small c.before.before.before.before.before.before) c.if-byte-eq0.false))
 
 pub own_digit_spec : {M : Type 1} → statement M
 own_digit_spec =

@@ -16,11 +16,10 @@ inside c = started _ _ _ _ c.if-w-at.false
 
 returns-2 : tie.Need-returns
 returns-2 c =
-    let a = c.before.before.before.before.before.before.before.before.before.before.before.before in
     let i = inside c.before.before.before.before.before.before.before.before.before.before.before in
     let m = c.mended-byte.ensures in
     let b = c.byte_place-place.ensures in
-    opened a.args.bytes.now a.requires.0 a.requires.1 i.0 i.1 _ _ b.0 m.0 c.put_mark.ensures m.1
+    opened c.args.bytes.now c.requires.0 c.requires.1 i.0 i.1 _ _ b.0 m.0 c.put_mark.ensures m.1
 
 pub own_mark_spec : {M : Type 1} → statement M
 own_mark_spec =

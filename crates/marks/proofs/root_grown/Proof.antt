@@ -29,10 +29,9 @@ grow_sixty_four_requires c κs =
 
 returns : tie.Need-returns
 returns c =
-    let a = c.before.before.before.before.before in
     let q = c.root_place-at.ensures in
-    grew_between _ _ a.args.i a.args.from a.args.to a.args.src.now
-    (count_is c.before.before.before) (grew_as (root_grown a.requires.0 a.args.i _ q.0 q.1) c.grow_sixty_four.ensures)
+    grew_between _ _ c.args.i c.args.from c.args.to c.args.src.now
+    (count_is c.before.before.before) (grew_as (root_grown c.requires.0 c.args.i _ q.0 q.1) c.grow_sixty_four.ensures)
 
 pub root_grown_spec : {M : Type 1} → statement M
 root_grown_spec = tie.close (tie.spec (λ c. search rules) root_place_requires grow_sixty_four_requires returns)

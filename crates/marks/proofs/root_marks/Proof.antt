@@ -31,9 +31,8 @@ mark_sixty_four_requires c κs =
 
 returns : tie.Need-returns
 returns c =
-    let a = c.before.before.before.before.before.before.before.before in
     let q = c.root_place-at.ensures in
-    listed_as (root_listed a.requires.0 a.args.i a.args.splits.now q.0 q.1) c.mark_sixty_four.ensures
+    listed_as (root_listed c.requires.0 c.args.i c.args.splits.now q.0 q.1) c.mark_sixty_four.ensures
 
 pub root_marks_spec : {M : Type 1} → statement M
 root_marks_spec =

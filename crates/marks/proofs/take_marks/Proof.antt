@@ -73,12 +73,10 @@ copy_requires c κs =
 
 returns-4 : tie.Need-returns-in-Done
 returns-4 c =
-    let p = c.before.before.before.before.before.before.before.before in
-    let m = c.before.before.before.before.before.before in
-    take_done (asked p) m.root_grown-marked.ensures _ _ refl m.in-Done.is (passed p) c.copy.ensures
+    take_done (asked c.before.before.before.before.before.before.before.before) c.root_grown-marked.ensures _ _ refl c.in-Done.is (passed c.before.before.before.before.before.before.before.before) c.copy.ensures
 
 returns-5 : tie.Need-returns-in_default
-returns-5 c = let p = c.before.before.before in take_stopped (asked p) c.root_grown-marked.ensures _ c.in_default.is (passed p)
+returns-5 c = take_stopped (asked c.before.before.before) c.root_grown-marked.ensures _ c.in_default.is (passed c.before.before.before)
 
 pub take_marks_spec : {M : Type 1} → statement M
 take_marks_spec =

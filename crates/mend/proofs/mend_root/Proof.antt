@@ -41,7 +41,7 @@ put_marks_requires : tie.Need-put_marks-requires
 put_marks_requires c κs =
     let n = count c.before.before.before.before.before.before.before.before in
     let t = (told c.before.before.before.before.before.before.before.before.before).1 in (
-      c.copy.auto.1.0
+      c.copy.auto.out
           ∙ c.requires.3,
       omega (arith, n, t.few, t.long),
       λ j l. t.small j (subst (λ (k : ℕ). j < k) n l),
@@ -51,16 +51,14 @@ list_changes_requires : tie.Need-list_changes-requires
 list_changes_requires c κs =
     let n = count c.before.before.before.before.before.before.before.before.before.before.before.before.before.before in
     let t = (told c.before.before.before.before.before.before.before.before.before.before.before.before.before.before.before).1 in
-    let s = c.before.before.before.before.before.before.before.before.before.before.before.before.before.before.before.before.before.before.before.before in
-    (long s, omega (arith, n, t.few, t.long), (λ j l. t.small j (subst (λ (k : ℕ). j < k) n l)), few s, omega (arith, n, t.few, s.requires.4))
+    (long c.before.before.before.before.before.before.before.before.before.before.before.before.before.before.before.before.before.before.before.before, omega (arith, n, t.few, t.long), (λ j l. t.small j (subst (λ (k : ℕ). j < k) n l)), few c.before.before.before.before.before.before.before.before.before.before.before.before.before.before.before.before.before.before.before.before, omega (arith, n, t.few, c.requires.4))
 
 returns : tie.Need-returns-in-Refused
 returns c = not_both _ _ _ (told c.before.before).0 c.in-Refused.is
 
 returns-2 : tie.Need-returns-in-Done
 returns-2 c =
-    let l = c.before.before.before.before.before.before.before.before.before.before.before.before.before.before.before.before.before.before in
-    let a = l.args in
+    let a = c.args in
     let n = count c.before.before.before.before.before.before.before.before.before.before.before.before.before.before.before.before.before in
     let t = (told c.before.before.before.before.before.before.before.before.before.before.before.before.before.before.before.before.before.before).1 in (
       root_mended a.w a.h a.splits.now a.i t n _ _

@@ -58,8 +58,7 @@ returns-3 c = past2 c.before.before _ (stops _ _ _ _ c.unit_ok.ensures c.if-not-
 modes_ok_requires : tie.Need-modes_ok-requires
 modes_ok_requires c κs =
     let k = placed _ _ _ _ (sym c.unit_ok.ensures ∙ c.if-not-unit_ok.false) in
-    let d = c.before.before in
-    unit_of_lem _ _ _ _ _ _ _ (sym d.lengths_ok.ensures ∙ d.if-not-lengths_ok.false) k.column k.row
+    unit_of_lem _ _ _ _ _ _ _ (sym c.lengths_ok.ensures ∙ c.if-not-lengths_ok.false) k.column k.row
 
 returns-4 : tie.Need-returns-then-not-modes_ok
 returns-4 c = past3 c.before.before _ (stops _ _ _ _ c.modes_ok.ensures c.if-not-modes_ok.true-raw)

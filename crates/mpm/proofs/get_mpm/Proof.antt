@@ -36,9 +36,8 @@ part_result_end c = omega (arith, (good c.before).table_long)
 returns-2 : tie.Need-returns
 unfolding part_outcome
 returns-2 c =
-    let d = c.before in
-    on_done _ _ _ _ _ d.checked.ensures d.in-Done.is
-    (a_part (of d.before.before.before.before.before.before) _ _ d.row_start-at.ensures.0)
+    on_done _ _ _ _ _ c.checked.ensures c.in-Done.is
+    (a_part (of c.before.before.before.before.before.before.before) _ _ c.row_start-at.ensures.0)
 
 pub get_mpm_spec : {M : Type 1} → statement M
 get_mpm_spec =

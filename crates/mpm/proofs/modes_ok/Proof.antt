@@ -7,8 +7,7 @@ use Rattle.mpm.proofs.modes_ok.Tie as tie
 returns : tie.Need-returns
 unfolding modes_ok
 returns c =
-    let l = c.before.before in
-    rw (l.mode_ok.ensures, l.left_mode.ensures, c.mode_ok-2.ensures, c.up_mode.ensures)
+    rw (c.mode_ok.ensures, c.left_mode.ensures, c.mode_ok-2.ensures, c.up_mode.ensures)
 
 pub modes_ok_spec : {M : Type 1} → statement M
 modes_ok_spec =

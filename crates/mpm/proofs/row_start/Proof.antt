@@ -16,8 +16,7 @@ mode_index_requires_2 c κs = ap mode_ok c.up_mode.ensures ∙ up_ok _ _ _ _ _ c
 returns : tie.Need-returns
 unfolding row_start
 returns c =
-    let l = c.before.before in
-    (rw (l.mode_index-l.ensures.0 ∙ ap mode_index l.left_mode.ensures, c.mode_index-u.ensures.0 ∙ ap mode_index c.up_mode.ensures), omega arith)
+    (rw (c.mode_index-l.ensures.0 ∙ ap mode_index c.left_mode.ensures, c.mode_index-u.ensures.0 ∙ ap mode_index c.up_mode.ensures), omega arith)
 
 pub row_start_spec : {M : Type 1} → statement M
 row_start_spec =

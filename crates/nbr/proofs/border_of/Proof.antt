@@ -7,16 +7,12 @@ use Rattle.nbr.proofs.border_of.Tie as tie
 
 returns : tie.Need-returns
 returns c =
-    let n = c.before in
-    let up = n.before in
-    let corner = up.before in
-    let left = corner.before in
     record {
-      left = left.left_arm-left.ensures;
-      corner = corner.corner_arm-corner.ensures;
-      up = up.up_arm-up.ensures;
+      c = c.left_arm-left.ensures;
+      c = c.corner_arm-corner.ensures;
+      c = c.up_arm-up.ensures;
       units = refl;
-      n = n.in_component-n.ensures ∙ unit_scaled left.args.block.component;
+      c = c.in_component-n.ensures ∙ unit_scaled c.args.block.component;
     }
 
 pub border_of_spec : {M : Type 1} → statement M

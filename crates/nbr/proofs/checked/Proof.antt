@@ -37,14 +37,14 @@ rest2 b run = unless (block_ok b.w b.h b.x.0 b.y.0 b.side) (Refused refusal.Bloc
 abbrev rest1 : Block → (plane words run : ℕ) → Answer
 rest1 b plane words run = unless (lengths_ok b.component b.w b.h plane words) (Refused Length) (rest2 b run)
 
-past1 : (c : tie.Else-not-size_ok) (r : Answer) → let s = c.before.before in r ≡ rest1 s.args.block s.args.plane s.args.words s.args.run → r ≡ found s
+past1 : (c : tie.Else-not-size_ok) (r : Answer) → r ≡ rest1 c.args.block c.args.plane c.args.words c.args.run → r ≡ found c.before.before
 unfolding form_of
 past1 c r p = goes_on _ _ _ _ r c.size_ok.ensures c.if-not-size_ok.false-raw p
 
-past2 : (c : tie.Else-not-lengths_ok) (r : Answer) → let s = c.before.before.before.before in r ≡ rest2 s.args.block s.args.run → r ≡ found s
+past2 : (c : tie.Else-not-lengths_ok) (r : Answer) → r ≡ rest2 c.args.block c.args.run → r ≡ found c.before.before.before.before
 past2 c r p = past1 c.before.before r (goes_on _ _ _ _ r c.lengths_ok.ensures c.if-not-lengths_ok.false-raw p)
 
-past3 : (c : tie.Else-not-block_ok) (r : Answer) → let s = c.before.before.before.before.before.before in r ≡ rest3 s.args.block s.args.run → r ≡ found s.before.before
+past3 : (c : tie.Else-not-block_ok) (r : Answer) → r ≡ rest3 c.args.block c.args.run → r ≡ found c.before.before.before.before.before.before.before.before
 past3 c r p = past2 c.before.before.before.before r (goes_on _ _ _ _ r c.block_ok.ensures c.if-not-block_ok.false-raw p)
 
 returns : tie.Need-returns-then-not-size_ok

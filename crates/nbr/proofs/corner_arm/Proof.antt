@@ -7,22 +7,19 @@ use Rattle.nbr.proofs.corner_arm.Statement.{statement}
 use Rattle.nbr.proofs.corner_arm.Tie as tie
 
 -- the block's numbers
-frame : (c : tie.After-in_component-row) → let d = c.before.before.before.before in
-    let a = d.args in Frame a.block.w a.block.h d.pel2scu-u.result.0 d.pel2scu-v.result.0
+frame : (c : tie.After-in_component-row) → let a = c.args in Frame a.block.w a.block.h c.pel2scu-u.result.0 c.pel2scu-v.result.0
     c.in_component-across.result c.in_component-column.result c.in_component-row.result
 frame c =
-    let d = c.before.before.before.before in
-    framed d.args.block.component _ _ _ _ _ _ _ _ _ _ d.requires d.pel2scu-u.ensures d.pel2scu-v.ensures
+    framed c.args.block.component _ _ _ _ _ _ _ _ _ _ c.requires c.pel2scu-u.ensures c.pel2scu-v.ensures
     c.in_component-across.ensures c.in_component-column.ensures c.in_component-row.ensures
 
 -- it has a corner
-some : (c : tie.After-in_component-row) → let d = c.before.before.before.before in Cornered d.pel2scu-u.result.0 d.pel2scu-v.result.0
+some : (c : tie.After-in_component-row) → Cornered c.pel2scu-u.result.0 c.pel2scu-v.result.0
 some c = cornered _ _ c.if-u-v.false
 
 returns : tie.Need-returns-then-u-v
 returns c =
-    let d = c.before.before in
-    c.no_arm.ensures ∙ corner_none d.args.block.component _ _ _ _ _ d.pel2scu-u.ensures d.pel2scu-v.ensures c.if-u-v.true
+    c.no_arm.ensures ∙ corner_none c.args.block.component _ _ _ _ _ c.pel2scu-u.ensures c.pel2scu-v.ensures c.if-u-v.true
 
 sub_flat : tie.Need-overflow_sub-column
 sub_flat c = (frame c).left (some c).some_left
@@ -40,10 +37,8 @@ flat_requires_2 c κs =
 
 returns-2 : tie.Need-returns
 returns-2 c =
-    let k = c.before.before in
-    let d = k.before.before.before.before in
-    corner_made d.args.block.component _ d.args.block.h _ _ _ _ _ _ _ _ _ d.pel2scu-u.ensures d.pel2scu-v.ensures
-    k.in_component-across.ensures k.in_component-column.ensures k.in_component-row.ensures (some k).right (some k).down
+    corner_made c.args.block.component _ c.args.block.h _ _ _ _ _ _ _ _ _ c.pel2scu-u.ensures c.pel2scu-v.ensures
+    c.in_component-across.ensures c.in_component-column.ensures c.in_component-row.ensures (some c.before.before).right (some c.before.before).down
     c.flat.ensures c.flat-2.ensures
 
 pub corner_arm_spec : {M : Type 1} → statement M

@@ -8,14 +8,12 @@ use Rattle.nbr.proofs.gather.Tie as tie
 
 samples_pass_requires : tie.Need-samples_pass-requires
 samples_pass_requires c κs =
-    let s = c.before.before.before.before in
-    (s.requires.0, c.border_of-border.ensures, reads_of _ _ _ _ s.requires.0 s.requires.1 c.border_of-border.ensures)
+    (c.requires.0, c.border_of-border.ensures, reads_of _ _ _ _ c.requires.0 c.requires.1 c.border_of-border.ensures)
 
 put_run_requires : tie.Need-put_run-requires
 put_run_requires c κs =
-    let s = c.before.before.before.before.before.before.before in
     let o = c.border_of-border.ensures in
-    (s.requires.0, o, reads_of _ _ _ _ s.requires.0 s.requires.1 o, s.requires.2)
+    (c.requires.0, o, reads_of _ _ _ _ c.requires.0 c.requires.1 o, c.requires.2)
 
 returns : tie.Need-returns-then-not-samples_pass
 returns c = let e = c.samples_pass in samples_refused _ e.result e.ensures c.if-not-samples_pass.true

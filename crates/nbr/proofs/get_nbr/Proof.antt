@@ -28,21 +28,17 @@ of s =
 
 gather_requires : tie.Need-gather-requires
 gather_requires c κs =
-    let d = c.before.before in
-    let i = of d.before.before.before.before in
-    let k = formed i.around (length i.run) (sym d.checked.ensures ∙ c.in_default.is) in
+    let i = of c.before.before.before.before.before.before in
+    let k = formed i.around (length i.run) (sym c.checked.ensures ∙ c.in_default.is) in
     (k.block, k.lent, k.run_whole)
 
 returns : tie.Need-returns-in-Refused
 returns c =
-    let d = c.before in
-    form_refused (of d.before.before.before.before) _ _ d.checked.ensures c.in-Refused.is
+    form_refused (of c.before.before.before.before.before) _ _ c.checked.ensures c.in-Refused.is
 
 returns-2 : tie.Need-returns
 returns-2 c =
-    let t = c.before.before.before.before in
-    let d = t.before in
-    c.gather.ensures ∙ form_passed (of d.before.before.before.before) _ d.checked.ensures t.in_default.is
+    c.gather.ensures ∙ form_passed (of c.before.before.before.before.before.before.before.before.before) _ c.checked.ensures c.in_default.is
 
 pub get_nbr_spec : {M : Type 1} → statement M
 get_nbr_spec =

@@ -22,7 +22,7 @@ join_near_requires_2 : tie.Need-join_near-requires
 join_near_requires_2 c κs = asked c.before.before.before 4 c.if-n-eq4.true c.args.border.left c.requires.0.left_in
 
 join_near_requires_3 : tie.Need-join_near-requires-then-n-eq4
-join_near_requires_3 c κs = let s = c.before.before.before.before in asked s 4 c.if-n-eq4.true s.args.border.up s.requires.0.up_in
+join_near_requires_3 c κs = asked c 4 c.if-n-eq4.true c.args.border.up c.requires.0.up_in
 
 returns : tie.Need-returns-then-n-eq4
 returns c =

@@ -12,18 +12,17 @@ few : (u n : ℕ) → u ≤ 32 → n ≤ 4 → u * n ≤ 128
 few u n p q = mul-le-mul p q
 
 mul_there : tie.Need-overflow_mul-there
-mul_there c = let s = c.before.before in omega (arith, few s.args.arm.there s.args.n (omega (arith, s.requires.1, c.if-there-units.true)) s.requires.0)
+mul_there c = omega (arith, few c.args.arm.there c.args.n (omega (arith, c.requires.1, c.if-there-units.true)) c.requires.0)
 
 returns : tie.Need-returns-then-there-units
 returns c = λ e k p q. scan_at _ _ k q (sym c.join_samples.ensures ∙ e)
 
 mul_units : tie.Need-overflow_mul-units
-mul_units c = let s = c.before.before in omega (arith, few s.args.units s.args.n s.requires.1 s.requires.0)
+mul_units c = omega (arith, few c.args.units c.args.n c.requires.1 c.requires.0)
 
 join_samples_requires_2 : tie.Need-join_samples-requires-2
 join_samples_requires_2 c κs =
-    let s = c.before.before in
-    λ j p. s.requires.2 j (omega (arith, mul-le-mul_right {m = s.args.units} {n = s.args.arm.there} s.args.n (omega (arith, c.if-there-units.false))))
+    λ j p. c.requires.2 j (omega (arith, mul-le-mul_right {m = c.args.units} {n = c.args.arm.there} c.args.n (omega (arith, c.if-there-units.false))))
 
 returns-2 : tie.Need-returns
 returns-2 c = λ e k p q. scan_at _ _ k p (sym c.join_samples-2.ensures ∙ e)

@@ -22,8 +22,7 @@ here c = c.requires _ (omega arith)
 
 loop_again : tie.Need-loop-j-preserved invariant-loop decreases-loop
 loop_again c =
-    let h = c.before.before in
-    (search rules, joined h.loop-j.all _ ∙ rw h.loop-j.invariant.1 (sym (scan_step _ h.loop-j.j)))
+    (search rules, joined c.loop-j.all _ ∙ rw c.loop-j.invariant.1 (sym (scan_step _ c.loop-j.j)))
 
 returns : tie.Need-returns invariant-loop decreases-loop
 returns c = let e : c.loop-j.j ≡ c.args.n = omega arith in c.loop-j.invariant.1 ∙ rw e

@@ -50,8 +50,7 @@ join_samples_requires c κs = inside c.before.before
 
 returns-2 : tie.Need-returns
 returns-2 c =
-    let d = c.before.before.before in
-    c.join_samples.ensures ∙ scan_alike _ _ _ (λ j p. ap sample_ok (sym (unit_sample _ _ _ _ _ _ j p (there d))))
+    c.join_samples.ensures ∙ scan_alike _ _ _ (λ j p. ap sample_ok (sym (unit_sample _ _ _ _ _ _ j p (there c.before.before.before))))
 
 pub join_unit_spec : {M : Type 1} → statement M
 join_unit_spec = tie.close (tie.spec present_requires returns mul_from mul_from_2 add_from join_samples_requires returns-2)

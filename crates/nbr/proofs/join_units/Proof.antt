@@ -21,12 +21,11 @@ loop_holds c = let a = c.args in (omega arith, rw (zero-mul a.n) (join_none (arm
 
 loop_again : tie.Need-loop-i-preserved invariant-loop decreases-loop
 loop_again c =
-    let h = c.before.before in
-    let a = h.args in
-    let i = h.loop-i.i in (
+    let a = c.args in
+    let i = c.loop-i.i in (
       search rules,
-      rw (next_row i a.n) (join_part (arm_at a.arm a.n a.constrained a.plane.now a.words.now) _ h.loop-i.all (i * a.n)
-          c.join_unit-all.result a.n (λ j p. refl) c.join_unit-all.ensures h.loop-i.invariant.1),
+      rw (next_row i a.n) (join_part (arm_at a.arm a.n a.constrained a.plane.now a.words.now) _ c.loop-i.all (i * a.n)
+          c.join_unit-all.result a.n (λ j p. refl) c.join_unit-all.ensures c.loop-i.invariant.1),
     )
 
 returns : tie.Need-returns invariant-loop decreases-loop

@@ -7,18 +7,15 @@ use Rattle.nbr.proofs.left_arm.Statement.{statement}
 use Rattle.nbr.proofs.left_arm.Tie as tie
 
 -- the block's numbers
-frame : (c : tie.After-in_component-row) → let d = c.before.before.before.before in
-    let a = d.args in Frame a.block.w a.block.h d.pel2scu-u.result.0 d.pel2scu-v.result.0
+frame : (c : tie.After-in_component-row) → let a = c.args in Frame a.block.w a.block.h c.pel2scu-u.result.0 c.pel2scu-v.result.0
     c.in_component-across.result c.in_component-column.result c.in_component-row.result
 frame c =
-    let d = c.before.before.before.before in
-    framed d.args.block.component _ _ _ _ _ _ _ _ _ _ d.requires d.pel2scu-u.ensures d.pel2scu-v.ensures
+    framed c.args.block.component _ _ _ _ _ _ _ _ _ _ c.requires c.pel2scu-u.ensures c.pel2scu-v.ensures
     c.in_component-across.ensures c.in_component-column.ensures c.in_component-row.ensures
 
 returns : tie.Need-returns-then-u-eq0
 returns c =
-    let d = c.before.before in
-    c.no_arm.ensures ∙ left_none d.args.block.component _ _ _ _ _ d.pel2scu-u.ensures c.if-u-eq0.true
+    c.no_arm.ensures ∙ left_none c.args.block.component _ _ _ _ _ c.pel2scu-u.ensures c.if-u-eq0.true
 
 sub_flat : tie.Need-overflow_sub-column
 sub_flat c = (frame c).left (omega arith)
@@ -38,10 +35,8 @@ sub_t18 c =
 
 returns-2 : tie.Need-returns
 returns-2 c =
-    let k = c.before.before.before in
-    let d = k.before.before.before.before in
-    left_made d.args.block.component _ _ _ _ _ _ _ _ _ _ _ d.pel2scu-u.ensures d.pel2scu-v.ensures
-    k.in_component-across.ensures k.in_component-column.ensures k.in_component-row.ensures k.if-u-eq0.false
+    left_made c.args.block.component _ _ _ _ _ _ _ _ _ _ _ c.pel2scu-u.ensures c.pel2scu-v.ensures
+    c.in_component-across.ensures c.in_component-column.ensures c.in_component-row.ensures c.if-u-eq0.false
     c.flat.ensures c.flat-2.ensures
 
 pub left_arm_spec : {M : Type 1} → statement M

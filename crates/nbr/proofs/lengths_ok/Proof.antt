@@ -11,16 +11,14 @@ use Rattle.nbr.proofs.lengths_ok.Tie as tie
 
 mul_result : tie.Need-overflow_mul-result
 mul_result c =
-    let s = c.before.before in
-    let p : c.in_component-w.result ≤ 4096 = rw c.in_component-w.ensures (scaled_le s.args.block.component _ _ s.requires.0) in
-    let q : c.in_component-h.result ≤ 4096 = rw c.in_component-h.ensures (scaled_le s.args.block.component _ _ s.requires.1) in
+    let p : c.in_component-w.result ≤ 4096 = rw c.in_component-w.ensures (scaled_le c.args.block.component _ _ c.requires.0) in
+    let q : c.in_component-h.result ≤ 4096 = rw c.in_component-h.ensures (scaled_le c.args.block.component _ _ c.requires.1) in
     let r : c.in_component-w.result * c.in_component-h.result ≤ 4096 * 4096 = mul-le-mul p q in
     omega arith
 
 mul_result_2 : tie.Need-overflow_mul-result-2
 mul_result_2 c =
-    let s = c.before.before.before.before in
-    omega (arith, few_units s.args.block.w s.args.block.h s.requires.0 s.requires.1)
+    omega (arith, few_units c.args.block.w c.args.block.h c.requires.0 c.requires.1)
 
 returns : tie.Need-returns
 unfolding lengths_ok

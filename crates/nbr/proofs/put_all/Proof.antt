@@ -16,7 +16,7 @@ put_arm_requires c κs =
 put_units_requires : tie.Need-put_units-requires
 put_units_requires c κs =
     let p = c.requires in
-    let left = c.put_arm.auto.1.1.1.1.1.1.0 in
+    let left = c.put_arm.auto.run in
     (p.0.corner_within, omega (arith, p.1, left))
 
 add_put_arm : tie.Need-overflow_add-at
@@ -25,8 +25,8 @@ add_put_arm c = omega (arith, c.requires.1)
 put_arm_requires_2 : tie.Need-put_arm-requires-2
 put_arm_requires_2 c κs =
     let p = c.requires in
-    let left = c.put_arm.auto.1.1.1.1.1.1.0 in
-    let corner = c.put_units.auto.1.1.1.1.1.1.0 in
+    let left = c.put_arm.auto.run in
+    let corner = c.put_units.auto.run in
     (p.0.up_within, omega (arith, p.1, left, corner), p.0.sizes)
 
 returns : tie.Need-returns

@@ -16,7 +16,7 @@ module _ (s : tie.Start) (m : ℕ) (e : s.args.border.n ≡ m) where
   read a h = subst (λ (k : ℕ). Within a k s.args.plane.now s.args.words.now) e h
 
   long : length s.args.run.now ≡ 2 * (2 * m) + 1
-  long = rw (s.pre.2, e) at s.pre.1
+  long = rw (s.requires.2, e) at s.requires.1
 
 -- where each branch comes from
 abbrev of_four : (c : tie.Then-n-eq4) → tie.Start
@@ -31,57 +31,49 @@ two c = (of_two c).requires.0.sizes c.if-n-eq4.false
 
 put_units_requires : tie.Need-put_units-requires
 put_units_requires c κs =
-    let d = c.before in
-    let s = of_four d.before in
-    (read s 4 d.if-n-eq4.true _ s.pre.0.left_within, omega (arith, long s 4 d.if-n-eq4.true))
+    let s = of_four c.before.before in
+    (read s 4 c.if-n-eq4.true _ s.pre.0.left_within, omega (arith, long s 4 c.if-n-eq4.true))
 
 put_units_requires_2 : tie.Need-put_units-requires-then-n-eq4
 put_units_requires_2 c κs =
-    let d = c.before.before.before.before.before in
-    let left = c.put_units.auto.1.1.1.1.1.1.0 in
-    ((of_four d.before.before).requires.0.corner_within, omega (arith, long (of_four d.before.before) 4 d.if-n-eq4.true, left))
+    let left = c.put_units.auto.run in
+    ((of_four c.before.before.before.before.before.before.before).requires.0.corner_within, omega (arith, long (of_four c.before.before.before.before.before.before.before) 4 c.if-n-eq4.true, left))
 
 put_units_requires_3 : tie.Need-put_units-requires-then-n-eq4-2
 put_units_requires_3 c κs =
-    let d = c.before.before.before.before.before.before.before.before.before in
-    let s = of_four d.before.before.before in
-    let left = c.put_units.auto.1.1.1.1.1.1.0 in
-    let corner = c.put_units-then-n-eq4.auto.1.1.1.1.1.1.0 in
-    (read s 4 d.if-n-eq4.true _ s.pre.0.up_within, omega (arith, long s 4 d.if-n-eq4.true, left, corner))
+    let s = of_four c.before.before.before.before.before.before.before.before.before.before.before.before in
+    let left = c.put_units.auto.run in
+    let corner = c.put_units-then-n-eq4.auto.run in
+    (read s 4 c.if-n-eq4.true _ s.pre.0.up_within, omega (arith, long s 4 c.if-n-eq4.true, left, corner))
 
 returns : tie.Need-returns-then-n-eq4
 returns c =
-    let d = c.before.before.before.before.before.before.before.before.before.before.before.before in
     let left = c.put_units.ensures in
     let corner = c.put_units-then-n-eq4.ensures in
-    few_written _ _ _ _ _ _ _ _ 4 (of_four d.before.before.before).requires.2 d.if-n-eq4.true left corner c.put_units-then-n-eq4-2.ensures
+    few_written _ _ _ _ _ _ _ _ 4 (of_four c.before.before.before.before.before.before.before.before.before.before.before.before.before.before.before).requires.2 c.if-n-eq4.true left corner c.put_units-then-n-eq4-2.ensures
 
 put_units_requires_4 : tie.Need-put_units-requires-2
 put_units_requires_4 c κs =
-    let d = c.before in
-    let s = of_two d.before in
-    (read s 2 (two d.before) _ s.pre.0.left_within, omega (arith, long s 2 (two d.before)))
+    let s = of_two c.before.before in
+    (read s 2 (two c.before.before) _ s.pre.0.left_within, omega (arith, long s 2 (two c.before.before)))
 
 put_units_requires_5 : tie.Need-put_units-requires-3
 put_units_requires_5 c κs =
-    let d = c.before.before.before.before.before in
-    let left = c.put_units-2.auto.1.1.1.1.1.1.0 in
-    ((of_two d.before.before).requires.0.corner_within, omega (arith, long (of_two d.before.before) 2 (two d.before.before), left))
+    let left = c.put_units-2.auto.run in
+    ((of_two c.before.before.before.before.before.before.before).requires.0.corner_within, omega (arith, long (of_two c.before.before.before.before.before.before.before) 2 (two c.before.before.before.before.before.before.before), left))
 
 put_units_requires_6 : tie.Need-put_units-requires-4
 put_units_requires_6 c κs =
-    let d = c.before.before.before.before.before.before.before.before.before in
-    let s = of_two d.before.before.before in
-    let left = c.put_units-2.auto.1.1.1.1.1.1.0 in
-    let corner = c.put_units-3.auto.1.1.1.1.1.1.0 in
-    (read s 2 (two d.before.before.before) _ s.pre.0.up_within, omega (arith, long s 2 (two d.before.before.before), left, corner))
+    let s = of_two c.before.before.before.before.before.before.before.before.before.before.before.before in
+    let left = c.put_units-2.auto.run in
+    let corner = c.put_units-3.auto.run in
+    (read s 2 (two c.before.before.before.before.before.before.before.before.before.before.before.before) _ s.pre.0.up_within, omega (arith, long s 2 (two c.before.before.before.before.before.before.before.before.before.before.before.before), left, corner))
 
 returns-2 : tie.Need-returns
 returns-2 c =
-    let d = c.before.before.before.before.before.before.before.before.before.before.before.before in
     let left = c.put_units-2.ensures in
     let corner = c.put_units-3.ensures in
-    few_written _ _ _ _ _ _ _ _ 2 (of_two d.before.before.before).requires.2 (two d.before.before.before) left corner c.put_units-4.ensures
+    few_written _ _ _ _ _ _ _ _ 2 (of_two c.before.before.before.before.before.before.before.before.before.before.before.before.before.before.before).requires.2 (two c.before.before.before.before.before.before.before.before.before.before.before.before.before.before.before) left corner c.put_units-4.ensures
 
 pub put_few_spec : {M : Type 1} → statement M
 put_few_spec =

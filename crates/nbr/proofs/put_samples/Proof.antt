@@ -20,8 +20,7 @@ here c = c.requires.1 _ (omega arith)
 
 loop_again : tie.Need-loop-j-preserved invariant-loop decreases-loop
 loop_again c =
-    let h = c.before in
-    (search rules, rowed_more _ _ _ _ _ h.loop-j.j _ (omega arith) refl h.loop-j.invariant.1)
+    (search rules, rowed_more _ _ _ _ _ c.loop-j.j _ (omega arith) refl c.loop-j.invariant.1)
 
 same_length : tie.Need-shape_of-run invariant-loop decreases-loop
 same_length c = c.loop-j.invariant.1.long

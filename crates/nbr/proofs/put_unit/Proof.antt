@@ -33,8 +33,7 @@ present_requires c κs = c.requires.0.words_in c.args.i
 
 returns : tie.Need-returns-then-not-present
 returns c =
-    let d = c.before.before.before.before in
-    c.put_missing.ensures ∙ row_same _ _ _ _ _ _ (λ j p. sym (unit_missing _ _ _ _ _ _ j p (absent d)))
+    c.put_missing.ensures ∙ row_same _ _ _ _ _ _ (λ j p. sym (unit_missing _ _ _ _ _ _ j p (absent c.before.before.before.before)))
 
 mul_from : tie.Need-overflow_mul-from
 mul_from c = omega (arith, few c)
@@ -47,13 +46,11 @@ add_from c = omega (arith, first c.before.before)
 
 put_samples_requires : tie.Need-put_samples-requires
 put_samples_requires c κs =
-    let d = c.before.before.before in
-    (omega (arith, d.requires.1), inside d)
+    (omega (arith, c.requires.1), inside c.before.before.before)
 
 returns-2 : tie.Need-returns
 returns-2 c =
-    let d = c.before.before.before.before.before.before in
-    c.put_samples.ensures ∙ row_same _ _ _ _ _ _ (λ j p. sym (unit_sample _ _ _ _ _ _ j p (there d)))
+    c.put_samples.ensures ∙ row_same _ _ _ _ _ _ (λ j p. sym (unit_sample _ _ _ _ _ _ j p (there c.before.before.before.before.before.before)))
 
 pub put_unit_spec : {M : Type 1} → statement M
 put_unit_spec =

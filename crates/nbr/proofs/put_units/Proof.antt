@@ -39,10 +39,9 @@ put_unit_requires c κs = (c.requires.0, omega (arith, room c.before, c.loop-i.i
 
 loop_again : tie.Need-loop-i-preserved invariant-loop decreases-loop
 loop_again c =
-    let t = c.before.before.before.before in
-    let a = t.args in
-    let i = t.loop-i.i in
-    (search rules, rw (next_row i a.n, c.put_unit.ensures) (rowed_part _ _ _ _ _ (i * a.n) a.n _ (omega (arith, room t)) (λ j p. refl) t.loop-i.invariant.1))
+    let a = c.args in
+    let i = c.loop-i.i in
+    (search rules, rw (next_row i a.n, c.put_unit.ensures) (rowed_part _ _ _ _ _ (i * a.n) a.n _ (omega (arith, room c.before.before.before.before)) (λ j p. refl) c.loop-i.invariant.1))
 
 same_length : tie.Need-shape_of-run invariant-loop decreases-loop
 same_length c = c.loop-i.invariant.1.long

@@ -11,14 +11,12 @@ join_border_requires c κs = near_of _ _ _ c.requires.2
 
 returns : tie.Need-returns-then-join_border-le1023
 returns c =
-    let s = c.before.before.before.before in
     let j = c.join_border in
-    near_joined _ _ _ _ _ s.requires.0 s.requires.1 s.requires.2 (j.ensures (le-leb j.result 1023 (omega (arith, c.if-join_border-le1023.true))))
+    near_joined _ _ _ _ _ c.requires.0 c.requires.1 c.requires.2 (j.ensures (le-leb j.result 1023 (omega (arith, c.if-join_border-le1023.true))))
 
 returns-2 : tie.Need-returns
 returns-2 c =
-    let s = c.before.before.before.before.before.before.before in
-    units_joined _ _ _ _ _ s.requires.0 s.requires.1 c.join_units.result c.join_units-2.result c.join_units-3.result
+    units_joined _ _ _ _ _ c.requires.0 c.requires.1 c.join_units.result c.join_units-2.result c.join_units-3.result
     c.join_units.ensures c.join_units-2.ensures c.join_units-3.ensures
 
 join_units_requires : tie.Need-join_units-requires

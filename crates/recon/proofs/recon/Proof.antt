@@ -26,8 +26,7 @@ returns c = block_refused _ _ c.checked.ensures _ c.in-Refused.is
 
 returns-2 : tie.Need-returns-in-Done
 returns-2 c =
-    let told = c.before.before.before.before in
-    block_done _ _ told.checked.ensures _ told.in-Done.is (lent_at told).rec_long c.recon_row.ensures
+    block_done _ _ c.checked.ensures _ c.in-Done.is (lent_at c.before.before.before.before).rec_long c.recon_row.ensures
 
 pub recon_spec : {M : Type 1} → statement M
 recon_spec =

@@ -25,11 +25,10 @@ returns c = plane_refused _ _ c.checked_plane.ensures _ c.in-Refused.is
 
 returns-2 : tie.Need-returns-in-Done
 returns-2 c =
-    let told = c.before.before.before.before.before.before.before.before in
-    plane_done _ _ told.checked_plane.ensures _ _ _ _
+    plane_done _ _ c.checked_plane.ensures _ _ _ _
     c.in_component-wide.ensures c.in_component-column.ensures
     c.in_component-row.ensures c.in_component-n.ensures
-    _ told.in-Done.is c.recon_block.ensures
+    _ c.in-Done.is c.recon_block.ensures
 
 pub recon_plane_spec : {M : Type 1} → statement M
 recon_plane_spec =

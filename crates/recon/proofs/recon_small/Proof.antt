@@ -26,12 +26,11 @@ row : (c : tie.In-loop-r invariant-loop decreases-loop) → let a = c.args in Pl
 row c = placed c.loop-r.r c.requires.0 c.loop-r-test.true
 
 mul_recon_row : tie.Need-overflow_mul-n invariant-loop decreases-loop
-mul_recon_row c = let s = c.before.before.before in omega (arith, few s.args.n s.requires.1)
+mul_recon_row c = omega (arith, few c.args.n c.requires.1)
 
 recon_row_requires : tie.Need-recon_row-requires invariant-loop decreases-loop
 recon_row_requires c κs =
-    let s = c.before.before.before in
-    (omega (arith, few s.args.n s.requires.1), omega arith, omega arith, s.requires.0.good)
+    (omega (arith, few c.args.n c.requires.1), omega arith, omega arith, c.requires.0.good)
 
 loop_holds : tie.Need-loop-r-init invariant-loop decreases-loop
 loop_holds c = (omega arith, rows_none _ _ _ _ _ _ _)
@@ -47,25 +46,21 @@ add_copy_row_2 c = let p = row c.before in omega arith
 
 mul_copy_row_2 : tie.Need-overflow_mul-r invariant-loop decreases-loop
 mul_copy_row_2 c =
-    let s = c.before.before.before.before.before.before.before.before.before in
     let p = row c.before.before in
-    omega (arith, few s.args.n s.requires.1)
+    omega (arith, few c.args.n c.requires.1)
 
 copy_row_requires : tie.Need-copy_row-requires invariant-loop decreases-loop
 copy_row_requires c κs =
-    let s = c.before.before.before.before.before.before.before.before.before in
     let p = row c.before.before in
-    (omega arith, omega (arith, few s.args.n s.requires.1))
+    (omega arith, omega (arith, few c.args.n c.requires.1))
 
 loop_again : tie.Need-loop-r-preserved invariant-loop decreases-loop
 loop_again c =
-    let h = c.before.before.before.before.before.before in
-    let s = h.before.before.before.before.before.before in
     let p = row c.before.before.before.before.before in (
       search rules,
-      rows_more _ _ _ _ _ _ _ _ _ h.loop-r.r _ _ (omega arith) (omega arith) refl
-          (λ j q. row_front s.args.coded s.args.pred.now s.args.coef.now (replicate 16 0) _ _ _ (few s.args.n s.requires.1) (omega arith)
-          h.recon_row.ensures) c.copy_row.ensures h.loop-r.invariant.1,
+      rows_more _ _ _ _ _ _ _ _ _ c.loop-r.r _ _ (omega arith) (omega arith) refl
+          (λ j q. row_front c.args.coded c.args.pred.now c.args.coef.now (replicate 16 0) _ _ _ (few c.args.n c.requires.1) (omega arith)
+          c.recon_row.ensures) c.copy_row.ensures c.loop-r.invariant.1,
     )
 
 same_length : tie.Need-shape_of-rec invariant-loop decreases-loop

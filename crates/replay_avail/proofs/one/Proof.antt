@@ -42,7 +42,7 @@ array_share_prefix_words c = search rules
 
 -- src/main.rt:64:13
 slice_aggregate_get_avail_intra : tie.Need-slice_bounds-get_avail_intra-end
-slice_aggregate_get_avail_intra c = let p = c.before.before.before.before.before.before.before in part_long _ _ _ _ p.slice_u32-p.ensures.len p.slice_u32-p.auto.1.1.0
+slice_aggregate_get_avail_intra c = part_long _ _ _ _ c.slice_u32-p.ensures.len c.slice_u32-p.auto.room
 
 -- src/main.rt:61:15
 get_avail_intra_requires : tie.Need-get_avail_intra-requires
@@ -58,7 +58,7 @@ array_share_prefix_words_2 c = search rules
 
 -- src/main.rt:73:13
 slice_aggregate_get_avail_inter : tie.Need-slice_bounds-get_avail_inter-end
-slice_aggregate_get_avail_inter c = let p = c.before.before.before.before.before.before.before in part_long _ _ _ _ p.slice_u32-p.ensures.len p.slice_u32-p.auto.1.1.0
+slice_aggregate_get_avail_inter c = part_long _ _ _ _ c.slice_u32-p.ensures.len c.slice_u32-p.auto.room
 
 -- src/main.rt:70:15
 get_avail_inter_requires : tie.Need-get_avail_inter-requires

@@ -5,13 +5,13 @@ use Rattle.replay_mend.proofs.one.Statement.{statement}
 use Rattle.replay_mend.proofs.one.Tie as tie
 
 slice_aggregate_mended : tie.Need-slice_bounds-mended-end
-slice_aggregate_mended c = let p = c.before.before.before.before.before.before.before.before in part_long _ _ _ _ p.slice_u8-ps.ensures.len p.slice_u8-ps.auto.1.1.0
+slice_aggregate_mended c = part_long _ _ _ _ c.slice_u8-ps.ensures.len c.slice_u8-ps.auto.room
 
 slice_aggregate_mended_2 : tie.Need-slice_bounds-mended-end-2
-slice_aggregate_mended_2 c = let p = c.before.before.before.before.before.before in part_long _ _ _ _ p.slice_u8-po.ensures.len p.slice_u8-po.auto.1.1.0
+slice_aggregate_mended_2 c = part_long _ _ _ _ c.slice_u8-po.ensures.len c.slice_u8-po.auto.room
 
 slice_aggregate_mended_3 : tie.Need-slice_bounds-mended-end-3
-slice_aggregate_mended_3 c = let p = c.before.before.before.before in part_long _ _ _ _ p.slice_u16-pl.ensures.len p.slice_u16-pl.auto.1.1.0
+slice_aggregate_mended_3 c = part_long _ _ _ _ c.slice_u16-pl.ensures.len c.slice_u16-pl.auto.room
 
 pub one_spec : {M : Type 1} → statement M
 one_spec =

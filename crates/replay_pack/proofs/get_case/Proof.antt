@@ -5,10 +5,10 @@ use Rattle.replay_pack.proofs.get_case.Statement.{statement}
 use Rattle.replay_pack.proofs.get_case.Tie as tie
 
 slice_aggregate_get : tie.Need-slice_bounds-get-end
-slice_aggregate_get c = let p = c.before.before.before.before.before.before in part_long _ _ _ _ p.slice_u8-ps.ensures.len p.slice_u8-ps.auto.1.1.0
+slice_aggregate_get c = part_long _ _ _ _ c.slice_u8-ps.ensures.len c.slice_u8-ps.auto.room
 
 slice_aggregate_get_2 : tie.Need-slice_bounds-get-end-2
-slice_aggregate_get_2 c = let p = c.before.before.before in part_long _ _ _ _ p.slice_u8-pm.ensures.len p.slice_u8-pm.auto.1.1.0
+slice_aggregate_get_2 c = part_long _ _ _ _ c.slice_u8-pm.ensures.len c.slice_u8-pm.auto.room
 
 pub get_case_spec : {M : Type 1} → statement M
 get_case_spec =

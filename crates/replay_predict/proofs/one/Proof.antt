@@ -5,10 +5,10 @@ use Rattle.replay_predict.proofs.one.Statement.{statement}
 use Rattle.replay_predict.proofs.one.Tie as tie
 
 slice_aggregate_predicted : tie.Need-slice_bounds-predicted-end
-slice_aggregate_predicted c = let p = c.before.before.before.before.before.before in part_long _ _ _ _ p.slice_u16-pr.ensures.len p.slice_u16-pr.auto.1.1.0
+slice_aggregate_predicted c = part_long _ _ _ _ c.slice_u16-pr.ensures.len c.slice_u16-pr.auto.room
 
 slice_aggregate_predicted_2 : tie.Need-slice_bounds-predicted-end-2
-slice_aggregate_predicted_2 c = let p = c.before.before.before.before in part_long _ _ _ _ p.slice_u16-pb.ensures.len p.slice_u16-pb.auto.1.1.0
+slice_aggregate_predicted_2 c = part_long _ _ _ _ c.slice_u16-pb.ensures.len c.slice_u16-pb.auto.room
 
 pub one_spec : {M : Type 1} → statement M
 one_spec =

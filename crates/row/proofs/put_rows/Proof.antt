@@ -24,9 +24,8 @@ add_row_between_2 c = omega (arith, c.requires.1.word, c.loop-j-test.true)
 
 row_between_requires : tie.Need-row_between-requires invariant-loop decreases-loop
 row_between_requires c κs =
-    let s = c.before.before.before.before in
-    let a = s.args in
-    (unit_of_lem _ _ _ a.q a.n c.loop-j.j s.requires.0 c.loop-j-test.true, unit_of_lem _ _ _ a.p a.n c.loop-j.j s.requires.1 c.loop-j-test.true)
+    let a = c.args in
+    (unit_of_lem _ _ _ a.q a.n c.loop-j.j c.requires.0 c.loop-j-test.true, unit_of_lem _ _ _ a.p a.n c.loop-j.j c.requires.1 c.loop-j-test.true)
 
 cast_rows : tie.Need-overflow_cast-rows invariant-loop decreases-loop
 cast_rows c = omega (arith, c.row_between.ensures.1)

@@ -15,17 +15,16 @@ returns-2 c = (none_p _ _ _ _ _ (sym c.in_maps-2.ensures ∙ c.if-not-in_maps-2.
 
 row_between_requires : tie.Need-row_between-requires
 row_between_requires c κs =
-    let d = c.before.before in (
-      unit_there _ _ _ _ (sym d.in_maps.ensures ∙ d.if-not-in_maps.false),
+    (
+      unit_there _ _ _ _ (sym c.in_maps.ensures ∙ c.if-not-in_maps.false),
       unit_there _ _ _ _ (sym c.in_maps-2.ensures ∙ c.if-not-in_maps-2.false),
     )
 
 returns-3 : tie.Need-returns
 returns-3 c =
-    let e = c.before in
-    let d = e.before.before in (
+    (
       c.row_between.ensures.0
-          ∙ both_there _ _ _ _ _ (sym d.in_maps.ensures ∙ d.if-not-in_maps.false) (sym e.in_maps-2.ensures ∙ e.if-not-in_maps-2.false),
+          ∙ both_there _ _ _ _ _ (sym c.in_maps.ensures ∙ c.if-not-in_maps.false) (sym c.in_maps-2.ensures ∙ c.if-not-in_maps-2.false),
       c.row_between.ensures.1,
     )
 

@@ -18,24 +18,18 @@ returns-3 c = let e = none_at_p _ _ _ _ _ _ _ (sym c.run_in_maps-2.ensures ∙ c
 
 put_rows_requires : tie.Need-put_rows-requires
 put_rows_requires c κs =
-    let third = c.before in
-    let second = third.before.before in
-    let first = second.before.before in (
-      run_there _ _ _ _ _ (sym second.run_in_maps.ensures ∙ second.if-not-run_in_maps.false),
-      run_there _ _ _ _ _ (sym third.run_in_maps-2.ensures ∙ third.if-not-run_in_maps-2.false),
-      omega (arith, first.if-rows-n.false),
+    (
+      run_there _ _ _ _ _ (sym c.run_in_maps.ensures ∙ c.if-not-run_in_maps.false),
+      run_there _ _ _ _ _ (sym c.run_in_maps-2.ensures ∙ c.if-not-run_in_maps-2.false),
+      omega (arith, c.if-rows-n.false),
     )
 
 returns-4 : tie.Need-returns
 returns-4 c =
-    let done = c.before.before in
-    let third = done.before.before in
-    let second = third.before.before in
-    let first = second.before.before in
     let e =
-    all_there _ _ _ _ _ _ _ first.if-rows-n.false (sym second.run_in_maps.ensures ∙ second.if-not-run_in_maps.false)
-    (sym third.run_in_maps-2.ensures ∙ third.if-not-run_in_maps-2.false) in
-    (e, done.put_rows.ensures ∙ put_all _ _ _ _ _ _ _ e)
+    all_there _ _ _ _ _ _ _ c.if-rows-n.false (sym c.run_in_maps.ensures ∙ c.if-not-run_in_maps.false)
+    (sym c.run_in_maps-2.ensures ∙ c.if-not-run_in_maps-2.false) in
+    (e, c.put_rows.ensures ∙ put_all _ _ _ _ _ _ _ e)
 
 pub rows_at_spec : {M : Type 1} → statement M
 rows_at_spec = tie.close (tie.spec returns (λ c κs. search rules) returns-2 (λ c κs. search rules) returns-3 put_rows_requires (λ c. search rules) returns-4)

@@ -17,19 +17,16 @@ number {z} h = back w16 z (record { sfits = h })
 returns : tie.Need-returns
 unfolding same_motion
 returns c =
-    let third = c.before.before.before in
-    let second = third.before.before.before in
-    let first = second.before.before.before in
     rw (
-      first.same_number.ensures,
-      number first.same_number-arg-1.given,
-      number first.same_number-arg-2-1.given,
-      second.same_number-2.ensures,
-      number second.same_number-arg-3-1.given,
-      number second.same_number-arg-4-1.given,
-      third.same_number-3.ensures,
-      number third.same_number-arg-5-1.given,
-      number third.same_number-arg-6-1.given,
+      c.same_number.ensures,
+      number c.same_number-arg-1.given,
+      number c.same_number-arg-2-1.given,
+      c.same_number-2.ensures,
+      number c.same_number-arg-3-1.given,
+      number c.same_number-arg-4-1.given,
+      c.same_number-3.ensures,
+      number c.same_number-arg-5-1.given,
+      number c.same_number-arg-6-1.given,
       c.same_number-4.ensures,
       number c.same_number-arg-7-1.given,
       number c.same_number-arg-8-1.given,

@@ -17,11 +17,10 @@ number {z} h = back w8 z (record { sfits = h })
 returns : tie.Need-returns
 unfolding same_refs
 returns c =
-    let first = c.before.before.before in
     rw (
-      first.same_ref.ensures,
-      number first.same_ref-arg-1.given,
-      number first.same_ref-arg-2-1.given,
+      c.same_ref.ensures,
+      number c.same_ref-arg-1.given,
+      number c.same_ref-arg-2-1.given,
       c.same_ref-2.ensures,
       number c.same_ref-arg-3-1.given,
       number c.same_ref-arg-4-1.given,

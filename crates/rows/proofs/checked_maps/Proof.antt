@@ -20,14 +20,12 @@ lengths_ok_requires c κs =
 returns-2 : tie.Need-returns-then-not-lengths_ok
 unfolding check_maps
 returns-2 c =
-    let d = c.before.before in
-    goes_on _ _ _ _ _ d.size_ok.ensures d.if-not-size_ok.false-raw (stops _ _ _ _ c.lengths_ok.ensures c.if-not-lengths_ok.true-raw)
+    goes_on _ _ _ _ _ c.size_ok.ensures c.if-not-size_ok.false-raw (stops _ _ _ _ c.lengths_ok.ensures c.if-not-lengths_ok.true-raw)
 
 returns-3 : tie.Need-returns
 unfolding check_maps
 returns-3 c =
-    let d = c.before.before in
-    goes_on _ _ _ _ _ d.size_ok.ensures d.if-not-size_ok.false-raw (goes_on _ _ _ _ _ c.lengths_ok.ensures c.if-not-lengths_ok.false-raw refl)
+    goes_on _ _ _ _ _ c.size_ok.ensures c.if-not-size_ok.false-raw (goes_on _ _ _ _ _ c.lengths_ok.ensures c.if-not-lengths_ok.false-raw refl)
 
 pub checked_maps_spec : {M : Type 1} → statement M
 checked_maps_spec = tie.close (tie.spec (λ c κs. search rules) returns lengths_ok_requires returns-2 returns-3)

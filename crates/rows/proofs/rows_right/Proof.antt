@@ -10,15 +10,13 @@ returns c = right_refused _ _ _ _ _ _ _ _ c.checked_maps.ensures c.in-Refused.is
 
 all_right_requires : tie.Need-all_right-requires
 all_right_requires c κs =
-    let found = c.before in
-    let s = found.args in
-    let a = maps_accepted s.w s.h s.words.now s.motion.now s.refs.now s.rows.now (sym found.checked_maps.ensures ∙ c.in-Done.is) in
+    let s = c.args in
+    let a = maps_accepted s.w s.h s.words.now s.motion.now s.refs.now s.rows.now (sym c.checked_maps.ensures ∙ c.in-Done.is) in
     (a.lent, a.rows_long)
 
 returns-2 : tie.Need-returns-in-Done
 returns-2 c =
-    let told = c.before in
-    c.all_right.ensures ∙ right_done_lem _ _ _ _ _ _ _ told.checked_maps.ensures told.in-Done.is
+    c.all_right.ensures ∙ right_done_lem _ _ _ _ _ _ _ c.checked_maps.ensures c.in-Done.is
 
 pub rows_right_spec : {M : Type 1} → statement M
 rows_right_spec = tie.close (tie.spec (λ c κs. search rules) (λ c. search rules) (λ c. search rules) all_right_requires returns returns-2)

@@ -33,8 +33,7 @@ count_horizontal c = sym (length-take-le _ _ (lend_horizontal c.before))
 
 print_lists_requires : tie.Need-print_lists-requires
 print_lists_requires c κs =
-    let s = c.before.before.before.before.before.before.before in
-    (s.requires.0, length-take-le _ _ (lend_vertical c.before.before.before), length-take-le _ _ (lend_horizontal c.before.before), s.requires.1)
+    (c.requires.0, length-take-le _ _ (lend_vertical c.before.before.before), length-take-le _ _ (lend_horizontal c.before.before), c.requires.1)
 
 pub print_edges_spec : {M : Type 1} → statement M
 print_edges_spec =

@@ -7,9 +7,8 @@ use Rattle.sheet.proofs.print_lists.Statement.{statement}
 use Rattle.sheet.proofs.print_lists.Tie as tie
 
 -- what the call lists
-told : (c : tie.In-Done) → let s = c.before.before.before.before.before.before.before.before.before.before.before.before in
-    let l = c.list_edges.new.1.1.1.1 in
-    Printable s.args.w s.args.h s.args.limit s.args.map.now s.args.vertical.now s.args.horizontal.now s.requires.0 s.requires.1 s.requires.2
+told : (c : tie.In-Done) → let l = c.list_edges.new.1.1.1.1 in
+    Printable c.args.w c.args.h c.args.limit c.args.map.now c.args.vertical.now c.args.horizontal.now c.requires.0 c.requires.1 c.requires.2
     c.in-Done.m c.in-Done.n l.0 l.1.0
 told c =
     let p = c.requires in
@@ -17,7 +16,7 @@ told c =
     (listed_both _ _ _ _ _ _ p.0 p.1 p.2 _ _ _ _ _ c.list_edges.ensures c.in-Done.is)
 
 cast_list_edges : tie.Need-overflow_cast-limit
-cast_list_edges c = let s = c.before.before.before.before in omega (arith, limit_small s.args.limit s.requires.0.limited)
+cast_list_edges c = omega (arith, limit_small c.args.limit c.requires.0.limited)
 
 put_listing_requires : tie.Need-put_listing-requires
 put_listing_requires c κs =

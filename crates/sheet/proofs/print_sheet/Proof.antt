@@ -41,8 +41,7 @@ print_digits_requires c κs =
 
 returns : tie.Need-returns-in-Malformed
 returns c =
-    let u = c.before.before.before.before.before in
-    starts_as (bad_sheet _ _ (bad_line _ _ (sym (answer_is _ _ u.read.ensures) ∙ u.in-Malformed.is))) c.put_refusal.ensures
+    starts_as (bad_sheet _ _ (bad_line _ _ (sym (answer_is _ _ c.read.ensures) ∙ c.in-Malformed.is))) c.put_refusal.ensures
 
 returns-2 : tie.Need-returns-in-Read
 returns-2 c = starts_as (good_sheet _ _ _ _ _ _ _ (told c.before.before.before.before.before)) c.print_digits.ensures

@@ -21,37 +21,33 @@ take_picture_requires c κs = let p = c.requires in (sided _ _ p.0, p.2, p.3, p.
 
 returns : tie.Need-returns-then-next-digits
 returns c =
-    let k = c.before.before.before.before.before in
-    let p = k.requires in
-    starts_as (left_over _ _ _ _ p.0 p.1 _ _ (met k) c.if-next-digits.true) c.put_refusal-then-next-digits.ensures
+    let p = c.requires in
+    starts_as (left_over _ _ _ _ p.0 p.1 _ _ (met c.before.before.before.before.before) c.if-next-digits.true) c.put_refusal-then-next-digits.ensures
 
 print_edges_requires : tie.Need-print_edges-requires
 print_edges_requires c κs =
-    let k = c.before.before.before in
-    let p = k.requires in (
+    let p = c.requires in (
       record {
         sides = sided _ _ p.0;
         limited = p.1;
-        long = k.take_picture.auto.1.1.1.0 ∙ p.4;
-        accepted = walked _ _ _ _ p.0 p.1 _ _ (met k);
+        long = c.take_picture.auto.map ∙ p.4;
+        accepted = walked _ _ _ _ p.0 p.1 _ _ (met c.before.before);
       },
       p.5,
     )
 
 returns-2 : tie.Need-returns-in-Refused
 returns-2 c =
-    let s = c.before.before.before.before.before.before.before.before.before.before.before.before in
     let t = c.take_picture in
     starts_as
-    (walk_no _ _ _ _ s.requires.0 s.requires.1 _
-    (subst (Pictured (s.args.w / 4) (s.args.h / 4) s.args.digits.now t.new.1.1.1.0) c.in-Refused.is t.ensures))
+    (walk_no _ _ _ _ c.requires.0 c.requires.1 _
+    (subst (Pictured (c.args.w / 4) (c.args.h / 4) c.args.digits.now t.new.1.1.1.0) c.in-Refused.is t.ensures))
     c.put_refusal.ensures
 
 returns-3 : tie.Need-returns-else-next-digits
 returns-3 c =
-    let k = c.before.before.before.before.before.before in
-    let p = k.requires in
-    starts_as (all_listed _ _ _ _ p.0 p.1 _ _ (met k) c.if-next-digits.false) c.print_edges.ensures
+    let p = c.requires in
+    starts_as (all_listed _ _ _ _ p.0 p.1 _ _ (met c.before.before.before.before.before) c.if-next-digits.false) c.print_edges.ensures
 
 pub print_tree_spec : {M : Type 1} → statement M
 print_tree_spec =

@@ -26,13 +26,11 @@ add_t16 c = omega (arith, fits c.before.before.before.before)
 
 returns-2 : tie.Need-returns-in-Malformed
 returns-2 c =
-    let u = c.before.before.before in
-    field_no _ _ _ _ u.line_length.ensures _ u.if-not-end-s.false c.value_of.ensures c.in-Malformed.is
+    field_no _ _ _ _ c.line_length.ensures _ c.if-not-end-s.false c.value_of.ensures c.in-Malformed.is
 
 returns-3 : tie.Need-returns-in-Is
 returns-3 c =
-    let u = c.before.before.before in
-    field_is _ _ _ _ u.line_length.ensures _ u.if-not-end-s.false c.value_of.ensures _ c.in-Is.is
+    field_is _ _ _ _ c.line_length.ensures _ c.if-not-end-s.false c.value_of.ensures _ c.in-Is.is
 
 pub line_at_spec : {M : Type 1} → statement M
 line_at_spec =

@@ -44,39 +44,29 @@ line_at_requires_3 c κs = (line_1 c).inside
 
 returns-3 : tie.Need-returns-in_default-line_at-2
 returns-3 c =
-    let u = c.before.before in
-    let c₁ = line_1 u in
-    gives _ _ (bad_2 _ (line_0 u.before.before).ok c₁.ok (unsaid Limit _ 2 _ _ c₁.next c.line_at-3.ensures c.in_default-line_at-2.is))
+    let c₁ = line_1 c.before.before in
+    gives _ _ (bad_2 _ (line_0 c.before.before.before.before).ok c₁.ok (unsaid Limit _ 2 _ _ c₁.next c.line_at-3.ensures c.in_default-line_at-2.is))
 
 line_at_requires_4 : tie.Need-line_at-requires-4
 line_at_requires_4 c κs = (line_2 c).inside
 
 returns-4 : tie.Need-returns-in_default-line_at-3
 returns-4 c =
-    let u = c.before.before in
-    let v = u.before.before in
-    let c₂ = line_2 u in
-    gives _ _ (bad_3 _ (line_0 v.before.before).ok (line_1 v).ok c₂.ok (unsaid Edge _ 3 _ _ c₂.next c.line_at-4.ensures c.in_default-line_at-3.is))
+    let c₂ = line_2 c.before.before in
+    gives _ _ (bad_3 _ (line_0 c.before.before.before.before.before.before).ok (line_1 c.before.before.before.before).ok c₂.ok (unsaid Edge _ 3 _ _ c₂.next c.line_at-4.ensures c.in_default-line_at-3.is))
 
 line_at_requires_5 : tie.Need-line_at-requires-5
 line_at_requires_5 c κs = (line_3 c).inside
 
 returns-5 : tie.Need-returns-in_default-line_at-4
 returns-5 c =
-    let u = c.before.before in
-    let v = u.before.before in
-    let w = v.before.before in
-    let c₃ = line_3 u in
-    gives _ _ (bad_4 _ (line_0 w.before.before).ok (line_1 w).ok (line_2 v).ok c₃.ok
+    let c₃ = line_3 c.before.before in
+    gives _ _ (bad_4 _ (line_0 c.before.before.before.before.before.before.before.before).ok (line_1 c.before.before.before.before.before.before).ok (line_2 c.before.before.before.before).ok c₃.ok
     (unsaid Splits _ 4 _ _ c₃.next c.line_at-5.ensures c.in_default-line_at-4.is))
 
 returns-6 : tie.Need-returns-then-end-input
 returns-6 c =
-    let t = c.before in
-    let u = t.before.before in
-    let v = u.before.before in
-    let w = v.before.before in
-    gives _ _ (extra _ (line_0 w.before.before).ok (line_1 w).ok (line_2 v).ok (line_3 u).ok (line_4 t).ok _ (line_4 t).next c.if-end-input.true)
+    gives _ _ (extra _ (line_0 c.before.before.before.before.before.before.before.before.before).ok (line_1 c.before.before.before.before.before.before.before).ok (line_2 c.before.before.before.before.before).ok (line_3 c.before.before.before).ok (line_4 c.before).ok _ (line_4 c.before).next c.if-end-input.true)
 
 add_from : tie.Need-overflow_add-from
 add_from c = omega (arith, (line_3 c.before.before.before).inside)
@@ -86,13 +76,8 @@ sub_to c = (line_4 c.before).some
 
 returns-7 : tie.Need-returns
 returns-7 c =
-    let t = c.before in
-    let u = t.before.before in
-    let v = u.before.before in
-    let w = v.before.before in
-    let x = w.before.before in
-    gives _ _ (whole _ (line_0 x).ok (line_1 w).ok (line_2 v).ok (line_3 u).ok (line_4 t).ok _ _ _ _ _ _ (line_0 x).value (line_1 w).value
-    (line_2 v).value (line_3 u).value (line_3 u).next (line_4 t).next c.if-end-input.false)
+    gives _ _ (whole _ (line_0 c.before.before.before.before.before.before.before.before.before).ok (line_1 c.before.before.before.before.before.before.before).ok (line_2 c.before.before.before.before.before).ok (line_3 c.before.before.before).ok (line_4 c.before).ok _ _ _ _ _ _ (line_0 c.before.before.before.before.before.before.before.before.before).value (line_1 c.before.before.before.before.before.before.before).value
+    (line_2 c.before.before.before.before.before).value (line_3 c.before.before.before).value (line_3 c.before.before.before).next (line_4 c.before).next c.if-end-input.false)
 
 pub read_spec : {M : Type 1} → statement M
 read_spec =

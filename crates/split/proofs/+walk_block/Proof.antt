@@ -59,7 +59,7 @@ abbrev Inside : ℕ → Type 0
 Inside t = walk-block-lts.Else-w-x (calls t) (walk_block_at t) walk-block.Post walk_block_Inv_loop walk_block_μ_loop
 
 inside : (t : ℕ) (e : Inside t) → let a = e.args in (a.x.0 < a.w) × (a.y.0 < a.h)
-inside t e = started _ _ _ _ e.if-w-x.left
+inside t e = started _ _ _ _ e.if-w-x.false
 
 -- a part is about to be walked
 abbrev Next : ℕ → Type 0
@@ -91,7 +91,7 @@ part_walked t j =
     ⊎_elim
     (λ u. rw (u.5, u.6) (u.2.kept.1.1.1.1.1.0, rw u.0.taken u.2.ensures))
     (λ u. rw (u.5, u.6) (u.2.kept.1.1.1.1.1.1.1.0, u.2.ensures))
-    j.if-level-eq2.came
+    j.if-level-eq2.branch
 
 pub +walk-block-spec : {M : Type 1} → statement M
 +walk-block-spec = close μ-walk-block λ t. walk-block-lts.spec (calls t)
@@ -104,61 +104,57 @@ pub +walk-block-spec : {M : Type 1} → statement M
     -- the byte: neither 0 nor 1. e is where the block is known to start inside
     (λ c κs. let p = c.requires.1 in (p.2, p.0.right, p.0.bottom, has_byte p.1))
     (λ c.
-    let e = c.before.before in
-    let i = inside t e in
-    let p = e.requires.1 in
+    let i = inside t c in
+    let p = c.requires.1 in
     stored_as (at_bad _ p.0 i.0 i.1 (has_byte p.1) _ c.get_split_mode-byte.ensures c.if-byte-gt1.true) (stored_refused _ _ _))
     -- 0: a leaf
     (λ c κs. let p = c.requires.1 in (p.0, room_one p.0 _ _ p.3))
-    (λ c. c.put_leaf.auto.1.1.1.1.1.1.0)
+    (λ c. c.put_leaf.auto.out)
     (λ c.
-    let g = c.before.before.before.before.before.before in
-    let e = g.before in
-    let i = inside t e in
-    let p = e.requires.1 in
-    stored_as (at_leaf _ p.0 i.0 i.1 (has_byte p.1) _ g.get_split_mode-byte.ensures c.if-byte-eq0.true) c.put_leaf.ensures)
+    let c = c.before in
+    let i = inside t c in
+    let p = c.requires.1 in
+    stored_as (at_leaf _ p.0 i.0 i.1 (has_byte p.1) _ c.get_split_mode-byte.ensures c.if-byte-eq0.true) c.put_leaf.ensures)
     -- 1: the loop over the four parts
     (λ c.
-    let g = c.before.before in
-    let e = g.before in
-    let i = inside t e in
-    let p = e.requires.1 in
-    (zero-le, refl, cut _ p.0 i.0 i.1 (has_byte p.1) _ g.get_split_mode-byte.ensures (only_one _ c.if-byte-gt1.false c.if-byte-eq0.false), no_part _ _ _ _ _ _ _ _))
+    let c = c.before.before in
+    let c = c.before in
+    let i = inside t c in
+    let p = c.requires.1 in
+    (zero-le, refl, cut _ p.0 i.0 i.1 (has_byte p.1) _ c.get_split_mode-byte.ensures (only_one _ c.if-byte-gt1.false c.if-byte-eq0.false), no_part _ _ _ _ _ _ _ _))
     (λ c κs. let v = c.loop-part.invariant.2 in (v.right, v.bottom, c.loop-part-test.true))
     -- what the next part asks, of side 8
     (λ c κs.
-    let n = c.before.before in
-    let q = part_asks t n in
-    let s = n.before.before.before.before.before.before.before.before.before.before.before in
-    let e : s.args.level + 1 ≡ 3 = omega (arith, c.if-level-eq2.true) in
-    (as_eight q.0 e, s.requires.1.2, room_eight q.0 e _ _ q.1))
+    let q = part_asks t c in
+    let c : c.args.level + 1 ≡ 3 = omega (arith, c.if-level-eq2.true) in
+    (as_eight q.0 c, c.requires.1.2, room_eight q.0 c _ _ q.1))
     -- and as a block that is walked: half the side
     (λ c. record { fits = deeper _ (has_byte c.requires.1.1) })
     (λ c κs.
-    let n = c.before.before in
-    let q = part_asks t n in
-    let s = n.before.before.before.before.before.before.before.before.before.before.before in
-    let p = s.requires in
-    (subst (λ (m : ℕ). s.args.side / 2 < m) p.0 n.loop-part.invariant.2.less, (q.0, not_eight _ p.1.1 c.if-level-eq2.false, p.1.2, q.1)))
+    let c = c.before.before in
+    let q = part_asks t c in
+    let c = c.before.before.before.before.before.before.before.before.before.before.before in
+    let p = c.requires in
+    (subst (λ (m : ℕ). c.args.side / 2 < m) p.0 c.loop-part.invariant.2.less, (q.0, not_eight _ p.1.1 c.if-level-eq2.false, p.1.2, q.1)))
     (λ c. search rules)
     (λ c. search rules)
     -- a part that is refused ends the walk
-    (λ c. let j = c.before.before.before in (part_walked t j).0 ∙ j.loop-part.invariant.1)
+    (λ c. (part_walked t c).0 ∙ c.loop-part.invariant.1)
     (λ c.
-    let j = c.before.before.before in
-    let v = j.loop-part.invariant in
-    part_refused v.2 v.3 _ _ j.part_at-place.ensures.0 j.part_at-place.ensures.1 _ _ (part_walked t j).1 _
-    j.loop-part-test.true c.in-Refused.is)
+    let c = c.before.before.before in
+    let v = c.loop-part.invariant in
+    part_refused v.2 v.3 _ _ c.part_at-place.ensures.0 c.part_at-place.ensures.1 _ _ (part_walked t c).1 _
+    c.loop-part-test.true c.in-Refused.is)
     -- a part more
     (λ c. record { fits = counted _ c.loop-part-test.true })
     (λ c. fewer _ c.loop-part-test.true)
     (λ c.
-    let j = c.before.before.before in
-    let v = j.loop-part.invariant in (
-      within _ j.loop-part-test.true,
-      (part_walked t j).0 ∙ v.1,
+    let c = c.before.before.before in
+    let v = c.loop-part.invariant in (
+      within _ c.loop-part-test.true,
+      (part_walked t c).0 ∙ v.1,
       v.2,
-      part_more v.2 v.3 _ _ j.part_at-place.ensures.0 j.part_at-place.ensures.1 _ _ (part_walked t j).1 _ c.in-Done.is,
+      part_more v.2 v.3 _ _ c.part_at-place.ensures.0 c.part_at-place.ensures.1 _ _ (part_walked t c).1 _ c.in-Done.is,
     ))
     -- all four
     (λ c. c.loop-part.invariant.1)

@@ -22,22 +22,19 @@ root_count_requires c κs = let z = sized _ _ (sym c.size_ok.ensures ∙ c.if-no
 returns-2 : tie.Need-returns-then-splits-root_count
 unfolding check-call.check
 returns-2 c =
-    let d = c.before.before in
     check_gives _ (Refused Length)
-    (goes_on _ _ _ _ _ d.size_ok.ensures d.if-not-size_ok.false-raw
+    (goes_on _ _ _ _ _ c.size_ok.ensures c.if-not-size_ok.false-raw
     (at_refusal _ _ _ (ne_eqb _ _ (λ e. c.if-splits-root_count.true (e ∙ ap (λ (n : ℕ). 1024 * n) (sym c.root_count.ensures.0))))))
 
 walk_picture_requires : tie.Need-walk_picture-requires
 walk_picture_requires c κs =
-    let d = c.before.before in
-    (sized _ _ (sym d.size_ok.ensures ∙ d.if-not-size_ok.false), c.if-splits-root_count.false ∙ ap (λ (n : ℕ). 1024 * n) c.root_count.ensures.0)
+    (sized _ _ (sym c.size_ok.ensures ∙ c.if-not-size_ok.false), c.if-splits-root_count.false ∙ ap (λ (n : ℕ). 1024 * n) c.root_count.ensures.0)
 
 returns-3 : tie.Need-returns
 unfolding check-call.check
 returns-3 c =
-    let d = c.before.before.before in
     check_gives _ c.walk_picture.result
-    (goes_on _ _ _ _ _ d.size_ok.ensures d.if-not-size_ok.false-raw
+    (goes_on _ _ _ _ _ c.size_ok.ensures c.if-not-size_ok.false-raw
     (past_refusal _ _ _ _ (eq-eqb _ _ (c.if-splits-root_count.false ∙ ap (λ (n : ℕ). 1024 * n) c.root_count.ensures.0)) c.walk_picture.ensures))
 
 pub check_spec : {M : Type 1} → statement M

@@ -25,20 +25,17 @@ returns c = met_refused _ _ _ _ _ _ _ _ (stops _ _ _ _ c.size_ok.ensures c.if-no
 returns-2 : tie.Need-returns-then-not-leaves_lengths_ok
 unfolding leaves-call.check_of
 returns-2 c =
-    let d = c.before.before in
     met_refused _ _ _ _ _ _ _ _
-    (goes_on _ _ _ _ _ d.size_ok.ensures d.if-not-size_ok.false-raw (stops _ _ _ _ c.leaves_lengths_ok.ensures c.if-not-leaves_lengths_ok.true-raw))
+    (goes_on _ _ _ _ _ c.size_ok.ensures c.if-not-size_ok.false-raw (stops _ _ _ _ c.leaves_lengths_ok.ensures c.if-not-leaves_lengths_ok.true-raw))
 
 returns-3 : tie.Need-returns-then-root_count-i
 unfolding leaves-call.check_of
 returns-3 c =
-    let e = c.before.before in
-    let d = e.before.before in
-    let a = d.args in
+    let a = c.args in
     let none : root_count a.w a.h ≤ a.i = omega (arith, c.if-root_count-i.true, c.root_count.ensures.0) in
     met_refused _ _ _ _ _ _ _ _
-    (goes_on _ _ _ _ _ d.size_ok.ensures d.if-not-size_ok.false-raw
-    (goes_on _ _ _ _ _ e.leaves_lengths_ok.ensures e.if-not-leaves_lengths_ok.false-raw (at_refusal _ _ _ (root_fits (size_told d) a.i ∙ le-ltb _ _ none))))
+    (goes_on _ _ _ _ _ c.size_ok.ensures c.if-not-size_ok.false-raw
+    (goes_on _ _ _ _ _ c.leaves_lengths_ok.ensures c.if-not-leaves_lengths_ok.false-raw (at_refusal _ _ _ (root_fits (size_told c.before.before.before.before) a.i ∙ le-ltb _ _ none))))
 
 module _ (c : tie.Else-root_count-i) where
   -- a root has the number, where all tests passed
@@ -46,28 +43,22 @@ module _ (c : tie.Else-root_count-i) where
   in_picture = omega (arith, c.if-root_count-i.false, c.root_count.ensures.0)
 
 walk_root_requires : tie.Need-walk_root-requires
-walk_root_requires c κs =
-    let e = c.before.before.before in
-    let d = e.before.before in (
-      size_told d,
-      (lengths_told _ _ _ _ (sym e.leaves_lengths_ok.ensures ∙ e.if-not-leaves_lengths_ok.false)).0,
-      in_picture c.before,
-      d.requires,
-    )
+walk_root_requires c κs = (
+  size_told c.before.before.before.before.before,
+  (lengths_told _ _ _ _ (sym c.leaves_lengths_ok.ensures ∙ c.if-not-leaves_lengths_ok.false)).0,
+  in_picture c.before,
+  c.requires,
+)
 
 returns-4 : tie.Need-returns
 unfolding leaves-call.check_of
 returns-4 c =
-    let f = c.before.before.before.before in
-    let e = f.before.before in
-    let d = e.before.before in
-    let s = d.before.before.before.before in
-    let back = index_back s.args.w s.args.i in
-    met_walked _ _ _ _ _ _ _ _ _ s.requires
-    (goes_on _ _ _ _ _ d.size_ok.ensures d.if-not-size_ok.false-raw
-    (goes_on _ _ _ _ _ e.leaves_lengths_ok.ensures e.if-not-leaves_lengths_ok.false-raw
-    (past_refusal _ _ _ _ (root_fits (size_told d) s.args.i ∙ lt-ltb _ _ (in_picture f)) refl)))
-    (stored_as (ap (root_walk s.args.splits.now (s.args.w / 4) (s.args.h / 4)) back) c.walk_root.ensures)
+    let back = index_back c.args.w c.args.i in
+    met_walked _ _ _ _ _ _ _ _ _ c.requires
+    (goes_on _ _ _ _ _ c.size_ok.ensures c.if-not-size_ok.false-raw
+    (goes_on _ _ _ _ _ c.leaves_lengths_ok.ensures c.if-not-leaves_lengths_ok.false-raw
+    (past_refusal _ _ _ _ (root_fits (size_told c.before.before.before.before.before.before.before.before) c.args.i ∙ lt-ltb _ _ (in_picture c)) refl)))
+    (stored_as (ap (root_walk c.args.splits.now (c.args.w / 4) (c.args.h / 4)) back) c.walk_root.ensures)
 
 pub met_leaves_spec : {M : Type 1} → statement M
 met_leaves_spec =

@@ -30,33 +30,26 @@ get_split_mode_requires c κs = let p = c.requires in (p.1, p.0.right, p.0.botto
 
 returns-3 : tie.Need-returns-then-byte-gt1 invariant-loop decreases-loop
 returns-3 c =
-    let d = c.before.before in
-    let e = d.before.before in
-    stored_as (at_bad _ e.requires.0 e.if-w-x.false d.if-h-y.false (omega arith) _ c.get_split_mode-byte.ensures c.if-byte-gt1.true) (stored_refused _ _ _)
+    stored_as (at_bad _ c.requires.0 c.if-w-x.false c.if-h-y.false (omega arith) _ c.get_split_mode-byte.ensures c.if-byte-gt1.true) (stored_refused _ _ _)
 
 -- 0: a leaf
 put_leaf_requires : tie.Need-put_leaf-requires invariant-loop decreases-loop
 put_leaf_requires c κs = let p = c.requires in (p.0, omega (arith, p.2))
 
 same_length : tie.Need-shape_of-out-then-byte-eq0 invariant-loop decreases-loop
-same_length c = c.put_leaf.auto.1.1.1.1.1.1.0
+same_length c = c.put_leaf.auto.out
 
 returns-4 : tie.Need-returns-then-byte-eq0 invariant-loop decreases-loop
 returns-4 c =
-    let g = c.before.before.before.before.before.before in
-    let d = g.before in
-    let e = d.before.before in
     stored_as
-    (at_leaf _ e.requires.0 e.if-w-x.false d.if-h-y.false (omega arith) _ g.get_split_mode-byte.ensures c.if-byte-eq0.true)
+    (at_leaf _ c.requires.0 c.if-w-x.false c.if-h-y.false (omega arith) _ c.get_split_mode-byte.ensures c.if-byte-eq0.true)
     c.put_leaf.ensures
 
 -- 1: the loop over the four units
 loop_holds : tie.Need-loop-part-init invariant-loop decreases-loop
 loop_holds c =
-    let d = c.before.before.before in
-    let e = d.before.before in
     let one = only_one _ c.if-byte-gt1.false c.if-byte-eq0.false in
-    let k = cut _ e.requires.0 e.if-w-x.false d.if-h-y.false (omega arith) _ c.get_split_mode-byte.ensures one in
+    let k = cut _ c.requires.0 c.if-w-x.false c.if-h-y.false (omega arith) _ c.get_split_mode-byte.ensures one in
     (zero-le, refl, k, no_part _ _ _ _ _ _ _ _)
 
 part_at_requires : tie.Need-part_at-place-requires invariant-loop decreases-loop
@@ -64,34 +57,29 @@ part_at_requires c κs = let v = c.loop-part.invariant.2 in (v.right, v.bottom, 
 
 put_unit_requires : tie.Need-put_unit-requires invariant-loop decreases-loop
 put_unit_requires c κs =
-    let m = c.before.before.before in
-    let v = m.loop-part.invariant in
+    let v = c.loop-part.invariant in
     let l = c.loop-part-test.true in
     let p = c.part_at-place.ensures in
-    let q = m.requires.2 in
-    (part_block v.2 _ _ _ l p.0 p.1, omega (arith, part_room v.2 v.3 (length m.loop-part.out) l (omega (arith, v.1, q))))
+    let q = c.requires.2 in
+    (part_block v.2 _ _ _ l p.0 p.1, omega (arith, part_room v.2 v.3 (length c.loop-part.out) l (omega (arith, v.1, q))))
 
 -- a unit that is refused ends the block
 same_length_2 : tie.Need-shape_of-out-in-Refused invariant-loop decreases-loop
-same_length_2 c = c.put_unit.auto.1.1.1.1.0 ∙ c.loop-part.invariant.1
+same_length_2 c = c.put_unit.auto.out ∙ c.loop-part.invariant.1
 
 returns-5 : tie.Need-returns-in-Refused invariant-loop decreases-loop
 returns-5 c =
-    let u = c.before.before.before in
-    let m = u.before.before in
-    let v = m.loop-part.invariant in
-    part_refused v.2 v.3 _ _ m.part_at-place.ensures.0 m.part_at-place.ensures.1 _ _ (u.put_unit.ensures _) _ m.loop-part-test.true c.in-Refused.is
+    let v = c.loop-part.invariant in
+    part_refused v.2 v.3 _ _ c.part_at-place.ensures.0 c.part_at-place.ensures.1 _ _ (c.put_unit.ensures _) _ c.loop-part-test.true c.in-Refused.is
 
 -- a unit more
 loop_again : tie.Need-loop-part-preserved invariant-loop decreases-loop
 loop_again c =
-    let u = c.before.before.before in
-    let m = u.before.before in
-    let v = m.loop-part.invariant in (
-      within _ m.loop-part-test.true,
-      u.put_unit.auto.1.1.1.1.0 ∙ v.1,
+    let v = c.loop-part.invariant in (
+      within _ c.loop-part-test.true,
+      c.put_unit.auto.out ∙ v.1,
       v.2,
-      part_more v.2 v.3 _ _ m.part_at-place.ensures.0 m.part_at-place.ensures.1 _ _ (u.put_unit.ensures _) _ c.in-Done.is,
+      part_more v.2 v.3 _ _ c.part_at-place.ensures.0 c.part_at-place.ensures.1 _ _ (c.put_unit.ensures _) _ c.in-Done.is,
     )
 
 add_part : tie.Need-overflow_add-part invariant-loop decreases-loop

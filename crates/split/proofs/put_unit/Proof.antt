@@ -14,8 +14,7 @@ returns-2 c s = stored_as (skip_y s c.requires.0 c.if-w-x.false c.if-h-y.true) (
 
 returns-3 : tie.Need-returns
 returns-3 c s =
-    let e = c.before.before.before.before in
-    stored_as (at_unit s e.requires.0 e.if-w-x.false e.if-h-y.false refl) c.put_leaf.ensures
+    stored_as (at_unit s c.requires.0 c.if-w-x.false c.if-h-y.false refl) c.put_leaf.ensures
 
 pub put_unit_spec : {M : Type 1} → statement M
 put_unit_spec = tie.close (tie.spec returns returns-2 (λ c κs. search rules) (λ c. search rules) returns-3)

@@ -29,15 +29,14 @@ walk_root_requires c κs =
 
 returns : tie.Need-returns-in-Refused invariant-loop decreases-loop
 returns c =
-    let a = c.before.before.before.before.before.before.before.before in
     let i = c.loop-i.i in
-    let l : i < roots (a.args.w / 4) (a.args.h / 4) = omega (
+    let l : i < roots (c.args.w / 4) (c.args.h / 4) = omega (
       arith,
       c.loop-i-test.true,
       c.root_count-n.ensures.0,
-      roots_units a.requires.0,
+      roots_units c.requires.0,
     ) in
-    sym (turn_refused (root_walk a.args.splits.now (a.args.w / 4) (a.args.h / 4)) i _ _ l c.loop-i.invariant.2
+    sym (turn_refused (root_walk c.args.splits.now (c.args.w / 4) (c.args.h / 4)) i _ _ l c.loop-i.invariant.2
     (stored_stop c.walk_root.ensures _ c.in-Refused.is))
 
 loop_again : tie.Need-loop-i-preserved invariant-loop decreases-loop
@@ -51,10 +50,9 @@ loop_again c =
 
 returns-2 : tie.Need-returns invariant-loop decreases-loop
 returns-2 c =
-    let a = c.before.before.before.before in
     let v = c.loop-i.invariant in
-    let e : c.loop-i.i ≡ roots (a.args.w / 4) (a.args.h / 4) = omega (arith, c.root_count-n.ensures.0, roots_units a.requires.0) in
-    sym (ap (λ (n : ℕ). (in_turn (root_walk a.args.splits.now (a.args.w / 4) (a.args.h / 4)) n).answer) (sym e) ∙ v.2)
+    let e : c.loop-i.i ≡ roots (c.args.w / 4) (c.args.h / 4) = omega (arith, c.root_count-n.ensures.0, roots_units c.requires.0) in
+    sym (ap (λ (n : ℕ). (in_turn (root_walk c.args.splits.now (c.args.w / 4) (c.args.h / 4)) n).answer) (sym e) ∙ v.2)
 
 pub walk_picture_spec : {M : Type 1} → statement M
 walk_picture_spec =

@@ -20,16 +20,13 @@ module _ (c : tie.After-roots_along-across) where
 
 walk_block_requires : tie.Need-walk_block-requires
 walk_block_requires c κs =
-    let d = c.before.before in
-    let p = (s d).requires in
-    (rw d.roots_along-across.ensures (root_block p.0 _ p.2), omega arith, bytes_long p.0 _ _ p.2 p.1, omega (arith, p.3))
+    let p = (s c).requires in
+    (rw c.roots_along-across.ensures (root_block p.0 _ p.2), omega arith, bytes_long p.0 _ _ p.2 p.1, omega (arith, p.3))
 
 returns : tie.Need-returns
 returns c =
-    let b = c.before.before in
-    let d = b.before.before.before in
-    let a = s d in
-    stored_as (sym (root_same a.pre.0 a.args.splits.now a.args.i _ d.roots_along-across.ensures)) b.walk_block.ensures
+    let a = s c in
+    stored_as (sym (root_same a.pre.0 a.args.splits.now a.args.i _ c.roots_along-across.ensures)) c.walk_block.ensures
 
 pub walk_root_spec : {M : Type 1} → statement M
 walk_root_spec =

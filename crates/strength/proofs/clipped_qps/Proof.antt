@@ -27,9 +27,8 @@ loop_again c =
 
 returns : tie.Need-returns invariant-loop decreases-loop
 returns c =
-    let s = c.before.before in
     upto_all 0 _ _ _ c.loop-qp.qp c.loop-qp-test.false c.loop-qp.invariant
-    ∙ ap (mapped_qps s.args.table.now) (back w8 _ s.ranges.offset)
+    ∙ ap (mapped_qps c.args.table.now) (back w8 _ c.ranges.offset)
 
 pub clipped_qps_spec : {M : Type 1} → statement M
 clipped_qps_spec =

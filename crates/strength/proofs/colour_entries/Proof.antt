@@ -30,10 +30,9 @@ put_v_rows_requires c κs =
 returns : tie.Need-returns
 returns c =
     let l = c.luma_entries-list in
-    let s = c.before.before.before.before.before.before.before.before.before.before.before.before.before in
     whole _ _ _ _ _ l.result l.ensures _ _ _ _
-    (c.mapped_qps-u.ensures ∙ ap (mapped_qps s.args.table_u.now) (back w8 _ s.ranges.u_offset))
-    (c.mapped_qps-v.ensures ∙ ap (mapped_qps s.args.table_v.now) (back w8 _ s.ranges.v_offset))
+    (c.mapped_qps-u.ensures ∙ ap (mapped_qps c.args.table_u.now) (back w8 _ c.ranges.u_offset))
+    (c.mapped_qps-v.ensures ∙ ap (mapped_qps c.args.table_v.now) (back w8 _ c.ranges.v_offset))
     c.put_rows.ensures
     c.put_v_rows.ensures
 

@@ -18,10 +18,9 @@ returns c =
 returns-2 : tie.Need-returns-in-Colour
 unfolding entries_in
 returns-2 c =
-    let s = c.before.before.before in
-    let a = s.args in
-    let u = back w8 a.u_offset s.ranges.u_offset in
-    let v = back w8 a.v_offset s.ranges.v_offset in
+    let a = c.args in
+    let u = back w8 a.u_offset c.ranges.u_offset in
+    let v = back w8 a.v_offset c.ranges.v_offset in
     c.colour_entries.ensures
     ∙ (λ i. entries_of a.strengths.now a.table_u.now (u i) a.table_v.now (v i))
     ∙ ap (λ (f : Format). entries_in f a.strengths.now a.table_u.now a.u_offset a.table_v.now a.v_offset) (sym c.in-Colour.is)

@@ -32,8 +32,7 @@ loop_again c =
 returns : tie.Need-returns invariant-loop decreases-loop
 returns c =
     let l = c.loop-i in
-    let s = c.before.before.before in
-    let all : (208 ≤ l.i) ⊎ (length s.args.strengths.now ≤ l.i) = ⊎_elim (λ p. inl (omega arith)) (λ p. inr (omega arith)) l.invariant.3 in
+    let all : (208 ≤ l.i) ⊎ (length c.args.strengths.now ≤ l.i) = ⊎_elim (λ p. inl (omega arith)) (λ p. inr (omega arith)) l.invariant.3 in
     lumas _ _ _ l.i refl (λ k p. get_or-replicate 624 k 0 0 p) (omega arith) all l.invariant.4
 
 pub luma_entries_spec : {M : Type 1} → statement M

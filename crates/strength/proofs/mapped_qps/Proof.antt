@@ -17,20 +17,18 @@ index_at s qp i z same e = e ∙ ap (λ (x : ℤ). index_of x qp) same
 
 returns : tie.Need-returns-then-last-first-eq51
 returns c =
-    let s = c.before.before.before.before.before.before in
-    let t = s.args.table.now in
-    let z = s.args.offset in
+    let t = c.args.table.now in
+    let z = c.args.offset in
     let f = c.index_of-first in
     let l = c.index_of-last in
-    let e = index_at s 0 f.result _ (back w8 _ s.ranges.offset) f.ensures in
-    let m = index_at s 51 l.result _ (back w8 _ s.ranges.offset) l.ensures in
+    let e = index_at c.before.before.before.before.before.before 0 f.result _ (back w8 _ c.ranges.offset) f.ensures in
+    let m = index_at c.before.before.before.before.before.before 51 l.result _ (back w8 _ c.ranges.offset) l.ensures in
     let apart : index_of z 51 ≡ index_of z 0 + 51 = omega (arith, e, m) in
     c.straight_qps.ensures ∙ ap (straight_qps t) e ∙ straight_row t z apart
 
 returns-2 : tie.Need-returns
 returns-2 c =
-    let s = c.before.before.before.before in
-    c.clipped_qps.ensures ∙ ap (mapped_qps s.args.table.now) (back w8 _ s.ranges.offset)
+    c.clipped_qps.ensures ∙ ap (mapped_qps c.args.table.now) (back w8 _ c.ranges.offset)
 
 pub mapped_qps_spec : {M : Type 1} → statement M
 mapped_qps_spec = tie.close (tie.spec (λ c κs. search rules) (λ c κs. search rules) (λ c κs. search rules) returns (λ c κs. search rules) returns-2)

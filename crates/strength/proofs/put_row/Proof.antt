@@ -18,7 +18,7 @@ loop_holds : tie.Need-loop-qp-init invariant-loop decreases-loop
 loop_holds c = (omega arith, rowed_none _ _ _ _)
 
 -- the QP that stands there
-small : (c : tie.In-loop-qp invariant-loop decreases-loop) → let s = c.before.before in get_or s.args.qps.now c.loop-qp.qp 0 ≤ 51
+small : (c : tie.In-loop-qp invariant-loop decreases-loop) → get_or c.args.qps.now c.loop-qp.qp 0 ≤ 51
 small c = c.requires.2 c.loop-qp.qp
 
 cast_list : tie.Need-overflow_cast-list invariant-loop decreases-loop

@@ -38,10 +38,9 @@ put_row_requires c κs = (omega arith, omega (arith, c.loop-row.invariant.1.long
 
 loop_again : tie.Need-loop-row-preserved invariant-loop decreases-loop
 loop_again c =
-    let s = c.before.before.before.before.before.before.before in
     let l = c.loop-row in
     let e : 52 * l.row + 52 ≡ 52 * (l.row + 1) = omega arith in
-    (omega arith, rw (c.put_row.ensures, ← e) (row_more _ _ s.args.qps.now _ l.row (omega arith) (omega arith) (omega arith) s.requires.2 l.invariant.1))
+    (omega arith, rw (c.put_row.ensures, ← e) (row_more _ _ c.args.qps.now _ l.row (omega arith) (omega arith) (omega arith) c.requires.2 l.invariant.1))
 
 same_length : tie.Need-shape_of-list invariant-loop decreases-loop
 same_length c = c.loop-row.invariant.1.long

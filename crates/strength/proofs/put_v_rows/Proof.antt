@@ -11,12 +11,11 @@ use Rattle.strength.proofs.put_v_rows.Tie as tie
 
 returns : tie.Need-returns-then-same_qps
 returns c =
-    let s = c.before.before.before.before.before.before.before in
-    let l = s.args.list.now in
+    let l = c.args.list.now in
     let q = c.same_qps.ensures c.if-same_qps.true in
-    let same : (j : ℕ) → j < 208 → get_or l (208 + j) 0 ≡ rows_by l s.args.v.now j =
-    λ j h. s.requires.2 j h ∙ ap (λ (x : ℕ). get_or l (52 * (j / 52) + x) 0) (q (j % 52) (omega arith)) in
-    c.put_again.ensures ∙ row_same 0 416 208 (λ (i : ℕ). get_or l (208 + i) 0) (rows_by l s.args.v.now) l same
+    let same : (j : ℕ) → j < 208 → get_or l (208 + j) 0 ≡ rows_by l c.args.v.now j =
+    λ j h. c.requires.2 j h ∙ ap (λ (x : ℕ). get_or l (52 * (j / 52) + x) 0) (q (j % 52) (omega arith)) in
+    c.put_again.ensures ∙ row_same 0 416 208 (λ (i : ℕ). get_or l (208 + i) 0) (rows_by l c.args.v.now) l same
 
 pub put_v_rows_spec : {M : Type 1} → statement M
 put_v_rows_spec =

@@ -40,9 +40,8 @@ add_alike c = omega (arith, c.same-alike.ensures.0)
 loop_again : tie.Need-loop-qp-preserved invariant-loop decreases-loop
 loop_again c =
     let h = c.loop-qp in
-    let s = c.before.before.before.before.before in
     let r = c.same-alike.ensures in
-    (omega arith, omega (arith, r.0), more s.args.a.now s.args.b.now h.qp h.alike c.same-alike.result h.invariant.1 r.0 r.1 h.invariant.2)
+    (omega arith, omega (arith, r.0), more c.args.a.now c.args.b.now h.qp h.alike c.same-alike.result h.invariant.1 r.0 r.1 h.invariant.2)
 
 returns : tie.Need-returns invariant-loop decreases-loop
 returns c t k less =

@@ -14,18 +14,13 @@ returns c = (no_edge _ _ _ _ _ _ _ c.requires.2 c.if-not-there.true-raw, omega a
 
 sub_p : tie.Need-overflow_sub-p
 sub_p c =
-    let branch = c.before in
-    let start = branch.before.before in
-    let there = sym start.requires.2 ∙ branch.if-not-there.false in
-    omega (arith, c.step_back.ensures, before (pass_of start.args.side) start.args.columns start.args.k there)
+    let there = sym c.requires.2 ∙ c.if-not-there.false in
+    omega (arith, c.step_back.ensures, before (pass_of c.args.side) c.args.columns c.args.k there)
 
 returns-2 : tie.Need-returns
 returns-2 c =
-    let stepped = c.before in
-    let branch = stepped.before in
-    let start = branch.before.before in
-    let p = start.requires in (
-      some_edge p.0 _ _ _ _ _ p.1 p.2 branch.if-not-there.false-raw (ap (λ (s : ℕ). start.args.k - s) stepped.step_back.ensures) c.row_at.ensures.0,
+    let p = c.requires in (
+      some_edge p.0 _ _ _ _ _ p.1 p.2 c.if-not-there.false-raw (ap (λ (s : ℕ). c.args.k - s) c.step_back.ensures) c.row_at.ensures.0,
       c.row_at.ensures.1,
     )
 

@@ -9,10 +9,10 @@ use Rattle.unit_edits.proofs.put_edges.Statement.{statement}
 use Rattle.unit_edits.proofs.put_edges.Tie as tie
 
 mul_k : tie.Need-overflow_mul-k
-mul_k c = let s = c.before.before.before in omega (arith, unit_in_map s.requires.1, s.requires.0.few)
+mul_k c = omega (arith, unit_in_map c.requires.1, c.requires.0.few)
 
 add_k : tie.Need-overflow_add-k
-add_k c = let s = c.before.before.before.before in omega (arith, unit_in_map s.requires.1, s.requires.0.few)
+add_k c = omega (arith, unit_in_map c.requires.1, c.requires.0.few)
 
 put_edge_requires : tie.Need-put_edge-requires
 put_edge_requires c κs = let p = c.requires in (p.0, unit_in_map p.1, own_left p.1, p.2)

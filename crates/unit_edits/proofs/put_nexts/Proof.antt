@@ -31,9 +31,8 @@ add_put_next_4 c = let p = c.requires in omega (arith, unit_in_map p.1, p.0.few,
 
 put_next_requires_2 : tie.Need-put_next-requires-2
 put_next_requires_2 c κs =
-    let start = c.before.before.before.before.before.before.before.before.before.before.before in
-    let p = start.requires in
-    let m = long_if _ _ _ _ (ltb (start.args.x.0 + 1) start.args.columns) vertical _ _ _ c.put_next.ensures ∙ p.2 in
+    let p = c.requires in
+    let m = long_if _ _ _ _ (ltb (c.args.x.0 + 1) c.args.columns) vertical _ _ _ c.put_next.ensures ∙ p.2 in
     (p.0, (λ e. (lower_in p.1 (ltb-true _ _ e), lower_side p.1)), m)
 
 returns : tie.Need-returns

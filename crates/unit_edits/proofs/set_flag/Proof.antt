@@ -35,12 +35,10 @@ slice_write_words c = unit_in_map (good c.before.before.before.before).unit
 
 put_edges_requires : tie.Need-put_edges-requires
 put_edges_requires c κs =
-    let flagged = c.before.before in
-    let told = flagged.before.before.before.before in
-    let g = good told in
+    let g = good c.before.before.before.before.before in
     let u = g.unit in
-    let a = told.args in
-    let l = length-set a.words.now (a.y.0 * (a.w / 4) + a.x.0) flagged.with_flag.result in
+    let a = c.args in
+    let l = length-set a.words.now (a.y.0 * (a.w / 4) + a.x.0) c.with_flag.result in
     (lent_flagged g.maps.lent 0 _ l, record { column = u.column; row = u.row; high = u.high; whole = l ∙ u.whole }, g.maps.rows_long ∙ sym l)
 
 returns : tie.Need-returns-in-Refused
@@ -48,10 +46,7 @@ returns c = flag_refused _ _ c.checked_unit.ensures _ c.in-Refused.is
 
 returns-2 : tie.Need-returns-in-Done
 returns-2 c =
-    let put = c.before.before in
-    let flagged = put.before.before.before in
-    let told = flagged.before.before.before.before in
-    flag_done _ _ told.checked_unit.ensures _ _ told.in-Done.is (rw flagged.with_flag.ensures) put.put_edges.ensures
+    flag_done _ _ c.checked_unit.ensures _ _ c.in-Done.is (rw c.with_flag.ensures) c.put_edges.ensures
 
 pub set_flag_spec : {M : Type 1} → statement M
 set_flag_spec =

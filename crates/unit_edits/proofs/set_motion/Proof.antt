@@ -26,22 +26,16 @@ put_refs_requires c κs = let g = good c.before.before.before.before.before.befo
 
 put_edges_requires : tie.Need-put_edges-requires
 put_edges_requires c κs =
-    let referred = c.before.before.before.before in
-    let moved = referred.before.before.before in
-    let g = good moved.before.before in
-    (lent_moved g.maps.lent _ _ _ _ moved.put_motion.ensures referred.put_refs.ensures, g.unit, g.maps.rows_long)
+    let g = good c.before.before.before.before.before.before.before.before.before in
+    (lent_moved g.maps.lent _ _ _ _ c.put_motion.ensures c.put_refs.ensures, g.unit, g.maps.rows_long)
 
 returns : tie.Need-returns-in-Refused
 returns c = motion_refused _ _ c.checked_unit.ensures _ c.in-Refused.is
 
 returns-2 : tie.Need-returns-in-Done
 returns-2 c =
-    let put = c.before.before in
-    let referred = put.before.before.before.before.before in
-    let moved = referred.before.before.before in
-    let told = moved.before.before.before in
-    motion_done _ _ told.checked_unit.ensures _ _ _ told.in-Done.is
-    moved.put_motion.ensures referred.put_refs.ensures put.put_edges.ensures
+    motion_done _ _ c.checked_unit.ensures _ _ _ c.in-Done.is
+    c.put_motion.ensures c.put_refs.ensures c.put_edges.ensures
 
 pub set_motion_spec : {M : Type 1} → statement M
 set_motion_spec =

@@ -37,21 +37,19 @@ module _ (c : tie.Then-n-eq1 invariant-loop decreases-loop) where
 
 tell_row_requires : tie.Need-tell_row-requires invariant-loop decreases-loop
 tell_row_requires c κs =
-    let d = c.before.before.before in
-    let p = (one_start d).requires in (
-      omega (arith, one_words d, one_right d),
-      omega (arith, one_in d _ p.in_modes, one_right d),
-      omega (arith, one_in d _ p.in_keep, one_right d),
+    let p = (one_start c.before.before.before).requires in (
+      omega (arith, one_words c, one_right c),
+      omega (arith, one_in c _ p.in_modes, one_right c),
+      omega (arith, one_in c _ p.in_keep, one_right c),
     )
 
 returns : tie.Need-returns-then-n-eq1 invariant-loop decreases-loop
 returns c =
-    let d = c.before.before.before.before.before.before.before.before.before.before in
-    let right = (one_start d).requires.right in
-    let some : 0 < (one_start d).args.columns = omega (arith, one_right d) in
+    let right = (one_start c.before.before.before.before.before.before.before.before.before.before).requires.right in
+    let some : 0 < (one_start c.before.before.before.before.before.before.before.before.before.before).args.columns = omega (arith, one_right c) in
     let e = c.tell_row.ensures in
-    λ i. maps_of (one_told _ _ _ _ _ _ _ d.if-n-eq1.true right some e.0 i) (one_told _ _ _ _ _ _ _ d.if-n-eq1.true right some e.1 i)
-    (one_told _ _ _ _ _ _ _ d.if-n-eq1.true right some e.2 i)
+    λ i. maps_of (one_told _ _ _ _ _ _ _ c.if-n-eq1.true right some e.0 i) (one_told _ _ _ _ _ _ _ c.if-n-eq1.true right some e.1 i)
+    (one_told _ _ _ _ _ _ _ c.if-n-eq1.true right some e.2 i)
 
 -- ---- a larger one
 
@@ -71,22 +69,20 @@ module _ (c : tie.In-loop-r invariant-loop decreases-loop) where
 
 tell_row_requires_2 : tie.Need-tell_row-requires-in-loop-r invariant-loop decreases-loop
 tell_row_requires_2 c κs =
-    let d = c.before.before.before in
-    let l = d.loop-r.invariant in
-    let p = (start d).requires in (
-      omega (arith, row_words d, l.1.long, p.right, d.loop-r-test.true),
-      omega (arith, row_in_lem d _ p.in_modes, l.2.long, p.right, d.loop-r-test.true),
-      omega (arith, row_in_lem d _ p.in_keep, l.3.long, p.right, d.loop-r-test.true),
+    let l = c.loop-r.invariant in
+    let p = (start c.before.before.before).requires in (
+      omega (arith, row_words c, l.1.long, p.right, c.loop-r-test.true),
+      omega (arith, row_in_lem c _ p.in_modes, l.2.long, p.right, c.loop-r-test.true),
+      omega (arith, row_in_lem c _ p.in_keep, l.3.long, p.right, c.loop-r-test.true),
     )
 
 loop_again : tie.Need-loop-r-preserved invariant-loop decreases-loop
 loop_again c =
-    let d = c.before.before.before.before.before.before.before.before.before.before in
-    let h = d.loop-r in
-    let right = (start d).requires.right in
-    let some : 0 < (start d).args.columns = omega (arith, right, d.loop-r-test.true) in
+    let h = c.loop-r in
+    let right = (start c.before.before.before.before.before.before.before.before.before.before).requires.right in
+    let some : 0 < (start c.before.before.before.before.before.before.before.before.before.before).args.columns = omega (arith, right, c.loop-r-test.true) in
     let e = c.tell_row-in-loop-r.ensures in (
-      omega (arith, d.loop-r-test.true),
+      omega (arith, c.loop-r-test.true),
       rows_more _ _ _ _ _ _ _ _ _ h.r _ _ right some refl (λ j p. refl) e.0 h.invariant.1,
       rows_more _ _ _ _ _ _ _ _ _ h.r _ _ right some refl (λ j p. refl) e.1 h.invariant.2,
       rows_more _ _ _ _ _ _ _ _ _ h.r _ _ right some refl (λ j p. refl) e.2 h.invariant.3,

@@ -16,8 +16,7 @@ there c = inside _ _ _ _ _ _ _ (sym c.lies.ensures ∙ c.if-not-lies.false)
 
 returns-2 : tie.Need-returns
 returns-2 c =
-    let told = c.before.before.before.before.before.before in
-    rw (told_all _ _ _ _ _ _ _ _ _ _ (there told.before.before.before.before)) told.tell_block.ensures
+    rw (told_all _ _ _ _ _ _ _ _ _ _ (there c.before.before.before.before.before.before.before.before.before.before)) c.tell_block.ensures
 
 pub tell_units_spec : {M : Type 1} → statement M
 tell_units_spec =

@@ -17,9 +17,8 @@ use Rattle.window.proofs.chroma_rows.Tie as tie
 lie : (c : tie.After-wide-step) → (m : ℕ) → min (length c.args.u.now) (length c.args.v.now) ≤ m
     → (2 ≤ c.wide-step.result) × (c.wide-at.result + 2 + 3 * c.wide-step.result ≤ m)
 lie c m h =
-    let s = c.before.before.before.before in
     let f = c.wide-at in
-    rows_lie s.args.p 2 _ m c.wide-step.result f.result (lit≤ tt) h s.requires c.wide-step.ensures.0 f.ensures.0
+    rows_lie c.args.p 2 _ m c.wide-step.result f.result (lit≤ tt) h c.requires c.wide-step.ensures.0 f.ensures.0
 
 in_u_lem : (c : tie.After-wide-step) → (2 ≤ c.wide-step.result) × (c.wide-at.result + 2 + 3 * c.wide-step.result ≤ length c.args.u.now)
 in_u_lem c = lie c (length c.args.u.now) (omega arith)
@@ -44,28 +43,25 @@ copy_rows_requires_4 c κs =
     (l.0, l.1, search rules)
 
 same_length : tie.Need-shape_of-u
-same_length c = c.copy_rows-3.auto.0
+same_length c = c.copy_rows-3.auto.r
 
 same_length_2 : tie.Need-shape_of-v
-same_length_2 c = c.copy_rows-4.auto.0
+same_length_2 c = c.copy_rows-4.auto.r
 
 returns : tie.Need-returns
 returns c =
-    let v = c.before.before.before.before.before.before.before.before.before.before in
-    let w = v.before.before.before.before.before.before.before.before.before.before.before in
-    let s = w.before.before.before.before in
-    let a = s.args in
-    let b = rows_at a.p 2 _ (lit≤ tt) s.requires in
-    let f = w.wide-at in
-    let g = w.wide-step in
-    let m = v.mask_of-all.ensures in
-    let r = v.lanes-r in
-    let t = v.copy_rows.ensures in
-    let i = v.mask_of-inner.ensures in
+    let a = c.args in
+    let b = rows_at a.p 2 _ (lit≤ tt) c.requires in
+    let f = c.wide-at in
+    let g = c.wide-step in
+    let m = c.mask_of-all.ensures in
+    let r = c.lanes-r in
+    let t = c.copy_rows.ensures in
+    let i = c.mask_of-inner.ensures in
     chroma_done rows rows_spread _ _ a.p g.result 1 f.result i g.ensures.0 (sym b.beside) f.ensures.0
     (λ k. a.su) (λ k. a.sv) 2 _ _ _ (chroma_sts a.su a.sv 0 0) r.result a.u.now a.v.now _ _ (lit≤ tt)
     (gathered _ g.result f.result a.u.now _ _ 0 2 m (lit≤ tt) refl t)
-    (gathered _ g.result f.result a.v.now _ _ 2 2 m (lit≤ tt) v.copy_rows.auto.0 v.copy_rows-2.ensures)
+    (gathered _ g.result f.result a.v.now _ _ 2 2 m (lit≤ tt) c.copy_rows.auto.r c.copy_rows-2.ensures)
     (u_each a.su a.sv) (v_each a.su a.sv) r.ensures
     c.copy_rows-3.ensures c.copy_rows-4.ensures
 

@@ -20,8 +20,7 @@ decreases-loop s first n step next at r₀ k₀ r k = n - k
 -- where a turn's line lies
 turn : (c : tie.In-loop-k invariant-loop decreases-loop) → let a = c.args in a.at + c.loop-k.k * a.next + 3 * a.step < length a.s.now
 turn c =
-    let s = c.before.before.before in
-    line_inside s.args.step s.args.next s.args.at s.args.n c.loop-k.k s.args.s.now s.requires.1 c.loop-k-test.true
+    line_inside c.args.step c.args.next c.args.at c.args.n c.loop-k.k c.args.s.now c.requires.1 c.loop-k-test.true
 
 loop_holds : tie.Need-loop-k-init invariant-loop decreases-loop
 loop_holds c = (omega arith, search rules, gather_none halves halves_spread _ _ _ _ _ _)

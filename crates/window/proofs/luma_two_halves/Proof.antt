@@ -16,21 +16,18 @@ use Rattle.window.proofs.luma_two_halves.Tie as tie
 -- where the lines lie
 lie : (c : tie.After-wide-next) → c.wide-at.result + (8 - 1) * c.wide-next.result + 3 * 1 < length c.args.y.now
 lie c =
-    let s = c.before.before.before in
-    let l = length s.args.y.now in
-    halves_lie s.args.p 8 l l c.wide-next.result c.wide-at.result (omega arith) s.requires c.wide-next.ensures.0 c.wide-at.ensures.0
+    let l = length c.args.y.now in
+    halves_lie c.args.p 8 l l c.wide-next.result c.wide-at.result (omega arith) c.requires c.wide-next.ensures.0 c.wide-at.ensures.0
 
 same_length : tie.Need-shape_of-y
-same_length c = c.scatter.auto.0
+same_length c = c.scatter.auto.s
 
 returns : tie.Need-returns
 returns c =
-    let w = c.before.before.before.before.before.before.before.before.before in
-    let s = w.before.before.before in
-    let a = s.args in
-    let b = halves_at a.p 8 (length a.y.now) s.requires in
-    let f = w.wide-at in
-    let g = w.wide-next in
+    let a = c.args in
+    let b = halves_at a.p 8 (length a.y.now) c.requires in
+    let f = c.wide-at in
+    let g = c.wide-next in
     let r = c.lanes_by_halves-r in
     let m = c.mask_of-all.ensures in
     plane_done halves halves_spread _ _ a.p 1 g.result f.result m (sym b.below) g.ensures.0 f.ensures.0

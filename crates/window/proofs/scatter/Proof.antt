@@ -20,8 +20,7 @@ decreases-loop s₀ mask t first n step next at k₀ s k = n - k
 -- where a turn's line lies
 turn : (c : tie.In-loop-k invariant-loop decreases-loop) → let a = c.args in a.at + c.loop-k.k * a.next + 3 * a.step < length a.s.now
 turn c =
-    let s = c.before.before.before in
-    line_inside s.args.step s.args.next s.args.at s.args.n c.loop-k.k s.args.s.now s.requires.1 c.loop-k-test.true
+    line_inside c.args.step c.args.next c.args.at c.args.n c.loop-k.k c.args.s.now c.requires.1 c.loop-k-test.true
 
 loop_holds : tie.Need-loop-k-init invariant-loop decreases-loop
 unfolding put_lines
@@ -41,7 +40,7 @@ loop_again c =
     let l = c.loop-k in
     let a = c.args in (
       omega arith,
-      c.put_line.auto.0 ∙ l.invariant.1,
+      c.put_line.auto.s ∙ l.invariant.1,
       put_more a.mask (λ j. lane_of halves a.t.now (a.first + j)) a.step a.next a.at l.k _ a.s.now l.s _
           c.lane_of.ensures l.invariant.2 c.put_line.ensures,
     )

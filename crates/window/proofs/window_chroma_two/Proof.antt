@@ -26,10 +26,10 @@ rows_requires : tie.Need-chroma_two_rows-requires
 rows_requires c κs = sym (rows_test c.before.before.before) ∙ c.if-by_rows.true
 
 same_u : tie.Need-shape_of-u-then-by_rows
-same_u c = c.chroma_two_rows.auto.0
+same_u c = c.chroma_two_rows.auto.u
 
 same_v : tie.Need-shape_of-v-then-by_rows
-same_v c = c.chroma_two_rows.auto.1.0
+same_v c = c.chroma_two_rows.auto.v
 
 returns : tie.Need-returns-then-by_rows
 returns c =
@@ -43,10 +43,10 @@ halves_requires : tie.Need-chroma_two_halves-requires
 halves_requires c κs = both_left _ _ (sym (halves_test c.before.before.before) ∙ c.if-by_halves_apart.true)
 
 same_u_2 : tie.Need-shape_of-u-then-by_halves_apart
-same_u_2 c = c.chroma_two_halves.auto.0
+same_u_2 c = c.chroma_two_halves.auto.u
 
 same_v_2 : tie.Need-shape_of-v-then-by_halves_apart
-same_v_2 c = c.chroma_two_halves.auto.1.0
+same_v_2 c = c.chroma_two_halves.auto.v
 
 returns-2 : tie.Need-returns-then-by_halves_apart
 returns-2 c =

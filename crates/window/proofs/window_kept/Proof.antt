@@ -29,20 +29,19 @@ scatter_requires : tie.Need-scatter-requires
 scatter_requires c κs = (omega (arith, c.lines_in-n.ensures.2), lie c.before.before.before.before)
 
 same_length : tie.Need-shape_of-s
-same_length c = c.scatter.auto.0
+same_length c = c.scatter.auto.s
 
 returns : tie.Need-returns-then-last-s
 returns c =
-    let w = c.before.before.before.before.before.before.before.before in
-    let a = w.args in
-    let n = w.lines_in-n in
-    let l = w.last in
+    let a = c.args in
+    let n = c.lines_in-n in
+    let l = c.last in
     let few = n.ensures.2 in
-    let f = w.wide-at in
-    let g = w.wide-step in
-    let h = w.wide-next in
+    let f = c.wide-at in
+    let g = c.wide-step in
+    let h = c.wide-next in
     let r = c.lanes_by_halves-r in
-    kept_in a.p n.result _ l.result (length a.s.now) n.ensures.0 l.ensures a.mask (λ k. a.st) a.s.now _ w.if-last-s.true
+    kept_in a.p n.result _ l.result (length a.s.now) n.ensures.0 l.ensures a.mask (λ k. a.st) a.s.now _ c.if-last-s.true
     (plane_done halves halves_spread _ _ a.p g.result h.result f.result refl g.ensures.0 h.ensures.0 f.ensures.0
     (λ k. a.st) 0 n.result a.s.now _ _ (luma_sts a.st 0) r.result (omega arith)
     c.gather-t.ensures.lines (λ k i. luma_each a.st k (omega arith))

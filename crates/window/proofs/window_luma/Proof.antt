@@ -34,5 +34,5 @@ returns-3 c =
 pub window_luma_spec : {M : Type 1} → statement M
 window_luma_spec =
     tie.close
-    (tie.spec (λ c κs. search rules) rows_requires (λ c. c.luma_rows.auto.0) returns (λ c κs. search rules)
-    halves_requires (λ c. c.luma_halves.auto.0) returns-2 returns-3)
+    (tie.spec (λ c κs. search rules) rows_requires (λ c. c.luma_rows.auto.y) returns (λ c κs. search rules)
+    halves_requires (λ c. c.luma_halves.auto.y) returns-2 returns-3)

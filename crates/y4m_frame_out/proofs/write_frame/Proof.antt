@@ -59,13 +59,8 @@ returns c = write_refused _ _ c.checked_picture.ensures _ c.in-Refused.is
 
 returns-2 : tie.Need-returns-in-Done
 returns-2 c =
-    let v = c.before.before in
-    let u = v.before.before.before.before in
-    let y = u.before.before.before.before in
-    let line = y.before.before.before.before in
-    let told = line.before.before in
-    write_done _ _ told.checked_picture.ensures told.in-Done.is
-    line.put_line-luma.ensures y.put_plane-first.ensures u.put_plane-second.ensures v.put_plane.ensures
+    write_done _ _ c.checked_picture.ensures c.in-Done.is
+    c.put_line-luma.ensures c.put_plane-first.ensures c.put_plane-second.ensures c.put_plane.ensures
 
 pub write_frame_spec : {M : Type 1} → statement M
 write_frame_spec =

@@ -39,16 +39,14 @@ returns-2 c = let a = c.args in
 
 returns-3 : tie.Need-returns-then-not-numbers_ok
 returns-3 c =
-    let s = c.before.before.before in
-    let a = s.args in
-    at_numbers a.format a.w a.h a.f a.g a.a a.b a.out _ s.size_ok.ensures s.if-not-size_ok.false-raw
+    let a = c.args in
+    at_numbers a.format a.w a.h a.f a.g a.a a.b a.out _ c.size_ok.ensures c.if-not-size_ok.false-raw
     c.if-out-ne256.false _ c.numbers_ok.ensures c.if-not-numbers_ok.true-raw
 
 returns-4 : tie.Need-returns
 returns-4 c =
-    let s = c.before.before.before in
-    let a = s.args in
-    at_done a.format a.w a.h a.f a.g a.a a.b a.out _ s.size_ok.ensures s.if-not-size_ok.false-raw
+    let a = c.args in
+    at_done a.format a.w a.h a.f a.g a.a a.b a.out _ c.size_ok.ensures c.if-not-size_ok.false-raw
     c.if-out-ne256.false _ c.numbers_ok.ensures c.if-not-numbers_ok.false-raw
 
 pub checked_spec : {M : Type 1} → statement M

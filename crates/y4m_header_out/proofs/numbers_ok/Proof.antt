@@ -24,8 +24,7 @@ returns c = grey _ _ _ _ _ c.in-Grey.is
 
 returns-2 : tie.Need-returns-in-Colour
 returns-2 c =
-    let d = c.before.before.before in
-    colour _ _ _ _ _ _ _ _ _ d.in-Colour.is d.in_range.ensures c.in_range-in-Colour.ensures c.in_range-in-Colour-2.ensures c.in_range-in-Colour-3.ensures
+    colour _ _ _ _ _ _ _ _ _ c.in-Colour.is c.in_range.ensures c.in_range-in-Colour.ensures c.in_range-in-Colour-2.ensures c.in_range-in-Colour-3.ensures
 
 pub numbers_ok_spec : {M : Type 1} → statement M
 numbers_ok_spec =

@@ -95,23 +95,21 @@ no_rows w words motion refs k l = absurd (not-suc-le-zero l)
 
 passes_by_requires : tie.Need-passes_by-requires
 passes_by_requires c κs =
-    let s = c.before.before.before.before.before.before.before.before.before.before.before.before.before.before.before in
-    let a = s.args in
+    let a = c.args in
     let k = c.in_format-chroma in (
       lent_picture a.format (a.w / 4) (a.skip * (a.w / 4)) k.result k.ensures a.y.now a.u.now a.v.now a.words.now
-          a.motion.now a.refs.now a.keep.now a.entries.now (a.top + a.h / 4) s.requires.0.0,
-      s.requires.0.1,
+          a.motion.now a.refs.now a.keep.now a.entries.now (a.top + a.h / 4) c.requires.0.0,
+      c.requires.0.1,
       no_rows _ _ _ _,
     )
 
 returns : tie.Need-returns
 returns c =
-    let d = c.before.before.before.before.before.before.before.before in
-    let s = start d in
+    let s = start c.before.before.before.before.before.before.before.before in
     let a = s.args in
     let n = a.skip * (a.w / 4) in
-    let k = d.in_format-chroma in
-    let b = d.passes_by in
+    let k = c.in_format-chroma in
+    let b = c.passes_by in
     let r = s.pre.1 in (
       take_put (16 * n) (length a.y.now - 16 * n) a.y.now b.new.1.1.1.1.1.0 r.0,
       front_at k.ensures a.u.now b.new.1.1.1.1.1.1.0 r.1,
@@ -177,11 +175,11 @@ band_passes_spec =
     (λ c. c.requires.1.0)
     (λ c. c.requires.1.0)
     (λ c. le_refl _)
-    (λ c. let s = c.before.before.before.before.before.before.before.before in colour_2 (few s) s.args.format c.in_format-chroma.ensures)
+    (λ c. colour_2 (few c) c.args.format c.in_format-chroma.ensures)
     (λ c. before_end c.in_format-chroma.ensures c.requires.1.1)
     (λ c. before_end c.in_format-chroma.ensures c.requires.1.1)
     (λ c. le_refl _)
-    (λ c. let s = c.before.before.before.before.before.before.before.before.before in colour_2 (few s) s.args.format c.in_format-chroma.ensures)
+    (λ c. let c = c.before.before.before.before.before.before.before.before.before in colour_2 (few c) c.args.format c.in_format-chroma.ensures)
     (λ c. before_end c.in_format-chroma.ensures c.requires.1.2)
     (λ c. before_end c.in_format-chroma.ensures c.requires.1.2)
     (λ c. le_refl _)
@@ -201,12 +199,11 @@ band_passes_spec =
     (λ c. le_refl _)
     (λ c. refl)
     passes_by_requires
-    (λ c. let d = c.before.before.before.before.before.before.before.before in
-    kept_long _ (start d).args.y.now d.passes_by.new.1.1.1.1.1.0 d.passes_by.auto.1.1.1.1.1.0)
-    (λ c. let d = c.before.before.before.before.before.before.before.before in
-    kept_long _ (start d).args.u.now d.passes_by.new.1.1.1.1.1.1.0 d.passes_by.auto.1.1.1.1.1.1.0)
-    (λ c. let d = c.before.before.before.before.before.before.before.before in
-    kept_long _ (start d).args.v.now d.passes_by.new.1.1.1.1.1.1.1.0 d.passes_by.auto.1.1.1.1.1.1.1.0)
-    (λ c. let d = c.before.before.before.before.before.before.before.before in
-    kept_long _ (start d).args.words.now d.passes_by.new.1.1.1.1.1.1.1.1.0 d.passes_by.auto.1.1.1.1.1.1.1.1.0)
+    (λ c. kept_long _ (start c).args.y.now c.passes_by.new.1.1.1.1.1.0 c.passes_by.auto.y)
+    (λ c. let c = c.before.before.before.before.before.before.before.before in
+    kept_long _ (start c).args.u.now c.passes_by.new.1.1.1.1.1.1.0 c.passes_by.auto.u)
+    (λ c. let c = c.before.before.before.before.before.before.before.before in
+    kept_long _ (start c).args.v.now c.passes_by.new.1.1.1.1.1.1.1.0 c.passes_by.auto.v)
+    (λ c. let c = c.before.before.before.before.before.before.before.before in
+    kept_long _ (start c).args.words.now c.passes_by.new.1.1.1.1.1.1.1.1.0 c.passes_by.auto.words)
     returns)

@@ -56,9 +56,8 @@ passes_by_requires c κs =
 returns-2 : tie.Need-returns
 unfolding of
 returns-2 c =
-    let passed = c.before.before.before.before.before.before.before.before.before.before.before.before.before.before.before.before.before in
-    let i = of passed.before.before.before.before.before.before.before.before.before.before in
-    let e = fine passed in
+    let i = of c.before.before.before.before.before.before.before.before.before.before.before.before.before.before.before.before.before.before.before.before.before.before.before.before.before.before.before in
+    let e = fine c.before.before.before.before.before.before.before.before.before.before.before.before.before.before.before.before.before in
     deblock_done i.given (picture_fine (checked i) e) _ _ _ _ _ _ _
     c.entries_by-table.ensures
     (both_zero _ _ _ c.passes_by-n.ensures)
@@ -80,8 +79,8 @@ deblock_by_rows_spec =
     (λ c κs. tt)
     passes_by_requires
     (λ c κs. tt)
-    (λ c. c.passes_by-n.auto.1.1.1.1.1.0)
-    (λ c. c.passes_by-n.auto.1.1.1.1.1.1.0)
-    (λ c. c.passes_by-n.auto.1.1.1.1.1.1.1.0)
-    (λ c. c.passes_by-n.auto.1.1.1.1.1.1.1.1.0)
+    (λ c. c.passes_by-n.auto.y)
+    (λ c. c.passes_by-n.auto.u)
+    (λ c. c.passes_by-n.auto.v)
+    (λ c. c.passes_by-n.auto.words)
     returns-2)

@@ -69,29 +69,24 @@ root_edges_requires c κs = (
 )
 
 -- the units of a root's edges lie in the maps
-knowns : (c : tie.After-plan_edges invariant-loop decreases-loop) → let turn = c.before.before.before.before.before in
-    let a = turn.args in
-    let l = turn.loop-i in
+knowns : (c : tie.After-plan_edges invariant-loop decreases-loop) → let a = c.args in
+    let l = c.loop-i in
     Knowns (pass_of a.pass) (a.w / 4) a.words.now (record { motion = a.motion.now; refs = a.refs.now; keep = a.keep.now }) a.rows.now
-    turn.root_edges-n.new.1.1.1.1.1.1.1.0 turn.root_edges-n.result l.places l.marks
+    c.root_edges-n.new.1.1.1.1.1.1.1.0 c.root_edges-n.result l.places l.marks
 knowns c =
-    let turn = c.before.before.before.before.before in
-    let s = turn.before.before.before.before.before.before.before.before.before.before.before.before.before in
-    let r = turn.root_edges-n.ensures in
-    let l = turn.loop-i in
+    let r = c.root_edges-n.ensures in
+    let l = c.loop-i in
     record {
-      wide = s.requires.0.wide;
+      wide = c.requires.0.wide;
       long = pairs_fit r.few r.long;
       fits = all_fit r.few l.invariant.5;
       fits_marks = all_fit r.few l.invariant.6;
-      right = s.requires.2;
-      edges = λ k g. edge_known (pass_of s.args.pass) _ _ s.requires.0 (r.units k g);
+      right = c.requires.2;
+      edges = λ k g. edge_known (pass_of c.args.pass) _ _ c.requires.0 (r.units k g);
     }
 
 -- so its plan is the one by the maps
-plan_of : (c : tie.After-plan_edges invariant-loop decreases-loop) → let turn = c.before.before.before.before.before in
-    let s = turn.before.before.before.before.before.before.before.before.before.before.before.before.before in
-    Planned (maps s) (pass_of s.args.pass) (s.args.w / 4) turn.root_edges-n.new.1.1.1.1.1.1.1.0 turn.root_edges-n.result
+plan_of : (c : tie.After-plan_edges invariant-loop decreases-loop) → Planned (maps c.before.before.before.before.before.before.before.before.before.before.before.before.before.before.before.before.before.before) (pass_of c.args.pass) (c.args.w / 4) c.root_edges-n.new.1.1.1.1.1.1.1.0 c.root_edges-n.result
     c.plan_edges.new.1.1.1.1.1.1.1.1.1.0 c.plan_edges.new.1.1.1.1.1.1.1.1.1.1.0
 plan_of c = plan_known _ _ _ _ _ (knowns c) c.is_horizontal-horizontal.ensures c.plan_edges.ensures
 
@@ -99,68 +94,57 @@ plan_of c = plan_known _ _ _ _ _ (knowns c) c.is_horizontal-horizontal.ensures c
 current : (c : tie.At-loop-i invariant-loop decreases-loop) → let a = c.args in
     LentPlanes a.format (a.w / 4) (a.top + a.h / 4) (record { motion = a.motion.now; refs = a.refs.now; keep = a.keep.now }) a.entries.now
     (record { y = c.loop-i.y; u = c.loop-i.u; v = c.loop-i.v }) a.words.now
-current c = let s = c.before.before.before.before.before.before.before.before.before.before in
-    roots_frame (maps s) _ (pass_of s.args.pass) _ _ _ _ _ c.loop-i.i _ _ _ c.loop-i.invariant.7 s.requires.0
+current c = roots_frame (maps c.before.before.before.before.before.before.before.before.before.before) _ (pass_of c.args.pass) _ _ _ _ _ c.loop-i.i _ _ _ c.loop-i.invariant.7 c.requires.0
 
 -- a root's plan has the room that it had before the turn
 places_long : (c : tie.After-plan_edges invariant-loop decreases-loop) → length c.plan_edges.new.1.1.1.1.1.1.1.1.1.0 ≡ 256
-places_long c = c.plan_edges.auto.1.1.1.1.1.1.1.1.1.0 ∙ c.loop-i.invariant.5
+places_long c = c.plan_edges.auto.places ∙ c.loop-i.invariant.5
 
 marks_long : (c : tie.After-plan_edges invariant-loop decreases-loop) → length c.plan_edges.new.1.1.1.1.1.1.1.1.1.1.0 ≡ 256
-marks_long c = c.plan_edges.auto.1.1.1.1.1.1.1.1.1.1.0 ∙ c.loop-i.invariant.6
+marks_long c = c.plan_edges.auto.marks ∙ c.loop-i.invariant.6
 
 add_count : tie.Need-overflow_add-count invariant-loop decreases-loop
 add_count c =
-    let after = c.before.before.before.before.before.before.before.before.before.before.before.before in
-    let turn = after.before.before.before.before.before.before.before.before.before.before.before.before in
-    let l = turn.loop-i in
-    count_fits turn.root_count-roots.ensures.1 l.invariant.0 l.invariant.7.few turn.root_edges-n.ensures.few
+    let l = c.loop-i in
+    count_fits c.root_count-roots.ensures.1 l.invariant.0 l.invariant.7.few c.root_edges-n.ensures.few
 
 add_i : tie.Need-overflow_step-i invariant-loop decreases-loop
 add_i c =
-    let after = c.before.before.before.before.before.before.before.before.before.before.before.before in
-    let turn = after.before.before.before.before.before.before.before.before.before.before.before.before.before.before in
-    next_fits turn.root_count-roots.ensures.1 turn.loop-i-test.true
+    next_fits c.root_count-roots.ensures.1 c.loop-i-test.true
 
 loop_less : tie.Need-loop-i-smaller invariant-loop decreases-loop
 loop_less c =
-    let after = c.before.before.before.before.before.before.before.before.before.before.before.before in
-    let turn = after.before.before.before.before.before.before.before.before.before.before.before.before.before.before in
-    one_less turn.loop-i-test.true
+    one_less c.loop-i-test.true
 
 loop_again : tie.Need-loop-i-preserved invariant-loop decreases-loop
 loop_again c =
-    let turn = c.before.before.before.before.before.before.before.before.before.before.before.before in
-    let top = turn.before.before.before.before.before.before.before.before.before.before.before.before.before.before.before in
-    let s = top.before.before.before.before.before.before.before.before.before.before in
-    let l = turn.loop-i in
-    let ky = turn.filter_luma.auto in
+    let l = c.loop-i in
+    let ky = c.filter_luma.auto in
     let k = c.filter_chroma.auto in
-    let r = turn.root_edges-n.ensures in
-    let p = plan_of turn.before.before.before.before.before.before.before in
+    let r = c.root_edges-n.ensures in
+    let p = plan_of c.before.before.before.before.before.before.before.before.before.before.before.before.before.before.before.before.before.before.before in
     let f = c.filter_chroma.ensures in
-    let d = pass_of s.args.pass in
-    let high = s.args.top + s.args.h / 4 in
-    let now = current top in
+    let d = pass_of c.args.pass in
+    let high = c.args.top + c.args.h / 4 in
+    let now = current c.before.before.before.before.before.before.before.before.before.before.before.before.before.before.before.before.before.before.before.before.before.before.before.before.before.before.before in
     let alike = (u_plane now).long ∙ sym (v_plane now).long in (
-      one_more turn.loop-i-test.true,
+      one_more c.loop-i-test.true,
       ky.1.1.0 ∙ l.invariant.1,
       k.1.1.1.0 ∙ l.invariant.2,
       k.1.1.1.1.0 ∙ l.invariant.3,
       r.long,
-      places_long turn.before.before.before.before.before.before.before,
-      marks_long turn.before.before.before.before.before.before.before,
-      roots_more _ _ (pass_of s.args.pass) _ _ _ _ _ l.i _ _ _ _ _ _ _ _ _ _ r.few r.same s.requires.0.marks p l.invariant.7
-          (luma_by_plan _ s.requires.0.long_entries d _ high _ _ _ _ r.few r.units _ _ (luma_plane now) turn.filter_luma.ensures)
-          (u_by_plan _ s.requires.0.long_entries d _ high _ _ _ _ r.few r.units _ _ _ _ _ alike (u_plane now) f.0)
-          (v_by_plan _ s.requires.0.long_entries d _ high _ _ _ _ r.few r.units _ _ _ _ _ alike (v_plane now) f.1),
+      places_long c.before.before.before.before.before.before.before.before.before.before.before.before.before.before.before.before.before.before.before,
+      marks_long c.before.before.before.before.before.before.before.before.before.before.before.before.before.before.before.before.before.before.before,
+      roots_more _ _ (pass_of c.args.pass) _ _ _ _ _ l.i _ _ _ _ _ _ _ _ _ _ r.few r.same c.requires.0.marks p l.invariant.7
+          (luma_by_plan _ c.requires.0.long_entries d _ high _ _ _ _ r.few r.units _ _ (luma_plane now) c.filter_luma.ensures)
+          (u_by_plan _ c.requires.0.long_entries d _ high _ _ _ _ r.few r.units _ _ _ _ _ alike (u_plane now) f.0)
+          (v_by_plan _ c.requires.0.long_entries d _ high _ _ _ _ r.few r.units _ _ _ _ _ alike (v_plane now) f.1),
     )
 
 returns : tie.Need-returns invariant-loop decreases-loop
 returns c =
-    let s = c.before.before.before.before.before.before.before.before.before.before.before in
     let l = c.loop-i in
-    roots_all _ _ (pass_of s.args.pass) _ _ _ _ _ l.i _ _ _ (omega (arith, l.invariant.0, c.loop-i-test.false, roots_units (size s), c.root_count-roots.ensures.0)) l.invariant.7
+    roots_all _ _ (pass_of c.args.pass) _ _ _ _ _ l.i _ _ _ (omega (arith, l.invariant.0, c.loop-i-test.false, roots_units (size c.before.before.before.before.before.before.before.before.before.before.before), c.root_count-roots.ensures.0)) l.invariant.7
 
 pub deblock_pass_spec : {M : Type 1} → statement M
 deblock_pass_spec =

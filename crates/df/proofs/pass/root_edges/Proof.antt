@@ -25,19 +25,15 @@ module _ (c : tie.After-roots_along-across) where
 
 returns : tie.Need-returns-in-Done
 returns c =
-    let d = c.before.before.before.before.before.before in
-    let s = d.before.before.before in
     let k = c.is_horizontal in
-    listed_root s.requires.0 s.args.i s.requires.1 k.result s.args.halved s.args.top s.requires.3 _ s.requires.2 _ _
-    (rw d.roots_along-across.ensures at c.root_list.ensures) (pass_of s.args.pass) _ k.ensures c.in-Done.is
+    listed_root c.requires.0 c.args.i c.requires.1 k.result c.args.halved c.args.top c.requires.3 _ c.requires.2 _ _
+    (rw c.roots_along-across.ensures at c.root_list.ensures) (pass_of c.args.pass) _ k.ensures c.in-Done.is
 
 returns-2 : tie.Need-returns-in-Refused
 returns-2 c =
-    let d = c.before.before.before.before.before.before in
-    let s = d.before.before.before in
     let k = c.is_horizontal in
-    absurd (list_met s.requires.0 s.args.i s.requires.1 k.result s.args.halved s.args.top s.requires.3 _ s.requires.2 _ _
-    (rw d.roots_along-across.ensures at c.root_list.ensures) _ c.in-Refused.is)
+    absurd (list_met c.requires.0 c.args.i c.requires.1 k.result c.args.halved c.args.top c.requires.3 _ c.requires.2 _ _
+    (rw c.roots_along-across.ensures at c.root_list.ensures) _ c.in-Refused.is)
 
 pub root_edges_spec : {M : Type 1} → statement M
 root_edges_spec =

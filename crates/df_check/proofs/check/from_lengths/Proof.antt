@@ -79,13 +79,11 @@ past2 : (c : tie.Else-not-settings_ok) (r : Answer) → r ≡ rest2 c.before.bef
 past2 c r p = past1 c.before.before r (goes_on _ _ _ _ r c.settings_ok.ensures c.if-not-settings_ok.false-raw p)
 
 -- the lengths
-told : (c : tie.Else-not-lengths_ok) → let s = c.before.before.before.before.before.before.before.before in
-    LengthsTold s.args.settings.format s.args.w s.args.lent s.args.own (lengths_of (of s))
+told : (c : tie.Else-not-lengths_ok) → LengthsTold c.args.settings.format c.args.w c.args.lent c.args.own (lengths_of (of c.before.before.before.before.before.before.before.before))
 told c = lengths_told _ _ _ _ _ (sym c.lengths_ok.ensures ∙ c.if-not-lengths_ok.false)
 
 -- what the walk found
-walk : (c : tie.After-check) → let s = c.before.before.before.before.before.before.before.before.before.before.before in
-    c.check.result ≡ (picture_walk (of s).splits (s.args.w / 4) (s.args.own / 4)).answer
+walk : (c : tie.After-check) → c.check.result ≡ (picture_walk (of c.before.before.before.before.before.before.before.before.before.before.before).splits (c.args.w / 4) (c.args.own / 4)).answer
 walk c = walked _ _ _ _ c.requires.1 (told c.before.before.before).splits c.check.ensures
 
 past3 : (c : tie.In_default) (r : Answer) → r ≡ rest3 c.before.before.before.before.before.before.before.before.before.before.before.before
@@ -122,29 +120,21 @@ before s =
       few_colour = at_most s.args.settings.format _ _ small;
     }
 
-marks : (c : tie.After-keep_ok) → let s = c.before.before.before.before.before.before.before.before.before.before.before.before.before.before in
-    c.keep_ok.result ≡ keep_ok (drop (unit_count s.args.w s.args.before) (of s).keep)
-marks c = let s = c.before.before.before.before.before.before.before.before.before.before.before.before.before.before in
-    c.keep_ok.ensures ∙ ap keep_ok (whole_end (unit_count s.args.w s.args.before) (of s).keep)
+marks : (c : tie.After-keep_ok) → c.keep_ok.result ≡ keep_ok (drop (unit_count c.args.w c.args.before) (of c.before.before.before.before.before.before.before.before.before.before.before.before.before.before).keep)
+marks c = c.keep_ok.ensures ∙ ap keep_ok (whole_end (unit_count c.args.w c.args.before) (of c.before.before.before.before.before.before.before.before.before.before.before.before.before.before).keep)
 
 qps : (c : tie.After-qps_ok)
-    → let s = c.before.before.before.before.before.before.before.before.before.before.before.before.before.before.before.before.before in
-    c.qps_ok.result ≡ qps_ok (drop (unit_count s.args.w s.args.before) (of s).words)
-qps c = let s = c.before.before.before.before.before.before.before.before.before.before.before.before.before.before.before.before.before in
-    c.qps_ok.ensures ∙ ap qps_ok (whole_end (unit_count s.args.w s.args.before) (of s).words)
+    → c.qps_ok.result ≡ qps_ok (drop (unit_count c.args.w c.args.before) (of c.before.before.before.before.before.before.before.before.before.before.before.before.before.before.before.before.before).words)
+qps c = c.qps_ok.ensures ∙ ap qps_ok (whole_end (unit_count c.args.w c.args.before) (of c.before.before.before.before.before.before.before.before.before.before.before.before.before.before.before.before.before).words)
 
 planes : (c : tie.After-planes_ok) →
-    let q = c.before.before.before.before.before.before.before.before.before.before.before.before in
-    let s = q.before.before.before.before.before.before.before.before.before.before.before.before in
-    let n = colour_length s.args.settings.format s.args.w s.args.before in
-    c.planes_ok.result ≡ planes_ok (drop (luma_length s.args.w s.args.before) (of s).y) (drop n (of s).u) (drop n (of s).v)
+    let n = colour_length c.args.settings.format c.args.w c.args.before in
+    c.planes_ok.result ≡ planes_ok (drop (luma_length c.args.w c.args.before) (of c.before.before.before.before.before.before.before.before.before.before.before.before.before.before.before.before.before.before.before.before.before.before.before).y) (drop n (of c.before.before.before.before.before.before.before.before.before.before.before.before.before.before.before.before.before.before.before.before.before.before.before).u) (drop n (of c.before.before.before.before.before.before.before.before.before.before.before.before.before.before.before.before.before.before.before.before.before.before.before).v)
 planes c =
-    let q = c.before.before.before.before.before.before.before.before.before.before.before.before in
-    let s = q.before.before.before.before.before.before.before.before.before.before.before.before in
-    let n = colour_length s.args.settings.format s.args.w s.args.before in
+    let n = colour_length c.args.settings.format c.args.w c.args.before in
     let e = c.in_format-chroma in
     let end : (l : List ℕ) → mid_of e.result (length l - e.result) l ≡ drop n l = λ l. whole_end e.result l ∙ ap (λ (k : ℕ). drop k l) e.ensures in
-    c.planes_ok.ensures ∙ (λ i. planes_ok (whole_end (luma_length s.args.w s.args.before) (of s).y i) (end (of s).u i) (end (of s).v i))
+    c.planes_ok.ensures ∙ (λ i. planes_ok (whole_end (luma_length c.args.w c.args.before) (of c.before.before.before.before.before.before.before.before.before.before.before.before.before.before.before.before.before.before.before.before.before.before.before).y i) (end (of c.before.before.before.before.before.before.before.before.before.before.before.before.before.before.before.before.before.before.before.before.before.before.before).u i) (end (of c.before.before.before.before.before.before.before.before.before.before.before.before.before.before.before.before.before.before.before.before.before.before.before).v i))
 
 past4 : (c : tie.Else-not-keep_ok) (r : Answer) → r ≡ rest4
     c.before.before.before.before.before.before.before.before.before.before.before.before.before.before.before
@@ -259,8 +249,7 @@ part_planes_ok_start_2 c = omega (
 
 mul_planes_ok_3 : tie.Need-offset_bounds-v-chroma
 mul_planes_ok_3 c =
-    let q = c.before.before.before.before.before.before.before.before.before.before in
-    omega (arith, c.in_format-chroma.ensures, (before q.before.before.before.before.before.before.before.before.before.before.before.before).few_colour)
+    omega (arith, c.in_format-chroma.ensures, (before c.before.before.before.before.before.before.before.before.before.before.before.before.before.before.before.before.before.before.before.before.before).few_colour)
 
 sub_planes_ok_3 : tie.Need-slice_bounds-planes_ok-count-3
 sub_planes_ok_3 c = omega (

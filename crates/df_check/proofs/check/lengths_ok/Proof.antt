@@ -44,9 +44,7 @@ mul_result_4 c = omega (arith, few_units (s c.before.before.before.before.before
 returns : tie.Need-returns
 unfolding lengths_ok
 returns c =
-    let r = c.before.before.before.before.before.before.before.before.before.before.before in
-    let f = r.before.before in
-    rw (f.in_format-chroma.ensures, f.in_format-table.ensures, same r) refl
+    rw (c.in_format-chroma.ensures, c.in_format-table.ensures, same c) refl
 
 pub lengths_ok_spec : {M : Type 1} → statement M
 lengths_ok_spec =

@@ -27,10 +27,9 @@ most_back Colour = refl
 returns : tie.Need-returns
 unfolding offset_ok
 returns c =
-    let s = c.before.before in
-    let z = back w8 _ s.ranges.offset in
-    let least = ap byte c.least_offset.ensures ∙ least_back s.args.format in
-    let most = ap byte c.most_offset.ensures ∙ most_back s.args.format in
+    let z = back w8 _ c.ranges.offset in
+    let least = ap byte c.least_offset.ensures ∙ least_back c.args.format in
+    let most = ap byte c.most_offset.ensures ∙ most_back c.args.format in
     λ i. le_z (least i) (z i) && le_z (z i) (most i)
 
 pub offset_ok_spec : {M : Type 1} → statement M

@@ -11,12 +11,11 @@ use Rattle.df_check.proofs.check.settings_ok.Tie as tie
 returns : tie.Need-returns
 unfolding settings_ok limit_ok
 returns c =
-    let t = c.before.before.before in
-    let s = t.args.s in
+    let s = c.args.s in
     let u : c.offset_ok.result ≡ offset_ok s.format s.u_offset =
-    c.offset_ok.ensures ∙ ap (offset_ok s.format) (back w8 s.u_offset (record { sfits = t.struct_told-1.given.1.0.1 })) in
+    c.offset_ok.ensures ∙ ap (offset_ok s.format) (back w8 s.u_offset (record { sfits = c.struct_told-1.given.1.0.1 })) in
     let v : c.offset_ok-2.result ≡ offset_ok s.format s.v_offset =
-    c.offset_ok-2.ensures ∙ ap (offset_ok s.format) (back w8 s.v_offset (record { sfits = t.struct_told-1.given.1.1.0.1 })) in
+    c.offset_ok-2.ensures ∙ ap (offset_ok s.format) (back w8 s.v_offset (record { sfits = c.struct_told-1.given.1.1.0.1 })) in
     rw (u, v)
 
 pub settings_ok_spec : {M : Type 1} → statement M

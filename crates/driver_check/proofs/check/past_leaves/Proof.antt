@@ -17,29 +17,26 @@ decreases-loop leaves list n k at₀ j₀ at j = n - j
 
 loop_holds : tie.Need-loop-j-init invariant-loop decreases-loop
 loop_holds c =
-    let s = c.before.before in
-    let e : s.args.from.k + 0 ≡ s.args.from.k = omega arith in
-    (omega arith, ap (walked_to s.args.from.at) e ∙ passed_none s.args.leaves.now s.args.list.now (walked_to s.args.from.at s.args.from.k), omega (arith, s.requires.2))
+    let e : c.args.from.k + 0 ≡ c.args.from.k = omega arith in
+    (omega arith, ap (walked_to c.args.from.at) e ∙ passed_none c.args.leaves.now c.args.list.now (walked_to c.args.from.at c.args.from.k), omega (arith, c.requires.2))
 
 in_list : (c : tie.In-loop-j invariant-loop decreases-loop) → 3 * c.loop-j.j + 2 < length c.args.list.now
-in_list c = let s = c.before.before.before.before in omega (arith, s.requires.0.long, s.requires.0.few)
+in_list c = omega (arith, c.requires.0.long, c.requires.0.few)
 
 small : (c : tie.In-loop-j invariant-loop decreases-loop) → c.args.from.k + c.loop-j.j ≤ 1048576
-small c = let s = c.before.before.before.before in omega (arith, s.requires.0.few, s.requires.1)
+small c = omega (arith, c.requires.0.few, c.requires.1)
 
 leaf_end_requires : tie.Need-leaf_end-at-requires invariant-loop decreases-loop
 leaf_end_requires c κs =
-    let s = c.before.before.before.before.before.before in
-    (s.requires.0.most _ c.loop-j-test.true, omega (arith, c.loop-j.invariant.2, small c.before.before))
+    (c.requires.0.most _ c.loop-j-test.true, omega (arith, c.loop-j.invariant.2, small c.before.before))
 
 loop_again : tie.Need-loop-j-preserved invariant-loop decreases-loop
 loop_again c =
-    let s = c.before.before.before.before.before.before.before in
     let l = c.loop-j in
     let e = rw c.mask_at.ensures at c.leaf_end-at.ensures.0 in (
       omega arith,
-      past_one s.args.leaves.now s.args.list.now l.j (walked_to s.args.from.at s.args.from.k) l.at (s.args.from.k + l.j) _ _
-          (s.requires.0.units _ c.loop-j-test.true) l.invariant.1 e (omega arith),
+      past_one c.args.leaves.now c.args.list.now l.j (walked_to c.args.from.at c.args.from.k) l.at (c.args.from.k + l.j) _ _
+          (c.requires.0.units _ c.loop-j-test.true) l.invariant.1 e (omega arith),
       omega (arith, c.leaf_end-at.ensures.1, l.invariant.2),
     )
 

@@ -50,21 +50,19 @@ early c = rw (counted c.before.before) at c.loop-i-test.true
 
 past_leaves_requires : tie.Need-past_leaves-place-requires invariant-loop decreases-loop
 past_leaves_requires c κs =
-    let k = c.before.before in
-    let turn = turn_at_lem k in
+    let turn = turn_at_lem c in
     let a = (start turn.before.before).pre in
     let l = turn.before.loop in
-    let r = listed (root_told _ _ _ a.size a.long a.walked l.i (early turn) _ _ _ l.inv.1 k.root_leaves.ensures _ k.in-Done.is) in
+    let r = listed (root_told _ _ _ a.size a.long a.walked l.i (early turn) _ _ _ l.inv.1 c.root_leaves.ensures _ c.in-Done.is) in
     (sides r.blocks, omega (arith, l.inv.3, few turn.before.before, turn.loop_test.taken), l.inv.4)
 
 loop_again : tie.Need-loop-i-preserved invariant-loop decreases-loop
 loop_again c =
-    let k = c.before.before.before in
-    let turn = turn_at_lem k in
+    let turn = turn_at_lem c in
     let s = start turn.before.before in
     let l = turn.before.loop in
     let a = s.pre in
-    let r = listed (root_told _ _ _ a.size a.long a.walked l.i (early turn) _ _ _ l.inv.1 k.root_leaves.ensures _ k.in-Done.is) in
+    let r = listed (root_told _ _ _ a.size a.long a.walked l.i (early turn) _ _ _ l.inv.1 c.root_leaves.ensures _ c.in-Done.is) in
     let p = c.past_leaves-place.ensures in (
       omega (arith, turn.loop_test.taken),
       r.blocks.long,
@@ -82,20 +80,18 @@ loop_less c = omega (arith, (turn_at_lem c.before.before.before).loop-test.taken
 -- the walk was accepted, so no root is refused
 returns : tie.Need-returns-in_default invariant-loop decreases-loop
 returns c =
-    let turn = c.before.before.before.before in
-    let a = (start turn.before.before).pre in
-    let l = turn.loop-i in
-    absurd (root_met _ _ _ a.size a.long a.walked l.i (early turn) _ _ _ l.invariant.1 c.root_leaves.ensures _ c.in_default.is)
+    let a = (start c.before.before.before.before.before.before).pre in
+    let l = c.loop-i in
+    absurd (root_met _ _ _ a.size a.long a.walked l.i (early c.before.before.before.before) _ _ _ l.invariant.1 c.root_leaves.ensures _ c.in_default.is)
 
 -- ---- at the end
 
 returns-2 : tie.Need-returns invariant-loop decreases-loop
 returns-2 c =
-    let d = c.before.before in
-    let s = start d in
+    let s = start c.before.before in
     let l = c.loop-i in
-    let e : l.i ≡ roots (s.args.w / 4) (s.args.h / 4) = omega (arith, l.invariant.0, c.loop-i-test.false, counted d, roots_units (size s)) in
-    (rw (← e) l.invariant.2, omega (arith, l.invariant.0, l.invariant.3, few d))
+    let e : l.i ≡ roots (s.args.w / 4) (s.args.h / 4) = omega (arith, l.invariant.0, c.loop-i-test.false, counted c.before.before, roots_units (size s)) in
+    (rw (← e) l.invariant.2, omega (arith, l.invariant.0, l.invariant.3, few c.before.before))
 
 pub past_picture_spec : {M : Type 1} → statement M
 past_picture_spec =

@@ -10,8 +10,7 @@ use Rattle.driver_check.proofs.check.read_ok.Tie as tie
 
 few : (c : tie.After-roots_along-2) → c.roots_along.result * c.roots_along-2.result ≤ 4096
 few c =
-    let s = c.before.before in
-    rw (c.roots_along.ensures, c.roots_along-2.ensures) (few_roots s.args.w s.args.h s.requires.wide s.requires.high)
+    rw (c.roots_along.ensures, c.roots_along-2.ensures) (few_roots c.args.w c.args.h c.requires.wide c.requires.high)
 
 luma : (s : tie.Start) → s.args.w * s.args.h ≤ 16777216
 luma s = mul-le-mul {n₂ = 4096} {m₂ = 4096} s.requires.wide s.requires.high

@@ -9,9 +9,8 @@ use Rattle.driver_check.proofs.records.residual_count.Tie as tie
 
 few : (c : tie.After-in_component-n) → c.in_component-n.result * c.in_component-n.result ≤ 4096
 few c =
-    let s = c.before in
     rw c.in_component-n.ensures
-    (let n = scaled_le s.args.part s.args.side 64 s.requires in mul-le-mul {n₂ = 64} {m₂ = 64} n n)
+    (let n = scaled_le c.args.part c.args.side 64 c.requires in mul-le-mul {n₂ = 64} {m₂ = 64} n n)
 
 returns : tie.Need-returns-then-coded
 returns c = (rw (c.if-coded.true, c.in_component-n.ensures), few c.before)

@@ -77,7 +77,7 @@ loop_again : tie.Need-loop-i-preserved invariant-loop decreases-loop
 loop_again c =
     let k = next c.before in
     let v = c.loop-i.invariant in
-    let l = c.root_digits.auto.1.1.1.1.0 ∙ v.3 in
+    let l = c.root_digits.auto.list ∙ v.3 in
     (omega (arith, c.loop-i-test.true), k.1, turn_done _ _ v.2 k.0, l)
 
 returns-2 : tie.Need-returns invariant-loop decreases-loop

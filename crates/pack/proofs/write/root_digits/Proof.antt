@@ -37,10 +37,9 @@ answer c = let a = c.args in
 
 judge_root_requires : tie.Need-judge_root-requires
 judge_root_requires c κs =
-    let s = c.before.before.before.before.before.before.before.before.before in
     let n = count c.before.before in
     let t = (told c.before.before.before.before).1 in
-    (bytes_long (sized _ _ s.requires.0.size) _ _ s.requires.1 s.requires.0.bytes, omega (arith, n, t.few, t.long), λ j l. t.small j (subst (λ (k : ℕ). j < k) n l))
+    (bytes_long (sized _ _ c.requires.0.size) _ _ c.requires.1 c.requires.0.bytes, omega (arith, n, t.few, t.long), λ j l. t.small j (subst (λ (k : ℕ). j < k) n l))
 
 returns : tie.Need-returns-in-Refused
 returns c = not_both _ _ _ (told c.before.before.before).0 c.in-Refused.is

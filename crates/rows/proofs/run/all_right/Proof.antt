@@ -30,9 +30,8 @@ run_length_requires c κs = (mod-lt c.loop-k.k c.requires.0.some, omega (arith, 
 
 run_right_requires : tie.Need-run_right-ok-requires invariant-loop decreases-loop
 run_right_requires c κs =
-    let s = c.before.before.before.before.before in
     let r = c.run_length-n.ensures in
-    (s.requires.0, s.requires.1, record { column = refl; fits = r.1; inside = omega (arith, r.2, s.requires.1, c.loop-k-test.true) }, r.3)
+    (c.requires.0, c.requires.1, record { column = refl; fits = r.1; inside = omega (arith, r.2, c.requires.1, c.loop-k-test.true) }, r.3)
 
 add_k : tie.Need-overflow_add-k invariant-loop decreases-loop
 add_k c = omega (arith, c.run_length-n.ensures.2, c.loop-k-test.true)

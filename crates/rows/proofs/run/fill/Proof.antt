@@ -30,11 +30,10 @@ run_length_requires c κs = (mod-lt c.loop-k.k c.requires.0.some, omega (arith, 
 
 put_run_requires : tie.Need-put_run-requires invariant-loop decreases-loop
 put_run_requires c κs =
-    let s = c.before.before.before.before.before.before.before in
     let l = c.loop-k in
     let r = c.run_length-n.ensures in
     let h = c.loop-k-test.true in
-    (s.requires.0, l.invariant.1 ∙ s.requires.1, record { column = refl; fits = r.1; inside = omega (arith, r.2, s.requires.1, h) }, r.3, omega (arith, r.3, l.invariant.3))
+    (c.requires.0, l.invariant.1 ∙ c.requires.1, record { column = refl; fits = r.1; inside = omega (arith, r.2, c.requires.1, h) }, r.3, omega (arith, r.3, l.invariant.3))
 
 slice_aggregate_store : tie.Need-slice_bounds-store-end invariant-loop decreases-loop
 slice_aggregate_store c = sym (c.put_run.ensures.1 ∙ c.loop-k.invariant.3)
@@ -47,23 +46,19 @@ store_requires c κs =
 
 add_k : tie.Need-overflow_add-k invariant-loop decreases-loop
 add_k c =
-    let run = c.before.before.before.before.before.before.before.before.before in
-    omega (arith, run.run_length-n.ensures.2, run.loop-k-test.true)
+    omega (arith, c.run_length-n.ensures.2, c.loop-k-test.true)
 
 loop_less : tie.Need-loop-k-smaller invariant-loop decreases-loop
 loop_less c =
-    let run = c.before.before.before.before.before.before.before.before.before in
-    omega (arith, run.run_length-n.ensures.0, run.run_length-n.ensures.2, run.loop-k-test.true)
+    omega (arith, c.run_length-n.ensures.0, c.run_length-n.ensures.2, c.loop-k-test.true)
 
 loop_again : tie.Need-loop-k-preserved invariant-loop decreases-loop
 loop_again c =
     let stored = c.store.ensures in
-    let put = c.before.before.before.before.before.before in
-    let run = put.put_run.ensures in
-    let length = put.before.before.before in
-    let l = length.loop-k in
-    let a = length.args in (
-      omega (arith, length.run_length-n.ensures.2, length.loop-k-test.true),
+    let run = c.put_run.ensures in
+    let l = c.loop-k in
+    let a = c.args in (
+      omega (arith, c.run_length-n.ensures.2, c.loop-k-test.true),
       stored.long ∙ l.invariant.1,
       right_more a.words.now a.motion.now a.refs.now a.columns _ _ _ _ _ _ l.invariant.2 stored (run.0 l.invariant.2),
       run.1 ∙ l.invariant.3,

@@ -17,13 +17,12 @@ put_zeros_requires c κs = c.requires.4
 returns : tie.Need-returns-then-all_intra
 returns c =
     let z = c.put_zeros.ensures in
-    let branch = c.before.before.before.before in
-    let a = branch.args in (
+    let a = c.args in (
       (λ r. record {
         long = z.long;
         at = λ j h.
             z.at j h ∙ sym (intra_byte a.words.now a.motion.now a.refs.now a.columns (a.k + j)
-            (scan_at _ a.n j h (sym branch.all_intra.ensures ∙ branch.if-all_intra.true)));
+            (scan_at _ a.n j h (sym c.all_intra.ensures ∙ c.if-all_intra.true)));
       }),
       z.long,
     )
@@ -34,15 +33,13 @@ put_first_requires c κs = let p = c.requires in (p.2.inside, p.4)
 returns-2 : tie.Need-returns-then-k-columns
 returns-2 c =
     let z = c.put_first.ensures in
-    let branch = c.before.before.before.before in
-    let s = branch.before.before.before.before.before.before in
-    let a = s.args in
-    let w = s.requires.2 in
-    let column : a.k % a.columns ≡ a.k = mod-eq_of_lt branch.if-k-columns.true in (
+    let a = c.args in
+    let w = c.requires.2 in
+    let column : a.k % a.columns ≡ a.k = mod-eq_of_lt c.if-k-columns.true in (
       (λ r. record {
         long = z.long;
         at = λ j h.
-            first_byte_lem a.words.now a.motion.now a.refs.now a.columns s.requires.0 (a.k + j) _ (omega (arith, column, w.column, w.fits)) (omega (arith, w.inside)) (z.at j h);
+            first_byte_lem a.words.now a.motion.now a.refs.now a.columns c.requires.0 (a.k + j) _ (omega (arith, column, w.column, w.fits)) (omega (arith, w.inside)) (z.at j h);
       }),
       z.long,
     )
@@ -52,31 +49,26 @@ as_above_requires c κs = let p = c.requires in (p.0, p.2, omega (arith, c.if-k-
 
 put_as_above_requires : tie.Need-put_as_above-requires
 put_as_above_requires c κs =
-    let low = c.before.before.before in
-    let p = low.requires in
-    (p.2.inside, omega (arith, p.1, p.2.inside, low.if-k-columns.false), p.0.few, omega (arith, p.0.few, p.1), p.4)
+    let p = c.requires in
+    (p.2.inside, omega (arith, p.1, p.2.inside, c.if-k-columns.false), p.0.few, omega (arith, p.0.few, p.1), p.4)
 
 returns-3 : tie.Need-returns-then-as_above
 returns-3 c =
     let z = c.put_as_above.ensures in
-    let branch = c.before.before.before.before in
-    let low = branch.before.before in
-    let s = low.before.before.before.before.before.before in
-    let a = s.args in (
+    let a = c.args in (
       (λ r. record {
         long = z.long;
         at = λ j h.
-            z.at j h ∙ ap (λ (v : ℕ). v % 4 + 4 * self_row (get_or a.words.now (a.k + j) 0)) (r (a.k - a.columns + j) (omega (arith, low.if-k-columns.false, s.requires.2.fits, s.requires.2.column, h)))
-            ∙ sym (branch.as_above.ensures branch.if-as_above.true j h);
+            z.at j h ∙ ap (λ (v : ℕ). v % 4 + 4 * self_row (get_or a.words.now (a.k + j) 0)) (r (a.k - a.columns + j) (omega (arith, c.if-k-columns.false, c.requires.2.fits, c.requires.2.column, h)))
+            ∙ sym (c.as_above.ensures c.if-as_above.true j h);
       }),
       z.long,
     )
 
 put_sides_requires : tie.Need-put_sides-requires
 put_sides_requires c κs =
-    let low = c.before.before.before in
-    let p = low.requires in
-    (p.0, p.2, omega (arith, low.if-k-columns.false), p.3, p.4)
+    let p = c.requires in
+    (p.0, p.2, omega (arith, c.if-k-columns.false), p.3, p.4)
 
 returns-4 : tie.Need-returns
 returns-4 c = let z = c.put_sides.ensures in ((λ r. z), z.long)

@@ -17,9 +17,7 @@ returns-2 c e = absurd (let z : ◌≡◌ {A = ℕ} 0 1 = cc in omega arith)
 returns-3 : tie.Need-returns
 unfolding units_from
 returns-3 c e =
-    let second = c.before in
-    let first = second.before.before in
-    rw (sym first.same_refs.ensures ∙ first.if-not-same_refs.false, sym second.same_motion.ensures ∙ second.if-not-same_motion.false, sym c.all_same_flags.ensures ∙ e)
+    rw (sym c.same_refs.ensures ∙ c.if-not-same_refs.false, sym c.same_motion.ensures ∙ c.if-not-same_motion.false, sym c.all_same_flags.ensures ∙ e)
 
 pub same_units_spec : {M : Type 1} → statement M
 same_units_spec =

@@ -13,21 +13,19 @@ room : (c : tie.After-slice_known-3-1) → c.put_decimal-end.result + 1 ≤ leng
 room c =
     let d = c.put_decimal-end in
     let b = c.put_bytes-digits in
-    let s = c.before.before.before.before.before.before.before.before.before.before in
-    omega (arith, d.ensures.count, d.auto.0, b.ensures.count, b.auto.0, decimal_four s.args.n s.requires.0, s.requires.1, s.requires.2)
+    omega (arith, d.ensures.count, d.auto.0, b.ensures.count, b.auto.0, decimal_four c.args.n c.requires.0, c.requires.1, c.requires.2)
 
 add_result : tie.Need-overflow_add-result
 add_result c = omega (arith, room c)
 
 same_length : tie.Need-shape_of-out
-same_length c = simp length-set (c.put_decimal-end.auto.0 ∙ c.put_bytes-digits.auto.0)
+same_length c = simp length-set (c.put_decimal-end.auto.out ∙ c.put_bytes-digits.auto.out)
 
 returns : tie.Need-returns
 returns c =
-    let s = c.before.before.before.before.before.before.before.before.before.before in
     let d = c.put_decimal-end.ensures in
     let b = c.put_bytes-digits.ensures in
-    (count_put s.args.n b d, count_short s.args.n b d s.requires.0 s.requires.1)
+    (count_put c.args.n b d, count_short c.args.n b d c.requires.0 c.requires.1)
 
 pub put_count_spec : {M : Type 1} → statement M
 put_count_spec = tie.close (tie.spec (λ c κs. search rules) (λ c κs. search rules) (λ c. omega (arith, room c)) add_result same_length returns)

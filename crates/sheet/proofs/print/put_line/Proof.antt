@@ -6,8 +6,7 @@ use Rattle.sheet.proofs.print.put_line.Tie as tie
 
 returns : tie.Need-returns-then-number-eq12
 returns c =
-    let s = c.before.before.before.before.before.before.before.before.before.before.before in
-    line_put _ s.args.line c.if-number-eq12.true
+    line_put _ c.args.line c.if-number-eq12.true
     c.put_bytes-next.ensures c.put_decimal.ensures
 
 returns-2 : tie.Need-returns

@@ -23,21 +23,20 @@ loop_holds c = (omega arith, refl, omega arith, places_none _ _ _ _)
 put_place_requires : tie.Need-put_place-next-requires invariant-loop decreases-loop
 put_place_requires c κs =
     let l = c.loop-i in
-    let s = c.before.before.before.before.before.before.before.before.before in (
-      omega (arith, c.wide-x.ensures, s.requires.0.small (2 * l.i) (omega arith)),
-      omega (arith, c.wide-y.ensures, s.requires.0.small (2 * l.i + 1) (omega arith)),
-      omega (arith, l.invariant.1, l.invariant.2, s.requires.1),
+    (
+      omega (arith, c.wide-x.ensures, c.requires.0.small (2 * l.i) (omega arith)),
+      omega (arith, c.wide-y.ensures, c.requires.0.small (2 * l.i + 1) (omega arith)),
+      omega (arith, l.invariant.1, l.invariant.2, c.requires.1),
     )
 
 loop_again : tie.Need-loop-i-preserved invariant-loop decreases-loop
 loop_again c =
     let l = c.loop-i in
-    let s = c.before.before.before.before.before.before.before.before.before.before.before.before in
     let p = c.put_place-next in (
       omega arith,
       p.auto.0 ∙ l.invariant.1,
       omega (arith, p.ensures.1, l.invariant.2),
-      places_more s.args.letter s.args.numbers.now l.i _ _ c.wide-x.ensures
+      places_more c.args.letter c.args.numbers.now l.i _ _ c.wide-x.ensures
           c.wide-y.ensures l.invariant.3 p.ensures.0,
     )
 

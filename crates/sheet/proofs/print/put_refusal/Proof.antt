@@ -18,27 +18,22 @@ first : (c : tie.After-put_decimal-next) → Room (c.put_decimal-next.result + 2
 first c =
     let d = c.put_decimal-next in
     let b = c.put_bytes-digits in
-    let s = c.before.before.before.before.before.before.before.before.before in
     let n = c.refusal_number-number.result in
-    let e : length d.new.0 ≡ length s.args.out.now = d.auto.0 ∙ b.auto.0 in
-    record { same = e; room = omega (arith, d.ensures.count, b.ensures.count, decimal_four n (omega arith), s.requires.1) }
+    let e : length d.new.0 ≡ length c.args.out.now = d.auto.0 ∙ b.auto.0 in
+    record { same = e; room = omega (arith, d.ensures.count, b.ensures.count, decimal_four n (omega arith), c.requires.1) }
 
 second : (c : tie.After-put_line-end) → Room (c.put_line-end.result + 1) (length c.put_line-end.new.0)
     (length c.args.out.now)
 second c =
-    let f = c.before.before.before.before in
-    let s = f.before.before.before.before.before.before.before.before.before in
-    let n = f.refusal_number-number.result in
-    let e : length c.put_line-end.new.0 ≡ length s.args.out.now = c.put_line-end.auto.0 ∙ (first f).same in
-    record { same = e; room = omega (arith, c.put_line-end.ensures.count, (first f).room, (first f).same, line_length n s.args.line s.requires.0) }
+    let n = c.refusal_number-number.result in
+    let e : length c.put_line-end.new.0 ≡ length c.args.out.now = c.put_line-end.auto.out ∙ (first c.before.before.before.before).same in
+    record { same = e; room = omega (arith, c.put_line-end.ensures.count, (first c.before.before.before.before).room, (first c.before.before.before.before).same, line_length n c.args.line c.requires.0) }
 
 returns : tie.Need-returns
 returns c =
-    let b = c.before.before.before.before.before.before.before.before.before.before in
-    let s = b.before.before.before.before.before in
     let f = second c.before.before in
     record {
-      put = refused_put s.args.r s.args.line b.refusal_number-number.ensures b.put_bytes-digits.ensures
+      put = refused_put c.args.r c.args.line c.refusal_number-number.ensures c.put_bytes-digits.ensures
           c.put_decimal-next.ensures c.put_line-end.ensures;
       fits = omega (arith, f.room, f.same);
     }
@@ -52,7 +47,7 @@ put_refusal_spec =
     (λ c. search rules)
     (λ c κs. search rules)
     (λ c κs. search rules)
-    (λ c κs. let s = c.before.before.before.before.before.before.before.before.before.before.before.before in (s.requires.0, omega (arith, (first c.before.before.before).room)))
+    (λ c κs. (c.requires.0, omega (arith, (first c.before.before.before).room)))
     (λ c. omega (arith, (second c.before.before).room))
     (λ c. let f = second c.before.before in omega (arith, f.room, f.same))
     (λ c. simp length-set (second c.before.before).same)

@@ -67,9 +67,8 @@ fill_root_requires : tie.Need-fill_root-n-requires invariant-loop decreases-loop
 fill_root_requires c κs =
     let i = c.loop-i.i in
     let e : 1024 * i + 1024 - 1024 * i ≡ 1024 = omega arith in
-    let l = c.before.before in
     let m = c.loop-i in
-    (c.requires.0.size, inside l, mid_len (1024 * i) (1024 * i + 1024) m.map (room l) ∙ e, m.invariant.4, goes l)
+    (c.requires.0.size, inside c.before.before, mid_len (1024 * i) (1024 * i + 1024) m.map (room c.before.before) ∙ e, m.invariant.4, goes c.before.before)
 
 next : (c : tie.After-fill_root-n invariant-loop decreases-loop) → let a = c.args in
     At (a.w / 4) (a.h / 4) a.src.now a.from a.to (c.loop-i.i + 1) (c.loop-i.used + c.fill_root-n.result)

@@ -69,7 +69,7 @@ add_used c = omega (
 loop_again : tie.Need-loop-i-preserved invariant-loop decreases-loop
 loop_again c = (
   omega (arith, c.loop-i-test.true),
-  c.take_marks.auto.1.1.1.1.1.1.0
+  c.take_marks.auto.out
       ∙ c.loop-i.invariant.1,
   next c.before,
 )

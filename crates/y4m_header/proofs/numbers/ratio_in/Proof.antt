@@ -15,19 +15,16 @@ slice_aggregate_term_in c = sym (length-take-le _ _ (omega arith))
 
 returns-2 : tie.Need-returns-in_default
 returns-2 c =
-    let s = c.before.before.before.before in
-    ratio_upper_no _ _ s.count_before-colon.ensures _ c.term_in.ensures c.in_default.is
+    ratio_upper_no _ _ c.count_before-colon.ensures _ c.term_in.ensures c.in_default.is
 
 returns-3 : tie.Need-returns-in_default-term_in
 returns-3 c =
-    let t = c.before.before.before.before in
-    ratio_lower_no _ _ t.count_before-colon.ensures _ t.term_in.ensures _
+    ratio_lower_no _ _ c.count_before-colon.ensures _ c.term_in.ensures _
     c.in-Is.is _ c.term_in-2.ensures c.in_default-term_in.is
 
 returns-4 : tie.Need-returns
 returns-4 c =
-    let t = c.before.before.before.before in
-    ratio_both _ _ t.count_before-colon.ensures _ t.term_in.ensures _ c.in-Is.is _
+    ratio_both _ _ c.count_before-colon.ensures _ c.term_in.ensures _ c.in-Is.is _
     c.term_in-2.ensures _ c.in-Is-term_in.is (omega arith)
 
 pub ratio_in_spec : {M : Type 1} → statement M

@@ -41,10 +41,9 @@ magic_there c = sym (first c.before) ∙ c.if-not-same.false
 
 words_in_requires : tie.Need-words_in-requires
 words_in_requires c κs =
-    let h = c.before.before.before.before.before.before in
-    let head = take h.head_length-n.result c.args.s.now in
-    let l = head_long h in
-    let f = head_fits (length c.args.s.now) h.head_length-n.result h.head_length-n.ensures in
+    let head = take c.head_length-n.result c.args.s.now in
+    let l = head_long c.before.before.before.before.before in
+    let f = head_fits (length c.args.s.now) c.head_length-n.result c.head_length-n.ensures in
     (omega (arith, magic_long (word_of head) (magic_there c), before_short 32 10 head), omega (arith, f.1))
 
 returns-2 : tie.Need-returns

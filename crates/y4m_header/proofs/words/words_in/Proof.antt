@@ -23,7 +23,7 @@ fits c =
     omega (arith, c.count_before.ensures, before_fits 32 10 c.args.head.now (l.at + 1) (omega arith))
 
 loop_holds : tie.Need-loop-at-init invariant-loop decreases-loop
-loop_holds c = let s = c.before.before in going _ _ c.silent-said.ensures s.requires.0 s.requires.1
+loop_holds c = going _ _ c.silent-said.ensures c.requires.0 c.requires.1
 
 returns : tie.Need-returns-then-said invariant-loop decreases-loop
 returns c = let l = c.loop-at in at_whole _ _ _ l.invariant (omega arith) c.if-head-at-eq10.true c.if-said.true

@@ -12,7 +12,7 @@ put_number_requires_2 : tie.Need-put_number-requires
 put_number_requires_2 c κs = (omega arith, simp length-set (omega arith))
 
 same_length : tie.Need-shape_of-out
-same_length c = c.put_number.auto.0 ∙ simp length-set c.put_number-colon.auto.0
+same_length c = c.put_number.auto.out ∙ simp length-set c.put_number-colon.auto.out
 
 returns : tie.Need-returns
 returns c =

@@ -34,7 +34,7 @@ returns c = band_refused (input_of c.before.before.before.before.before.before.b
     c.checked_band.ensures _ c.in-Refused.is
 
 deblock_checked_requires : tie.Need-deblock_checked-requires
-deblock_checked_requires c κs = let d = c.before.before.before.before in sym d.checked_band.ensures ∙ d.in_default.is
+deblock_checked_requires c κs = sym c.checked_band.ensures ∙ c.in_default.is
 
 pub deblock_band_spec : {M : Type 1} → statement M
 deblock_band_spec =
@@ -49,8 +49,8 @@ deblock_band_spec =
     returns
     (λ c. search)
     deblock_checked_requires
-    (λ c. c.deblock_checked.auto.1.1.1.1.0)
-    (λ c. c.deblock_checked.auto.1.1.1.1.1.0)
-    (λ c. c.deblock_checked.auto.1.1.1.1.1.1.0)
-    (λ c. c.deblock_checked.auto.1.1.1.1.1.1.1.0)
+    (λ c. c.deblock_checked.auto.y)
+    (λ c. c.deblock_checked.auto.u)
+    (λ c. c.deblock_checked.auto.v)
+    (λ c. c.deblock_checked.auto.words)
     (λ c. c.deblock_checked.ensures))

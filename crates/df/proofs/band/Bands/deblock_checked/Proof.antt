@@ -85,25 +85,20 @@ long c = ap length c.entries_by-table.ensures ∙ entries_long _ _ _ _ _ _
 band_passes_requires : tie.Need-band_passes-n-requires
 unfolding input_of
 band_passes_requires c κs =
-    let d = c.before.before.before.before.before.before in
-    let s = start d in
-    let t = d.before.before in
-    asked (input_of s) (fine s) (some s) (skip_is d) (top_is d) (own_is d) t.entries_by-table.result (long t)
+    let s = start c.before.before.before.before.before.before in
+    asked (input_of s) (fine s) (some s) (skip_is c.before.before.before.before.before.before) (top_is c.before.before.before.before.before.before) (own_is c.before.before.before.before.before.before) c.entries_by-table.result (long c.before.before.before.before.before.before.before.before)
 
 add_after : tie.Need-overflow_add-after
 unfolding input_of
 add_after c =
-    let t = c.before.before.before.before.before.before.before.before.before.before.before.before.before in
-    let s = t.before.before.before.before.before.before.before.before.before.before.before.before.before in
-    next_fits (next_few (band_passed (input_of s) (fine s)))
+    next_fits (next_few (band_passed (input_of c.before.before.before.before.before.before.before.before.before.before.before.before.before.before.before.before.before.before.before.before.before.before.before.before.before.before) (fine c.before.before.before.before.before.before.before.before.before.before.before.before.before.before.before.before.before.before.before.before.before.before.before.before.before.before)))
 
 returns : tie.Need-returns
 unfolding input_of
 returns c =
-    let d = c.before.before.before.before.before.before.before.before.before.before.before.before.before.before.before.before in
-    let s = start d in
+    let s = start c.before.before.before.before.before.before.before.before.before.before.before.before.before.before.before.before in
     let b = c.band_passes-n in
-    done_by (input_of s) (fine s) (some s) (skip_is d) (top_is d) (own_is d) d.entries_by-table.ensures
+    done_by (input_of s) (fine s) (some s) (skip_is c.before.before.before.before.before.before.before.before.before.before.before.before.before.before.before.before) (top_is c.before.before.before.before.before.before.before.before.before.before.before.before.before.before.before.before) (own_is c.before.before.before.before.before.before.before.before.before.before.before.before.before.before.before.before) c.entries_by-table.ensures
     b.new.1.1.1.1.1.1.0 b.new.1.1.1.1.1.1.1.0 b.new.1.1.1.1.1.1.1.1.0 b.new.1.1.1.1.1.1.1.1.1.0
     b.result.vertical b.result.horizontal b.ensures
 
@@ -118,8 +113,8 @@ deblock_checked_spec =
     (λ c. own_fits _ _ c.band_rows-rows.ensures)
     band_passes_requires
     add_after
-    (λ c. c.band_passes-n.auto.1.1.1.1.1.1.0)
-    (λ c. c.band_passes-n.auto.1.1.1.1.1.1.1.0)
-    (λ c. c.band_passes-n.auto.1.1.1.1.1.1.1.1.0)
-    (λ c. c.band_passes-n.auto.1.1.1.1.1.1.1.1.1.0)
+    (λ c. c.band_passes-n.auto.y)
+    (λ c. c.band_passes-n.auto.u)
+    (λ c. c.band_passes-n.auto.v)
+    (λ c. c.band_passes-n.auto.words)
     returns)
