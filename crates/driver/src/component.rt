@@ -12,7 +12,7 @@ ghost use Rattle.driver.specs.Blocks.{around_block, Stands, LentTo, Copied, laid
 use def::{Component, Pel};
 
 // A leaf in one component of a picture of w by h, by its place and side in luma.
-#[derive(Drop)]
+#[derive(Clone, Copy)]
 pub(crate) struct Block {
     pub(crate) component: Component,
     pub(crate) w: usize,

@@ -19,14 +19,14 @@ use split::Walked;
 use unit_maps::tell_units;
 
 // A root's place, in luma samples.
-#[derive(Drop)]
+#[derive(Clone, Copy)]
 pub(crate) struct Root {
     pub(crate) x: Pel,
     pub(crate) y: Pel,
 }
 
 // A leaf: its place and its side, in luma samples.
-#[derive(Drop)]
+#[derive(Clone, Copy)]
 pub(crate) struct Leaf {
     pub(crate) x: Pel,
     pub(crate) y: Pel,

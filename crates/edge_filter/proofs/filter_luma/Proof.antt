@@ -31,7 +31,7 @@ loop_again : tie.Need-loop-i-preserved invariant-loop decreases-loop
 loop_again c =
     let t = c.turn_luma-i in
     let l = c.loop-i.invariant in
-    (t.ensures.within, t.auto.1.1.0 ∙ l.1, t.ensures.done _ l.2)
+    (t.ensures.within, t.auto.y ∙ l.1, t.ensures.done _ l.2)
 
 returns : tie.Need-returns invariant-loop decreases-loop
 returns c =

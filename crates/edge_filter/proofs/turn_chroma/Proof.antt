@@ -91,7 +91,7 @@ marked c = let s = start (first (tried c.before.before.before)) in omega (arith,
 -- both planes are as they were
 edge_chroma_requires : tie.Need-edge_chroma-requires
 edge_chroma_requires c κs =
-    let t = (tried c.before.before.before.before).two-chroma.ensures in
+    let t = (tried c.before.before.before.before).two_chroma.ensures in
     ap length (pair_left c.if-two_chroma.false t.0) ∙ (start (first (tried c.before.before.before.before))).requires.3 ∙ sym (ap length (pair_left c.if-two_chroma.false t.1))
 
 add_result_3 : tie.Need-overflow_add-result-2
@@ -107,8 +107,8 @@ returns-3 c =
     let q₀ = own_loud own in
     let u₀ = own.before.before.strength_at in
     let v₀ = own.before.strength_at2 in
-    let p = (tried c.before.before.before.before.before.before.before.before.before).before.before.before.before.before.before.before.chroma-place in
-    let two = (tried c.before.before.before.before.before.before.before.before.before).two-chroma.ensures in
+    let p = (tried c.before.before.before.before.before.before.before.before.before).chroma_place-p in
+    let two = (tried c.before.before.before.before.before.before.before.before.before).two_chroma.ensures in
     let t = c.edge_chroma.ensures in (
       turn_edge (quiet_chroma a.entries.now a.places.now) _ 208 Chroma (pass_of a.pass) _ _ _ _ a.n a.i _ _ a.u.now _ s.pre.1
           q₀ u₀.ensures p.ensures (t.0 ∙ ap (edge_of Chroma _ u₀.result p.result) (pair_left c.if-two_chroma.false two.0)),

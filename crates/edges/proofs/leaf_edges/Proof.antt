@@ -15,7 +15,7 @@ put_stretch_requires c κs =
     let e = whole_root a.halved a.side c.if-halved-side.true in
     let n = c.near_edge-k in (
       half_starts _ _ _ c.requires.0 c.requires.1 e,
-      half_room a.horizontal a.cross.0 a.along.0 a.at _ _ a.side e n.ensures.count (omega (arith, c.requires.3, n.auto.1.1.1.1.0)),
+      half_room a.horizontal a.cross.0 a.along.0 a.at _ _ a.side e n.ensures.count (omega (arith, c.requires.3, n.auto.out)),
     )
 
 returns : tie.Need-returns-then-halved-side

@@ -36,7 +36,7 @@ loop_again c =
     let l = c.loop-j in
     let e = c.leaf_edges-k in (
       omega arith,
-      e.auto.1.1.1.1.1.0 ∙ l.invariant.1,
+      e.auto.out ∙ l.invariant.1,
       l.invariant.2,
       one_written c.requires.0 l.invariant.3
           c.loop-j-test.true

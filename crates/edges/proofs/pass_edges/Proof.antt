@@ -37,7 +37,7 @@ loop_again : tie.Need-loop-i-preserved invariant-loop decreases-loop
 loop_again c =
     let l = c.loop-i in
     let e = c.root_edges-k in
-    (omega arith, e.auto.1.1.1.1.1.1.0 ∙ l.invariant.1, one_rooted l.invariant.2 _ _ e.ensures)
+    (omega arith, e.auto.out ∙ l.invariant.1, one_rooted l.invariant.2 _ _ e.ensures)
 
 returns : tie.Need-returns invariant-loop decreases-loop
 returns c =

@@ -23,7 +23,7 @@ loop_again c =
     let v = l.invariant in
     let e = c.put_edge in (
       omega arith,
-      e.auto.1.1.1.0 ∙ v.1,
+      e.auto.out ∙ v.1,
       v.2,
       v.3,
       e.ensures ∙ stretch_next a.horizontal a.cross.0 a.along.0 a.out.now l.out a.at l.j v.2.down v.4,

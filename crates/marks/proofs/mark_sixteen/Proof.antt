@@ -51,7 +51,7 @@ own_mark_requires_2 c κs =
     let q = c.part_of-place.ensures in
     let m = c.own_mark-own in
     let k = open_count c.args.bytes.now p.0 m.ensures in
-    let r = m.auto.1.1.1.1.1.1.0 in
+    let r = m.auto.out in
     let b = part_block z _ _ _ l q.0 q.1 in
     let f = few_parts c.args.bytes.now p.0 c.loop-part.part in
     (b, omega arith, p.1, room_one (halved b (omega arith)) _ _ (next_room _ _ _ _ _ _ l f v.2.count (omega (arith, v.1, r, k, z.room, p.2))))
@@ -70,7 +70,7 @@ loop_again c =
     let m = c.own_mark-eight in
     let b = part_block (halved c.requires.0 (omega arith)) _ _ _ l q.0 q.1 in (
       within _ l,
-      m.auto.1.1.1.1.1.1.0 ∙ v.1,
+      m.auto.out ∙ v.1,
       part_more c.args.bytes.now c.requires.0 (omega arith) _ v.2 q.0 q.1 (open_eight c.args.bytes.now b m.ensures refl),
     )
 

@@ -52,7 +52,7 @@ mark_thirty_two_requires c κs =
     let q = c.part_of-place.ensures in
     let m = c.own_mark-own in
     let k = open_count c.args.bytes.now p.0 m.ensures in
-    let r = m.auto.1.1.1.1.1.1.0 in
+    let r = m.auto.out in
     (part_block z _ _ _ l q.0 q.1, p.1, next_room _ _ _ _ _ _ l (few_parts c.args.bytes.now p.0 _) v.2.count (omega (arith, v.1, r, k, z.room, p.2)))
 
 add_part : tie.Need-overflow_add-part invariant-loop decreases-loop

@@ -78,7 +78,7 @@ loop_again c =
     let v = c.loop-i.invariant in
     let l = c.loop-i in
     let m = c.mend_root-count in
-    let k = m.auto.1.1.1.1.0 in (
+    let k = m.auto.out in (
       omega (arith, c.loop-i-test.true),
       same_len_mid (1024 * l.i) (1024 * l.i + 1024 - 1024 * l.i) l.out m.new.1.1.1.1.0 k ∙ v.1,
       listed_long m.ensures.1 ∙ v.2,

@@ -10,7 +10,7 @@ use Rattle.sheet_out.proofs.print.Tie as tie
 fits : tie.Need-slice_bounds-write_all-end
 fits c =
     let l = c.listing in
-    text_fits _ _ _ _ _ l.auto.1.0 l.ensures c.in-Done.is
+    text_fits _ _ _ _ _ l.auto.out l.ensures c.in-Done.is
 
 returns : tie.Need-returns-in-Done
 returns c = ap (λ (o : Outcome). o.out) c.listing.ensures

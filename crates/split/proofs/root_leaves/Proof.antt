@@ -12,7 +12,7 @@ copy_requires : tie.Need-copy-requires
 copy_requires c κs =
     let m = c.met_leaves in
     let r = met_room _ m.ensures c.in-Done.is in
-    (omega (arith, r.0, m.auto.1.1.1.1.1.0), omega (arith, r.0, r.1))
+    (omega (arith, r.0, m.auto.list), omega (arith, r.0, r.1))
 
 returns : tie.Need-returns-in-Refused
 returns c = leaves_refused _ _ _ _ c.met_leaves.ensures c.in-Refused.is

@@ -44,7 +44,7 @@ loop_again c =
     let v = c.loop-i.invariant in
     let r = c.walk_root in (
       omega arith,
-      r.auto.1.1.1.1.0 ∙ v.1,
+      r.auto.out ∙ v.1,
       turn_done _ _ v.2 (stored_done r.ensures _ c.in_default.is).0,
     )
 

@@ -18,7 +18,7 @@ put_line_requires : tie.Need-put_line-luma-requires
 put_line_requires c κs = omega (arith, (found c.before).out_long)
 
 put_plane_requires : tie.Need-put_plane-first-requires
-put_plane_requires c κs = let l = c.put_line-luma in omega (arith, (found c.before.before.before.before.before).out_long, l.ensures.count, l.auto.0)
+put_plane_requires c κs = let l = c.put_line-luma in omega (arith, (found c.before.before.before.before.before).out_long, l.ensures.count, l.auto.out)
 
 put_plane_requires_2 : tie.Need-put_plane-second-requires
 put_plane_requires_2 c κs =
@@ -28,9 +28,9 @@ put_plane_requires_2 c κs =
       arith,
       (found c.before.before.before.before.before.before.before.before.before).out_long,
       l.ensures.count,
-      l.auto.0,
+      l.auto.out,
       y.ensures.count,
-      y.auto.0,
+      y.auto.out,
       bytes_long
           c.args.y.now,
     )
@@ -45,11 +45,11 @@ put_plane_requires_3 c κs =
       arith,
       (found c.before.before.before.before.before.before.before.before.before.before.before.before.before).out_long,
       l.ensures.count,
-      l.auto.0,
+      l.auto.out,
       y.ensures.count,
-      y.auto.0,
+      y.auto.out,
       u.ensures.count,
-      u.auto.0,
+      u.auto.out,
       bytes_long a.y.now,
       bytes_long a.u.now,
     )

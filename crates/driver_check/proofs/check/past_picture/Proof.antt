@@ -75,7 +75,7 @@ add_i : tie.Need-overflow_step-i invariant-loop decreases-loop
 add_i c = let turn = turn_at_lem c.before.before.before in omega (arith, few turn.before.before, turn.loop_test.taken)
 
 loop_less : tie.Need-loop-i-smaller invariant-loop decreases-loop
-loop_less c = omega (arith, (turn_at_lem c.before.before.before).loop-test.taken)
+loop_less c = omega (arith, (turn_at_lem c.before.before.before).loop-i-test.true)
 
 -- the walk was accepted, so no root is refused
 returns : tie.Need-returns-in_default invariant-loop decreases-loop

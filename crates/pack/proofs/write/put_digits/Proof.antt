@@ -84,10 +84,10 @@ loop_again c =
     let v = c.loop-i.invariant in
     let m = c.put_root-n in (
       omega (arith, c.loop-i-test.true),
-      m.auto.1.1.1.1.1.0 ∙ v.1,
+      m.auto.buf ∙ v.1,
       used_next c.before.before.before,
       put_next _ _ _ _ (inside_units c.before.before.before.before.before.before) _ _ _ _ _ _ v.2 m.ensures.0 v.3 m.ensures.1,
-      m.auto.1.1.1.1.0 ∙ v.4,
+      m.auto.list ∙ v.4,
     )
 
 returns : tie.Need-returns invariant-loop decreases-loop

@@ -41,7 +41,7 @@ pub +put-decimal-spec : {M : Type 1} → statement M
     (λ c. search rules)
     (λ c. search rules)
     (λ c. let d = c.put_decimal-next in let c = c.before.before.before.before.before.before in
-    omega (arith, d.ensures.count, d.auto.0, c.requires.1.1, decimal_three (c.args.n / 10) (omega (arith, c.requires.1.0))))
+    omega (arith, d.ensures.count, d.auto.out, c.requires.1.1, decimal_three (c.args.n / 10) (omega (arith, c.requires.1.0))))
     (λ c. let d = c.put_decimal-next in let c = c.before.before.before.before.before.before in
     omega (arith, d.ensures.count, c.requires.1.1, decimal_three (c.args.n / 10) (omega (arith, c.requires.1.0))))
     (λ c. simp length-set c.put_decimal-next.auto.out)

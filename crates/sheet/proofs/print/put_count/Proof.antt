@@ -13,7 +13,7 @@ room : (c : tie.After-slice_known-3-1) → c.put_decimal-end.result + 1 ≤ leng
 room c =
     let d = c.put_decimal-end in
     let b = c.put_bytes-digits in
-    omega (arith, d.ensures.count, d.auto.0, b.ensures.count, b.auto.0, decimal_four c.args.n c.requires.0, c.requires.1, c.requires.2)
+    omega (arith, d.ensures.count, d.auto.out, b.ensures.count, b.auto.out, decimal_four c.args.n c.requires.0, c.requires.1, c.requires.2)
 
 add_result : tie.Need-overflow_add-result
 add_result c = omega (arith, room c)

@@ -34,7 +34,7 @@ loop_again c =
     let l = c.loop-i in
     let p = c.put_place-next in (
       omega arith,
-      p.auto.0 ∙ l.invariant.1,
+      p.auto.out ∙ l.invariant.1,
       omega (arith, p.ensures.1, l.invariant.2),
       places_more c.args.letter c.args.numbers.now l.i _ _ c.wide-x.ensures
           c.wide-y.ensures l.invariant.3 p.ensures.0,

@@ -19,7 +19,7 @@ first c =
     let d = c.put_decimal-next in
     let b = c.put_bytes-digits in
     let n = c.refusal_number-number.result in
-    let e : length d.new.0 ≡ length c.args.out.now = d.auto.0 ∙ b.auto.0 in
+    let e : length d.new.0 ≡ length c.args.out.now = d.auto.out ∙ b.auto.out in
     record { same = e; room = omega (arith, d.ensures.count, b.ensures.count, decimal_four n (omega arith), c.requires.1) }
 
 second : (c : tie.After-put_line-end) → Room (c.put_line-end.result + 1) (length c.put_line-end.new.0)

@@ -24,7 +24,7 @@ unfolding put_all run
 loop_holds c =
     let p = c.requires.0 in
     let m = c.clear in
-    (zero-le, m.auto.0 ∙ p, m.ensures ∙ ap (λ (n : ℕ). replicate n 0) p)
+    (zero-le, m.auto.map ∙ p, m.ensures ∙ ap (λ (n : ℕ). replicate n 0) p)
 
 in_list : (c : tie.In-loop-j invariant-loop decreases-loop) → c.loop-j.j < length c.args.list.now
 in_list c = omega (arith, c.loop-j-test.true, c.requires.1)

@@ -42,7 +42,7 @@ pub +put-number-spec : {M : Type 1} → statement M
     (λ c. search rules)
     (λ c. search rules)
     (λ c. let d = c.put_number-next in let c = c.before.before.before.before.before.before in
-    omega (arith, d.ensures.0.count, d.auto.0, c.requires.1.1, number_four (c.args.n / 10) (omega (arith, c.requires.1.0))))
+    omega (arith, d.ensures.0.count, d.auto.out, c.requires.1.1, number_four (c.args.n / 10) (omega (arith, c.requires.1.0))))
     (λ c. let d = c.put_number-next in let c = c.before.before.before.before.before.before in
     omega (arith, d.ensures.0.count, c.requires.1.1, number_four (c.args.n / 10) (omega (arith, c.requires.1.0))))
     (λ c. simp length-set c.put_number-next.auto.out)
