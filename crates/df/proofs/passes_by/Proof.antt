@@ -77,9 +77,7 @@ passes_by_spec =
     (λ c κs. tt)
     (λ c κs. tt)
     (λ c. c.deblock_pass-n.auto.y ∙ c.deblock_pass-m.auto.y)
-    (λ c. let c = c.before.before.before.before.before.before.before.before.before.before.before in
-    c.deblock_pass-n.auto.u ∙ c.deblock_pass-m.auto.u)
-    (λ c. let c = c.before.before.before.before.before.before.before.before.before.before.before in
-    c.deblock_pass-n.auto.v ∙ c.deblock_pass-m.auto.v)
+    (λ c. c.deblock_pass-n.auto.u ∙ c.deblock_pass-m.auto.u)
+    (λ c. c.deblock_pass-n.auto.v ∙ c.deblock_pass-m.auto.v)
     (λ c. search)
     returns)

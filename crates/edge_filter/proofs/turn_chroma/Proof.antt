@@ -66,8 +66,8 @@ returns-2 c =
     let own = first c.before.before.before.before.before in
     let a = (start own).args in
     let q₀ = own_loud own in
-    let u₀ = own.before.before.strength_at.ensures in
-    let v₀ = own.before.strength_at2.ensures in
+    let u₀ = own.strength_at-u0.ensures in
+    let v₀ = own.strength_at-v0.ensures in
     let p = c.chroma_place-p.ensures in
     let r = c.after-j in
     let u₁ = c.strength_at-u1 in
@@ -86,7 +86,7 @@ abbrev tried : tie.Else-two_chroma → tie.After-two_chroma
 tried c = c.before.before.before.before.before
 
 marked : tie.Need-bounds-marks-i
-marked c = let s = start (first (tried c.before.before.before)) in omega (arith, s.pre.1, s.pre.2)
+marked c = let s = start (first (tried c.before.before.before)) in omega (arith, s.requires.1, s.requires.2)
 
 -- both planes are as they were
 edge_chroma_requires : tie.Need-edge_chroma-requires
@@ -97,7 +97,7 @@ edge_chroma_requires c κs =
 add_result_3 : tie.Need-overflow_add-result-2
 add_result_3 c =
     let s = start (first (tried c.before.before.before.before.before.before.before.before.before)) in
-    omega (arith, s.pre.1, s.pre.2)
+    omega (arith, s.requires.1, s.requires.2)
 
 returns-3 : tie.Need-returns
 returns-3 c =
@@ -105,14 +105,14 @@ returns-3 c =
     let s = start own in
     let a = s.args in
     let q₀ = own_loud own in
-    let u₀ = own.before.before.strength_at in
-    let v₀ = own.before.strength_at2 in
+    let u₀ = own.strength_at-u0 in
+    let v₀ = own.strength_at-v0 in
     let p = (tried c.before.before.before.before.before.before.before.before.before).chroma_place-p in
     let two = (tried c.before.before.before.before.before.before.before.before.before).two_chroma.ensures in
     let t = c.edge_chroma.ensures in (
-      turn_edge (quiet_chroma a.entries.now a.places.now) _ 208 Chroma (pass_of a.pass) _ _ _ _ a.n a.i _ _ a.u.now _ s.pre.1
+      turn_edge (quiet_chroma a.entries.now a.places.now) _ 208 Chroma (pass_of a.pass) _ _ _ _ a.n a.i _ _ a.u.now _ s.requires.1
           q₀ u₀.ensures p.ensures (t.0 ∙ ap (edge_of Chroma _ u₀.result p.result) (pair_left c.if-two_chroma.false two.0)),
-      turn_edge (quiet_chroma a.entries.now a.places.now) _ 416 Chroma (pass_of a.pass) _ _ _ _ a.n a.i _ _ a.v.now _ s.pre.1
+      turn_edge (quiet_chroma a.entries.now a.places.now) _ 416 Chroma (pass_of a.pass) _ _ _ _ a.n a.i _ _ a.v.now _ s.requires.1
           q₀ v₀.ensures p.ensures (t.1 ∙ ap (edge_of Chroma _ v₀.result p.result) (pair_left c.if-two_chroma.false two.1)),
     )
 

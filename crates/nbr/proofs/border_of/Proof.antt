@@ -8,11 +8,11 @@ use Rattle.nbr.proofs.border_of.Tie as tie
 returns : tie.Need-returns
 returns c =
     record {
-      c = c.left_arm-left.ensures;
-      c = c.corner_arm-corner.ensures;
-      c = c.up_arm-up.ensures;
+      left = c.left_arm-left.ensures;
+      corner = c.corner_arm-corner.ensures;
+      up = c.up_arm-up.ensures;
       units = refl;
-      c = c.in_component-n.ensures ∙ unit_scaled c.args.block.component;
+      n = c.in_component-n.ensures ∙ unit_scaled c.args.block.component;
     }
 
 pub border_of_spec : {M : Type 1} → statement M

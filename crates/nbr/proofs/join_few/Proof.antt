@@ -19,10 +19,10 @@ two : (c : tie.Else-n-eq4) → c.args.border.n ≡ 2
 two c = c.requires.0.sizes c.if-n-eq4.false
 
 join_near_requires_2 : tie.Need-join_near-requires
-join_near_requires_2 c κs = asked c.before.before.before 4 c.if-n-eq4.true c.args.border.left c.requires.0.left_in
+join_near_requires_2 c κs = asked c.before.before.before.before.before 4 c.if-n-eq4.true c.args.border.left c.requires.0.left_in
 
 join_near_requires_3 : tie.Need-join_near-requires-then-n-eq4
-join_near_requires_3 c κs = asked c 4 c.if-n-eq4.true c.args.border.up c.requires.0.up_in
+join_near_requires_3 c κs = asked c.before.before.before.before.before.before.before 4 c.if-n-eq4.true c.args.border.up c.requires.0.up_in
 
 returns : tie.Need-returns-then-n-eq4
 returns c =
@@ -32,10 +32,10 @@ returns c =
     few_pass _ _ left.result corner.result up.result 4 c.requires.1 c.if-n-eq4.true left.ensures corner.ensures up.ensures
 
 join_near_requires_4 : tie.Need-join_near-requires-2
-join_near_requires_4 c κs = asked c.before.before.before 2 (two c.before) c.args.border.left c.requires.0.left_in
+join_near_requires_4 c κs = asked c.before.before.before.before.before 2 (two c.before) c.args.border.left c.requires.0.left_in
 
 join_near_requires_5 : tie.Need-join_near-requires-3
-join_near_requires_5 c κs = asked c.before.before.before.before 2 (two c.before.before.before) c.args.border.up c.requires.0.up_in
+join_near_requires_5 c κs = asked c.before.before.before.before.before.before.before 2 (two c.before.before.before) c.args.border.up c.requires.0.up_in
 
 returns-2 : tie.Need-returns
 returns-2 c =

@@ -32,7 +32,7 @@ two c = (of_two c).requires.0.sizes c.if-n-eq4.false
 put_units_requires : tie.Need-put_units-requires
 put_units_requires c κs =
     let s = of_four c.before.before in
-    (read s 4 c.if-n-eq4.true _ s.pre.0.left_within, omega (arith, long s 4 c.if-n-eq4.true))
+    (read s 4 c.if-n-eq4.true _ s.requires.0.left_within, omega (arith, long s 4 c.if-n-eq4.true))
 
 put_units_requires_2 : tie.Need-put_units-requires-then-n-eq4
 put_units_requires_2 c κs =
@@ -44,7 +44,7 @@ put_units_requires_3 c κs =
     let s = of_four c.before.before.before.before.before.before.before.before.before.before.before.before in
     let left = c.put_units.auto.run in
     let corner = c.put_units-then-n-eq4.auto.run in
-    (read s 4 c.if-n-eq4.true _ s.pre.0.up_within, omega (arith, long s 4 c.if-n-eq4.true, left, corner))
+    (read s 4 c.if-n-eq4.true _ s.requires.0.up_within, omega (arith, long s 4 c.if-n-eq4.true, left, corner))
 
 returns : tie.Need-returns-then-n-eq4
 returns c =
@@ -55,7 +55,7 @@ returns c =
 put_units_requires_4 : tie.Need-put_units-requires-2
 put_units_requires_4 c κs =
     let s = of_two c.before.before in
-    (read s 2 (two c.before.before) _ s.pre.0.left_within, omega (arith, long s 2 (two c.before.before)))
+    (read s 2 (two c.before.before) _ s.requires.0.left_within, omega (arith, long s 2 (two c.before.before)))
 
 put_units_requires_5 : tie.Need-put_units-requires-3
 put_units_requires_5 c κs =
@@ -67,7 +67,7 @@ put_units_requires_6 c κs =
     let s = of_two c.before.before.before.before.before.before.before.before.before.before.before.before in
     let left = c.put_units-2.auto.run in
     let corner = c.put_units-3.auto.run in
-    (read s 2 (two c.before.before.before.before.before.before.before.before.before.before.before.before) _ s.pre.0.up_within, omega (arith, long s 2 (two c.before.before.before.before.before.before.before.before.before.before.before.before), left, corner))
+    (read s 2 (two c.before.before.before.before.before.before.before.before.before.before.before.before) _ s.requires.0.up_within, omega (arith, long s 2 (two c.before.before.before.before.before.before.before.before.before.before.before.before), left, corner))
 
 returns-2 : tie.Need-returns
 returns-2 c =

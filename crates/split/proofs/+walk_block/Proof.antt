@@ -111,14 +111,11 @@ pub +walk-block-spec : {M : Type 1} → statement M
     (λ c κs. let p = c.requires.1 in (p.0, room_one p.0 _ _ p.3))
     (λ c. c.put_leaf.auto.out)
     (λ c.
-    let c = c.before in
     let i = inside t c in
     let p = c.requires.1 in
     stored_as (at_leaf _ p.0 i.0 i.1 (has_byte p.1) _ c.get_split_mode-byte.ensures c.if-byte-eq0.true) c.put_leaf.ensures)
     -- 1: the loop over the four parts
     (λ c.
-    let c = c.before.before in
-    let c = c.before in
     let i = inside t c in
     let p = c.requires.1 in
     (zero-le, refl, cut _ p.0 i.0 i.1 (has_byte p.1) _ c.get_split_mode-byte.ensures (only_one _ c.if-byte-gt1.false c.if-byte-eq0.false), no_part _ _ _ _ _ _ _ _))
@@ -131,9 +128,7 @@ pub +walk-block-spec : {M : Type 1} → statement M
     -- and as a block that is walked: half the side
     (λ c. record { fits = deeper _ (has_byte c.requires.1.1) })
     (λ c κs.
-    let c = c.before.before in
     let q = part_asks t c in
-    let c = c.before.before.before.before.before.before.before.before.before.before.before in
     let p = c.requires in
     (subst (λ (m : ℕ). c.args.side / 2 < m) p.0 c.loop-part.invariant.2.less, (q.0, not_eight _ p.1.1 c.if-level-eq2.false, p.1.2, q.1)))
     (λ c. search rules)
@@ -141,7 +136,6 @@ pub +walk-block-spec : {M : Type 1} → statement M
     -- a part that is refused ends the walk
     (λ c. (part_walked t c).0 ∙ c.loop-part.invariant.1)
     (λ c.
-    let c = c.before.before.before in
     let v = c.loop-part.invariant in
     part_refused v.2 v.3 _ _ c.part_at-place.ensures.0 c.part_at-place.ensures.1 _ _ (part_walked t c).1 _
     c.loop-part-test.true c.in-Refused.is)
@@ -149,7 +143,6 @@ pub +walk-block-spec : {M : Type 1} → statement M
     (λ c. record { fits = counted _ c.loop-part-test.true })
     (λ c. fewer _ c.loop-part-test.true)
     (λ c.
-    let c = c.before.before.before in
     let v = c.loop-part.invariant in (
       within _ c.loop-part-test.true,
       (part_walked t c).0 ∙ v.1,

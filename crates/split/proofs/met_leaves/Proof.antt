@@ -58,7 +58,7 @@ returns-4 c =
     met_walked _ _ _ _ _ _ _ _ _ c.requires
     (goes_on _ _ _ _ _ c.size_ok.ensures c.if-not-size_ok.false-raw
     (goes_on _ _ _ _ _ c.leaves_lengths_ok.ensures c.if-not-leaves_lengths_ok.false-raw
-    (past_refusal _ _ _ _ (root_fits (size_told c.before.before.before.before.before.before.before.before) c.args.i ∙ lt-ltb _ _ (in_picture c)) refl)))
+    (past_refusal _ _ _ _ (root_fits (size_told c.before.before.before.before.before.before.before.before) c.args.i ∙ lt-ltb _ _ (in_picture c.before.before.before.before)) refl)))
     (stored_as (ap (root_walk c.args.splits.now (c.args.w / 4) (c.args.h / 4)) back) c.walk_root.ensures)
 
 pub met_leaves_spec : {M : Type 1} → statement M

@@ -13,20 +13,20 @@ module _ (c : tie.After-roots_along-across) where
   s = c.before.before.before
 
   column : 64 * (s.args.i % c.roots_along-across.result) < s.args.w
-  column = subst (λ (m : ℕ). 64 * (s.args.i % m) < s.args.w) (sym c.roots_along-across.ensures) (root_column s.pre.0 s.args.i s.pre.2)
+  column = subst (λ (m : ℕ). 64 * (s.args.i % m) < s.args.w) (sym c.roots_along-across.ensures) (root_column s.requires.0 s.args.i s.requires.2)
 
   row : 64 * (s.args.i / c.roots_along-across.result) < s.args.h
-  row = subst (λ (m : ℕ). 64 * (s.args.i / m) < s.args.h) (sym c.roots_along-across.ensures) (root_row s.pre.0 s.args.i s.pre.2)
+  row = subst (λ (m : ℕ). 64 * (s.args.i / m) < s.args.h) (sym c.roots_along-across.ensures) (root_row s.requires.0 s.args.i s.requires.2)
 
 walk_block_requires : tie.Need-walk_block-requires
 walk_block_requires c κs =
-    let p = (s c).requires in
+    let p = (s c.before.before).requires in
     (rw c.roots_along-across.ensures (root_block p.0 _ p.2), omega arith, bytes_long p.0 _ _ p.2 p.1, omega (arith, p.3))
 
 returns : tie.Need-returns
 returns c =
-    let a = s c in
-    stored_as (sym (root_same a.pre.0 a.args.splits.now a.args.i _ c.roots_along-across.ensures)) c.walk_block.ensures
+    let a = s c.before.before.before.before.before in
+    stored_as (sym (root_same a.requires.0 a.args.splits.now a.args.i _ c.roots_along-across.ensures)) c.walk_block.ensures
 
 pub walk_root_spec : {M : Type 1} → statement M
 walk_root_spec =

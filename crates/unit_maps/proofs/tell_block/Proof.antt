@@ -38,15 +38,15 @@ module _ (c : tie.Then-n-eq1 invariant-loop decreases-loop) where
 tell_row_requires : tie.Need-tell_row-requires invariant-loop decreases-loop
 tell_row_requires c κs =
     let p = (one_start c.before.before.before).requires in (
-      omega (arith, one_words c, one_right c),
-      omega (arith, one_in c _ p.in_modes, one_right c),
-      omega (arith, one_in c _ p.in_keep, one_right c),
+      omega (arith, one_words c.before.before.before, one_right c.before.before.before),
+      omega (arith, one_in c.before.before.before _ p.in_modes, one_right c.before.before.before),
+      omega (arith, one_in c.before.before.before _ p.in_keep, one_right c.before.before.before),
     )
 
 returns : tie.Need-returns-then-n-eq1 invariant-loop decreases-loop
 returns c =
     let right = (one_start c.before.before.before.before.before.before.before.before.before.before).requires.right in
-    let some : 0 < (one_start c.before.before.before.before.before.before.before.before.before.before).args.columns = omega (arith, one_right c) in
+    let some : 0 < (one_start c.before.before.before.before.before.before.before.before.before.before).args.columns = omega (arith, one_right c.before.before.before.before.before.before.before.before.before.before) in
     let e = c.tell_row.ensures in
     λ i. maps_of (one_told _ _ _ _ _ _ _ c.if-n-eq1.true right some e.0 i) (one_told _ _ _ _ _ _ _ c.if-n-eq1.true right some e.1 i)
     (one_told _ _ _ _ _ _ _ c.if-n-eq1.true right some e.2 i)
@@ -71,9 +71,9 @@ tell_row_requires_2 : tie.Need-tell_row-requires-in-loop-r invariant-loop decrea
 tell_row_requires_2 c κs =
     let l = c.loop-r.invariant in
     let p = (start c.before.before.before).requires in (
-      omega (arith, row_words c, l.1.long, p.right, c.loop-r-test.true),
-      omega (arith, row_in_lem c _ p.in_modes, l.2.long, p.right, c.loop-r-test.true),
-      omega (arith, row_in_lem c _ p.in_keep, l.3.long, p.right, c.loop-r-test.true),
+      omega (arith, row_words c.before.before.before, l.1.long, p.right, c.loop-r-test.true),
+      omega (arith, row_in_lem c.before.before.before _ p.in_modes, l.2.long, p.right, c.loop-r-test.true),
+      omega (arith, row_in_lem c.before.before.before _ p.in_keep, l.3.long, p.right, c.loop-r-test.true),
     )
 
 loop_again : tie.Need-loop-r-preserved invariant-loop decreases-loop

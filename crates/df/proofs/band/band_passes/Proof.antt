@@ -110,7 +110,7 @@ returns c =
     let n = a.skip * (a.w / 4) in
     let k = c.in_format-chroma in
     let b = c.passes_by in
-    let r = s.pre.1 in (
+    let r = s.requires.1 in (
       take_put (16 * n) (length a.y.now - 16 * n) a.y.now b.new.1.1.1.1.1.0 r.0,
       front_at k.ensures a.u.now b.new.1.1.1.1.1.1.0 r.1,
       front_at k.ensures a.v.now b.new.1.1.1.1.1.1.1.0 r.2,
@@ -179,7 +179,7 @@ band_passes_spec =
     (λ c. before_end c.in_format-chroma.ensures c.requires.1.1)
     (λ c. before_end c.in_format-chroma.ensures c.requires.1.1)
     (λ c. le_refl _)
-    (λ c. let c = c.before.before.before.before.before.before.before.before.before in colour_2 (few c) c.args.format c.in_format-chroma.ensures)
+    (λ c. colour_2 (few c) c.args.format c.in_format-chroma.ensures)
     (λ c. before_end c.in_format-chroma.ensures c.requires.1.2)
     (λ c. before_end c.in_format-chroma.ensures c.requires.1.2)
     (λ c. le_refl _)
@@ -200,10 +200,7 @@ band_passes_spec =
     (λ c. refl)
     passes_by_requires
     (λ c. kept_long _ (start c).args.y.now c.passes_by.new.1.1.1.1.1.0 c.passes_by.auto.y)
-    (λ c. let c = c.before.before.before.before.before.before.before.before in
-    kept_long _ (start c).args.u.now c.passes_by.new.1.1.1.1.1.1.0 c.passes_by.auto.u)
-    (λ c. let c = c.before.before.before.before.before.before.before.before in
-    kept_long _ (start c).args.v.now c.passes_by.new.1.1.1.1.1.1.1.0 c.passes_by.auto.v)
-    (λ c. let c = c.before.before.before.before.before.before.before.before in
-    kept_long _ (start c).args.words.now c.passes_by.new.1.1.1.1.1.1.1.1.0 c.passes_by.auto.words)
+    (λ c. kept_long _ (start c).args.u.now c.passes_by.new.1.1.1.1.1.1.0 c.passes_by.auto.u)
+    (λ c. kept_long _ (start c).args.v.now c.passes_by.new.1.1.1.1.1.1.1.0 c.passes_by.auto.v)
+    (λ c. kept_long _ (start c).args.words.now c.passes_by.new.1.1.1.1.1.1.1.1.0 c.passes_by.auto.words)
     returns)

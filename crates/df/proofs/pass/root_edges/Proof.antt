@@ -15,13 +15,13 @@ module _ (c : tie.After-roots_along-across) where
   s = c.before.before.before
 
   size : Sized s.args.w s.args.h
-  size = sized _ _ s.pre.0.size
+  size = sized _ _ s.requires.0.size
 
   column : 64 * (s.args.i % c.roots_along-across.result) < s.args.w
-  column = subst (λ (m : ℕ). 64 * (s.args.i % m) < s.args.w) (sym c.roots_along-across.ensures) (root_column size s.args.i s.pre.1)
+  column = subst (λ (m : ℕ). 64 * (s.args.i % m) < s.args.w) (sym c.roots_along-across.ensures) (root_column size s.args.i s.requires.1)
 
   row : 64 * (s.args.i / c.roots_along-across.result) < s.args.h
-  row = subst (λ (m : ℕ). 64 * (s.args.i / m) < s.args.h) (sym c.roots_along-across.ensures) (root_row size s.args.i s.pre.1)
+  row = subst (λ (m : ℕ). 64 * (s.args.i / m) < s.args.h) (sym c.roots_along-across.ensures) (root_row size s.args.i s.requires.1)
 
 returns : tie.Need-returns-in-Done
 returns c =

@@ -24,7 +24,7 @@ module _ (c : tie.After-roots_along-2) where
   same = ap₂ ◌*◌ c.roots_along.ensures c.roots_along-2.ensures
 
   few : c.roots_along.result * c.roots_along-2.result ≤ 4096
-  few = omega (arith, same, few_roots s.args.w s.args.own s.pre.1.wide s.pre.1.high)
+  few = omega (arith, same, few_roots s.args.w s.args.own s.requires.1.wide s.requires.1.high)
 
 mul_roots : tie.Need-overflow_mul-roots
 mul_roots c = omega (arith, few c)
@@ -36,15 +36,15 @@ mul_result_2 : tie.Need-overflow_mul-result-2
 mul_result_2 c = omega (arith, few c.before.before.before.before)
 
 mul_result_3 : tie.Need-overflow_mul-result-3
-mul_result_3 c = omega (arith, few_units (s c.before.before.before.before.before).pre.0)
+mul_result_3 c = omega (arith, few_units (s c.before.before.before.before.before).requires.0)
 
 mul_result_4 : tie.Need-overflow_mul-result-4
-mul_result_4 c = omega (arith, few_units (s c.before.before.before.before.before.before).pre.0)
+mul_result_4 c = omega (arith, few_units (s c.before.before.before.before.before.before).requires.0)
 
 returns : tie.Need-returns
 unfolding lengths_ok
 returns c =
-    rw (c.in_format-chroma.ensures, c.in_format-table.ensures, same c) refl
+    rw (c.in_format-chroma.ensures, c.in_format-table.ensures, same c.before.before.before.before.before.before.before.before.before.before.before) refl
 
 pub lengths_ok_spec : {M : Type 1} → statement M
 lengths_ok_spec =

@@ -51,20 +51,20 @@ early c = rw (counted c.before.before) at c.loop-i-test.true
 past_leaves_requires : tie.Need-past_leaves-place-requires invariant-loop decreases-loop
 past_leaves_requires c κs =
     let turn = turn_at_lem c in
-    let a = (start turn.before.before).pre in
-    let l = turn.before.loop in
+    let a = (start turn.before.before).requires in
+    let l = turn.loop-i in
     let r = listed (root_told _ _ _ a.size a.long a.walked l.i (early turn) _ _ _ l.inv.1 c.root_leaves.ensures _ c.in-Done.is) in
-    (sides r.blocks, omega (arith, l.inv.3, few turn.before.before, turn.loop_test.taken), l.inv.4)
+    (sides r.blocks, omega (arith, l.inv.3, few turn.before.before, turn.loop-i-test.true), l.inv.4)
 
 loop_again : tie.Need-loop-i-preserved invariant-loop decreases-loop
 loop_again c =
     let turn = turn_at_lem c in
     let s = start turn.before.before in
-    let l = turn.before.loop in
-    let a = s.pre in
+    let l = turn.loop-i in
+    let a = s.requires in
     let r = listed (root_told _ _ _ a.size a.long a.walked l.i (early turn) _ _ _ l.inv.1 c.root_leaves.ensures _ c.in-Done.is) in
     let p = c.past_leaves-place.ensures in (
-      omega (arith, turn.loop_test.taken),
+      omega (arith, turn.loop-i-test.true),
       r.blocks.long,
       past_listed s.args.leaves.now first (walked_to l.place.at l.place.k) (walked_to c.past_leaves-place.result.at c.past_leaves-place.result.k) r l.inv.2 p.0,
       omega (arith, p.1, r.blocks.few, l.inv.3),
@@ -72,7 +72,7 @@ loop_again c =
     )
 
 add_i : tie.Need-overflow_step-i invariant-loop decreases-loop
-add_i c = let turn = turn_at_lem c.before.before.before in omega (arith, few turn.before.before, turn.loop_test.taken)
+add_i c = let turn = turn_at_lem c.before.before.before in omega (arith, few turn.before.before, turn.loop-i-test.true)
 
 loop_less : tie.Need-loop-i-smaller invariant-loop decreases-loop
 loop_less c = omega (arith, (turn_at_lem c.before.before.before).loop-i-test.true)
@@ -80,7 +80,7 @@ loop_less c = omega (arith, (turn_at_lem c.before.before.before).loop-i-test.tru
 -- the walk was accepted, so no root is refused
 returns : tie.Need-returns-in_default invariant-loop decreases-loop
 returns c =
-    let a = (start c.before.before.before.before.before.before).pre in
+    let a = (start c.before.before.before.before.before.before).requires in
     let l = c.loop-i in
     absurd (root_met _ _ _ a.size a.long a.walked l.i (early c.before.before.before.before) _ _ _ l.invariant.1 c.root_leaves.ensures _ c.in_default.is)
 

@@ -40,10 +40,7 @@ pub +put-decimal-spec : {M : Type 1} → statement M
     (λ c κs. (omega (arith, c.requires.0), (omega (arith, c.requires.1.0), c.requires.1.1)))
     (λ c. search rules)
     (λ c. search rules)
-    (λ c. let d = c.put_decimal-next in let c = c.before.before.before.before.before.before in
-    omega (arith, d.ensures.count, d.auto.out, c.requires.1.1, decimal_three (c.args.n / 10) (omega (arith, c.requires.1.0))))
-    (λ c. let d = c.put_decimal-next in let c = c.before.before.before.before.before.before in
-    omega (arith, d.ensures.count, c.requires.1.1, decimal_three (c.args.n / 10) (omega (arith, c.requires.1.0))))
+    (λ c. let d = c.put_decimal-next in omega (arith, d.ensures.count, d.auto.out, c.requires.1.1, decimal_three (c.args.n / 10) (omega (arith, c.requires.1.0))))
+    (λ c. let d = c.put_decimal-next in omega (arith, d.ensures.count, c.requires.1.1, decimal_three (c.args.n / 10) (omega (arith, c.requires.1.0))))
     (λ c. simp length-set c.put_decimal-next.auto.out)
-    (λ c. let c = c.before.before.before.before.before.before in
-    put_as (decimal_more _ c.requires.1.0 (omega arith)) (put_then c.put_decimal-next.ensures (put_byte _ _ _)))
+    (λ c. put_as (decimal_more _ c.requires.1.0 (omega arith)) (put_then c.put_decimal-next.ensures (put_byte _ _ _)))

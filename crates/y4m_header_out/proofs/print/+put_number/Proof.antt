@@ -41,12 +41,10 @@ pub +put-number-spec : {M : Type 1} → statement M
     (λ c κs. (omega (arith, c.requires.0), (omega (arith, c.requires.1.0), c.requires.1.1)))
     (λ c. search rules)
     (λ c. search rules)
-    (λ c. let d = c.put_number-next in let c = c.before.before.before.before.before.before in
-    omega (arith, d.ensures.0.count, d.auto.out, c.requires.1.1, number_four (c.args.n / 10) (omega (arith, c.requires.1.0))))
-    (λ c. let d = c.put_number-next in let c = c.before.before.before.before.before.before in
-    omega (arith, d.ensures.0.count, c.requires.1.1, number_four (c.args.n / 10) (omega (arith, c.requires.1.0))))
+    (λ c. let d = c.put_number-next in omega (arith, d.ensures.0.count, d.auto.out, c.requires.1.1, number_four (c.args.n / 10) (omega (arith, c.requires.1.0))))
+    (λ c. let d = c.put_number-next in omega (arith, d.ensures.0.count, c.requires.1.1, number_four (c.args.n / 10) (omega (arith, c.requires.1.0))))
     (λ c. simp length-set c.put_number-next.auto.out)
-    (λ c. let c = c.before.before.before.before.before.before in let d = c.put_number-next in (
+    (λ c. let d = c.put_number-next in (
       put_as (number_more _ c.requires.1.0 (omega arith)) (put_then d.ensures.0 (put_byte _ _ _)),
       omega (arith, d.ensures.0.count, number_four (c.args.n / 10) (omega (arith, c.requires.1.0))),
     ))
