@@ -114,11 +114,10 @@ add_qp_in_2 : tie.Need-overflow_add-qp_in-in-loop-j invariant-loop decreases-loo
 add_qp_in_2 c = omega (arith, (next c.before.before.before).in_most)
 
 held_at_requires : tie.Need-held_at-v-requires invariant-loop decreases-loop
-held_at_requires c κs =
-    (
-      omega (arith, c.fill_between.auto.t, c.loop-j.invariant.filled.long, (next c.before.before.before).in_most),
-      next_entry _ _ c.requires.1 _ _ _ _ _ c.loop-j.invariant _ _ (point c.before.before.before) _ c.fill_between.ensures,
-    )
+held_at_requires c κs = (
+  omega (arith, c.fill_between.auto.t, c.loop-j.invariant.filled.long, (next c.before.before.before).in_most),
+  next_entry _ _ c.requires.1 _ _ _ _ _ c.loop-j.invariant _ _ (point c.before.before.before) _ c.fill_between.ensures,
+)
 
 loop_less : tie.Need-loop-j-smaller invariant-loop decreases-loop
 loop_less c = omega (arith, c.loop-j-test.true)

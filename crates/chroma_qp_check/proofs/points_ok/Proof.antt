@@ -66,11 +66,10 @@ loop_less : tie.Need-loop-j-smaller invariant-loop decreases-loop
 loop_less c = omega arith
 
 loop_again : tie.Need-loop-j-preserved invariant-loop decreases-loop
-loop_again c =
-    (
-      omega arith,
-      scan_more _ _ c.loop-j.invariant.1 (byte_sign (this c.before.before) false (record { sfits = c.t7-1.given }) c.if-a-j-lt0.false),
-    )
+loop_again c = (
+  omega arith,
+  scan_more _ _ c.loop-j.invariant.1 (byte_sign (this c.before.before) false (record { sfits = c.t7-1.given }) c.if-a-j-lt0.false),
+)
 
 returns-4 : tie.Need-returns invariant-loop decreases-loop
 returns-4 c =

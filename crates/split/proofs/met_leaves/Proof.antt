@@ -43,13 +43,12 @@ module _ (c : tie.Else-root_count-i) where
   in_picture = omega (arith, c.if-root_count-i.false, c.root_count.ensures.0)
 
 walk_root_requires : tie.Need-walk_root-requires
-walk_root_requires c κs =
-    (
-      size_told c.before.before.before.before.before,
-      (lengths_told _ _ _ _ (sym c.leaves_lengths_ok.ensures ∙ c.if-not-leaves_lengths_ok.false)).0,
-      in_picture c.before,
-      c.requires,
-    )
+walk_root_requires c κs = (
+  size_told c.before.before.before.before.before,
+  (lengths_told _ _ _ _ (sym c.leaves_lengths_ok.ensures ∙ c.if-not-leaves_lengths_ok.false)).0,
+  in_picture c.before,
+  c.requires,
+)
 
 returns-4 : tie.Need-returns
 unfolding leaves-call.check_of
