@@ -1,6 +1,7 @@
 // What stands before the first write of deblocking: its settings, what it refuses and in which order.
 // The Rust beside it: df.rs, which takes its input to be right.
 #![tactic(auto)]
+
 mod check; // check.rt: a picture's
 mod band; // band.rt: a band's
 

@@ -34,7 +34,7 @@ pub(crate) struct Leaf {
 }
 
 // A leaf's record.
-#[derive(Drop)]
+#[derive(Clone, Copy)]
 pub(crate) struct Record {
     pub(crate) kind: u8,
     pub(crate) qp: u8,

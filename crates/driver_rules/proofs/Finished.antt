@@ -133,6 +133,7 @@ module _ (g : Given) (ga : GivenAsked g) where
 
     pub unit_told : (q : Leaf) (l : List Leaf) (s : State) → Memᴰ q l → Holds q u v → Pairwise Before l → Fits l → StateAsked g s → Numbered s.place.k l (steps g l s)
     unfolding run step_at
+    unit_told q [] s x5 k b f a = elim x5 [ ]
     unit_told q (p ∷ l) s (Memᴰ.head e) k b f a =
         let mine = subst (λ (r : Leaf). Holds r u v) e k in
         let next = step_asked g (4 * p.x) (4 * p.y) (4 * p.side) s ga a (f p (Memᴰ.head refl)) in

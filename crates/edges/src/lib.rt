@@ -1,5 +1,6 @@
 // Both passes' lists of edges, written into lent buffers: the edges that evc_deblock_cu_ver and evc_deblock_cu_hor of df.rs visit.
 #![tactic(auto)]
+
 ghost use Rattle.std.specs.Prelude.{map, ◌≡◌, ◌+◌, ◌*◌, ◌/◌, ◌%◌, ◌≤◌, ◌<◌, length, get_or};
 ghost use Rattle.std.proofs.lemmas.List.Edits.{sets};
 ghost use Rattle.def.proofs.Sizes.{Sized};

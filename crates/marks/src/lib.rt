@@ -1,6 +1,7 @@
 // The marks of a root, listed: its blocks of 8 or more in the order of the walk, each with its byte. `list_marks` takes them from split bytes, each with the
 // byte that it has to have for the walk to go on; `take_marks` takes them from digits, the bits of a lent slice. There is no Rust beside it.
 #![tactic(auto)]
+
 ghost use Rattle.std.specs.Prelude.{◌≡◌, ◌+◌, ◌-◌, ◌*◌, ◌/◌, ◌%◌, ◌^◌, ◌≤◌, ◌<◌, length, drop, take};
 ghost use Rattle.std.proofs.lemmas.List.Edits.{sets};
 ghost use Rattle.bits.specs.Bits.{bits_from};

@@ -1,6 +1,7 @@
 // The strength row of the edge between two units of a picture's maps.
 // The Rust beside it: df.rs, evc_get_tbl_qp_to_st.
 #![tactic(auto)]
+
 ghost use Rattle.std.specs.Prelude.{◌≡◌, ℕ, ◌+◌, ◌*◌, ◌≤◌, leb, length};
 ghost use Rattle.laws.specs.Plane.{with_row};
 ghost use Rattle.line.specs.Row.{eq_z, motion_row};

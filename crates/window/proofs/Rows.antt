@@ -146,7 +146,7 @@ lanes_put step at xs t first (suc n) h l =
     let r = put_lines (mask_of Luma false false) (λ (k : ℕ). samples_at step (at + k) xs) 8 1 first n t in
     let i : at + n ≡ at + n * 1 = rw (mul-one n) in
     rw (mul-one n, ← add-one n)
-    (gather_more rows rows_spread step 1 at xs t r first n (samples_at step (at + n) xs) (omega arith) (lines_long _ _ _ _ _ n t ∙ l)
+    (gather_more rows rows_spread step 1 at xs t r first n (samples_at step (at + n) xs) (omega arith) (lines_long (mask_of Luma false false) (λ (k : ℕ). samples_at step (at + k) xs) 8 1 first n t ∙ l)
     (ap (λ (j : ℕ). samples_at step j xs) i) (lanes_put step at xs t first n (omega arith) l))
 
 pub gathered : (all : Mask) (step at : ℕ) (xs t r : List ℕ) (first n : ℕ) → all ≡ mask_of Luma false false → first + n ≤ 8 → length t ≡ 32

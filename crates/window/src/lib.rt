@@ -3,6 +3,7 @@
 // Every call tests where its lines lie, by one comparison with the plane's length, and writes nothing where they do not.
 // The Rust beside it: df.rs, deblock_scu_hor_luma, deblock_scu_hor_chroma, deblock_scu_ver_luma, deblock_scu_ver_chroma.
 #![tactic(auto)]
+
 ghost use Rattle.std.specs.Prelude.{◌≡◌, true, false, ◌&&◌, ◌+◌, ◌-◌, ◌*◌, ◌≤◌, ◌<◌, min, leb, length, get_or};
 ghost use Rattle.laws.specs.Plane.{with_row};
 ghost use Rattle.def.specs.Components.{unit_side};

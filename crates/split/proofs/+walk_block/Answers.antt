@@ -67,8 +67,8 @@ returns-in-Refused t c =
     let v = c.loop-part.invariant in
     let s : Stored (walk a.bytes.now (a.w / 4) (a.h / 4) (4 - (a.level + 1)) (q.x.0 / 4) (q.y.0 / 4)) c.loop-part.out c.loop-part.count c.if-level-eq2.out c.if-level-eq2.walked =
     elim c.if-level-eq2.branch [
-    | then-level-eq2 w ↦ rw (w.out-is, w.walked-is) (rw w.if-level-eq2.true w.put_eight-walked.ensures)
-    | else-level-eq2 w ↦ rw (w.out-is, w.walked-is) w.walk_block-walked.ensures
+      | then-level-eq2 w ↦ rw (w.out-is, w.walked-is) (rw w.if-level-eq2.true w.put_eight-walked.ensures)
+      | else-level-eq2 w ↦ rw (w.out-is, w.walked-is) w.walk_block-walked.ensures
     ] in
     part_refused v.2 v.3 _ _ c.part_at-place.ensures.0 c.part_at-place.ensures.1 _ _ s _ c.loop-part-test.true c.in-Refused.is
 
@@ -80,8 +80,8 @@ loop-part-preserved t c =
     let v = c.loop-part.invariant in
     let s : Stored (walk a.bytes.now (a.w / 4) (a.h / 4) (4 - (a.level + 1)) (q.x.0 / 4) (q.y.0 / 4)) c.loop-part.out c.loop-part.count c.if-level-eq2.out c.if-level-eq2.walked =
     elim c.if-level-eq2.branch [
-    | then-level-eq2 w ↦ rw (w.out-is, w.walked-is) (rw w.if-level-eq2.true w.put_eight-walked.ensures)
-    | else-level-eq2 w ↦ rw (w.out-is, w.walked-is) w.walk_block-walked.ensures
+      | then-level-eq2 w ↦ rw (w.out-is, w.walked-is) (rw w.if-level-eq2.true w.put_eight-walked.ensures)
+      | else-level-eq2 w ↦ rw (w.out-is, w.walked-is) w.walk_block-walked.ensures
     ] in
     (within _ c.loop-part-test.true, c.if-level-eq2.auto.out ∙ v.1, v.2, part_more v.2 v.3 _ _ c.part_at-place.ensures.0 c.part_at-place.ensures.1 _ _ s _ c.in-Done.is)
 

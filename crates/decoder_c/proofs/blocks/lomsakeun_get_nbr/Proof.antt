@@ -4,7 +4,7 @@ use Rattle.decoder_c.proofs.blocks.lomsakeun_get_nbr.Statement.{statement}
 use Rattle.decoder_c.proofs.blocks.lomsakeun_get_nbr.Tie as tie
 
 returns : tie.Need-returns
-returns c = let called = c.before.before.before in rw (c.answer-number.ensures, ← called.before.before.component.ensures) called.get-nbr.ensures
+returns c = rw (c.answer_number.ensures, ← c.component.ensures) c.get_nbr.ensures
 
 pub lomsakeun_get_nbr_spec : {M : Type 1} → statement M
 lomsakeun_get_nbr_spec = tie.close (tie.spec (λ c κs. search rules) (λ c κs. search rules) (λ c κs. search rules) (λ c. search rules) returns)

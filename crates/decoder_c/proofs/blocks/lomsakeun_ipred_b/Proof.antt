@@ -4,7 +4,7 @@ use Rattle.decoder_c.proofs.blocks.lomsakeun_ipred_b.Statement.{statement}
 use Rattle.decoder_c.proofs.blocks.lomsakeun_ipred_b.Tie as tie
 
 returns : tie.Need-returns
-returns c = rw c.answer-number.ensures c.before.before.before.ipred-b.ensures
+returns c = rw c.answer_number.ensures c.ipred_b.ensures
 
 pub lomsakeun_ipred_b_spec : {M : Type 1} → statement M
 lomsakeun_ipred_b_spec = tie.close (tie.spec (λ c κs. search rules) (λ c κs. search rules) (λ c. search rules) returns)

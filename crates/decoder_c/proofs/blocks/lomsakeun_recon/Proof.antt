@@ -4,7 +4,7 @@ use Rattle.decoder_c.proofs.blocks.lomsakeun_recon.Statement.{statement}
 use Rattle.decoder_c.proofs.blocks.lomsakeun_recon.Tie as tie
 
 returns : tie.Need-returns
-returns c = rw c.answer-number.ensures c.before.before.before.recon.ensures
+returns c = rw c.answer_number.ensures c.recon.ensures
 
 pub lomsakeun_recon_spec : {M : Type 1} → statement M
 lomsakeun_recon_spec = tie.close (tie.spec (λ c κs. search rules) (λ c κs. search rules) (λ c. search rules) returns)

@@ -4,7 +4,7 @@ use Rattle.decoder_c.proofs.compact.lomsakeun_put_map.Statement.{statement}
 use Rattle.decoder_c.proofs.compact.lomsakeun_put_map.Tie as tie
 
 returns : tie.Need-returns
-returns c = rw c.answer-number.ensures c.before.before.before.put_map.ensures
+returns c = rw c.answer_number.ensures c.put_map-seen.ensures
 
 pub lomsakeun_put_map_spec : {M : Type 1} → statement M
 lomsakeun_put_map_spec = tie.close (tie.spec (λ c κs. search rules) (λ c κs. search rules) (λ c. search rules) returns)

@@ -10,16 +10,14 @@ use Rattle.decoder_c.proofs.deblock.lomsakeun_deblock.Statement.{statement}
 use Rattle.decoder_c.proofs.deblock.lomsakeun_deblock.Tie as tie
 
 -- the settings that are handed on are those of the numbers
-settings : (c : tie.After-settings-of) → let a = c.before.before.before.before.before.before.before.before.args in
-    c.settings-of.result ≡ settings_of a.limit a.u_offset a.v_offset a.colour
+settings : (c : tie.After-settings_of-settings) → let a = c.args in
+    c.settings_of-settings.result ≡ settings_of a.limit a.u_offset a.v_offset a.colour
 settings c =
-    let start = c.before.before.before.before.before.before.before.before in
-    c.settings-of.ensures ∙ ap₂ (λ (u v : ℤ). settings_of start.args.limit u v start.args.colour) (back w8 _ start.ranges.u_offset) (back w8 _ start.ranges.v_offset)
+    c.settings_of-settings.ensures ∙ ap₂ (λ (u v : ℤ). settings_of c.args.limit u v c.args.colour) (back w8 _ c.ranges.u_offset) (back w8 _ c.ranges.v_offset)
 
 returns : tie.Need-returns
 returns c =
-    let called = c.before.before.before.before.before.before.before.before.before in
-    deblocked_gives _ _ called.deblock.result _ _ _ _ _ _ _ (settings called.before.before.before.before.before) called.deblock.ensures c.Counts-of.ensures
+    deblocked_gives _ _ c.deblock.result _ _ _ _ _ _ _ (settings c.before.before.before.before.before.before.before.before.before.before.before.before.before.before) c.deblock.ensures c.counts_of-seen.ensures
 
 pub lomsakeun_deblock_spec : {M : Type 1} → statement M
 lomsakeun_deblock_spec =

@@ -8,8 +8,8 @@ use Rattle.decoder_c.proofs.deblock.settings_of.Tie as tie
 
 returns : tie.Need-returns
 returns c =
-    let fits = c.before.ranges in
-    rw (back w8 _ fits.u_offset, back w8 _ fits.v_offset, c.format-of.ensures) refl
+    let fits = c.ranges in
+    rw (back w8 _ fits.u_offset, back w8 _ fits.v_offset, c.format_of-format.ensures) refl
 
 pub settings_of_spec : {M : Type 1} → statement M
 settings_of_spec = tie.close (tie.spec (λ c κs. search rules) returns)

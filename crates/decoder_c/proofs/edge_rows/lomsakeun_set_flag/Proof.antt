@@ -4,7 +4,7 @@ use Rattle.decoder_c.proofs.edge_rows.lomsakeun_set_flag.Statement.{statement}
 use Rattle.decoder_c.proofs.edge_rows.lomsakeun_set_flag.Tie as tie
 
 returns : tie.Need-returns
-returns c = let called = c.before.before.before.before.before in rw (c.answer-number.ensures, ← called.before.before.before.flag_of_lem.ensures) called.set-flag.ensures
+returns c = rw (c.answer_number.ensures, ← c.flag_of.ensures) c.set_flag.ensures
 
 pub lomsakeun_set_flag_spec : {M : Type 1} → statement M
 lomsakeun_set_flag_spec = tie.close (tie.spec (λ c κs. search rules) (λ c κs. search rules) (λ c κs. search rules) (λ c. search rules) (λ c. search rules) returns)

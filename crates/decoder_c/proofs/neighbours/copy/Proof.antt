@@ -9,17 +9,17 @@ use Rattle.split.proofs.Stores.{copy_more, take_sets}
 use Rattle.decoder_c.proofs.neighbours.copy.Statement.{statement}
 use Rattle.decoder_c.proofs.neighbours.copy.Tie as tie
 
-abbrev invariant-loop : tie.invariant-loop
+abbrev invariant-loop : tie.invariant-loop-k
 invariant-loop part out₀ k₀ out k = (k ≤ length part) × (length out ≡ length out₀) × (out ≡ sets out₀ 0 (take k part))
 
-abbrev decreases-loop : tie.decreases-loop
+abbrev decreases-loop : tie.decreases-loop-k
 decreases-loop part out₀ k₀ out k = length part - k
 
-loop_again : tie.Need-loop-preserved invariant-loop decreases-loop
+loop_again : tie.Need-loop-k-preserved invariant-loop decreases-loop
 loop_again c =
-    let a = c.before.before.before.args in
-    let k = c.before.before.loop.k in
-    let v = c.before.before.loop.invariant in
+    let a = c.args in
+    let k = c.loop-k.k in
+    let v = c.loop-k.invariant in
     let q = v.2 in
     (omega arith, simp length-set v.1, rw q (copy_more a.part.now a.out.now k (omega arith)))
 
@@ -31,9 +31,9 @@ whole part out₀ out k e l m q =
 
 returns : tie.Need-returns invariant-loop decreases-loop
 returns c =
-    let a = c.before.before.args in
-    let v = c.before.loop.invariant in
-    whole a.part.now a.out.now c.before.loop.out c.before.loop.k (omega arith) c.before.before.requires v.1 v.2
+    let a = c.args in
+    let v = c.loop-k.invariant in
+    whole a.part.now a.out.now c.loop-k.out c.loop-k.k (omega arith) c.requires v.1 v.2
 
 pub copy_spec : {M : Type 1} → statement M
 copy_spec =
@@ -47,5 +47,5 @@ copy_spec =
     (λ c. omega arith)
     (λ c. omega arith)
     loop_again
-    (λ c. c.before.loop.invariant.1)
+    (λ c. c.loop-k.invariant.1)
     returns)

@@ -5,7 +5,7 @@ use Rattle.decoder_c.proofs.neighbours.lomsakeun_get_avail_inter.Statement.{stat
 use Rattle.decoder_c.proofs.neighbours.lomsakeun_get_avail_inter.Tie as tie
 
 returns : tie.Need-returns
-returns c = masked_gives c.before.get-avail-inter.result _ _ _ c.before.get-avail-inter.ensures c.in_numbers.ensures
+returns c = masked_gives c.get_avail_inter.result _ _ _ c.get_avail_inter.ensures c.in_numbers-seen.ensures
 
 pub lomsakeun_get_avail_inter_spec : {M : Type 1} → statement M
 lomsakeun_get_avail_inter_spec = tie.close (tie.spec (λ c κs. search rules) (λ c κs. search rules) returns)

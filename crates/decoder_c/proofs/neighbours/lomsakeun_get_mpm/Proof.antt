@@ -11,25 +11,23 @@ use Rattle.decoder_c.proofs.neighbours.lomsakeun_get_mpm.Tie as tie
 
 copy_requires : tie.Need-copy-requires
 copy_requires c κs =
-    let g = c.before in
-    let ok = accepted _ _ (sym g.before.before.before.ranks-checked.ensures ∙ g.before.enum_told.given.1) in
-    five _ _ g.get-mpm.ensures ok.1 ∙ sym ok.0
+    let ok = accepted _ _ (sym c.ranks_checked.ensures ∙ c.in-Done.is) in
+    five _ _ c.get_mpm.ensures ok.1 ∙ sym ok.0
 
-returns : tie.Need-returns
+returns : tie.Need-returns-in-Refused
 unfolding outcome
-returns c = rw c.refusal-number.ensures (on_refusal _ _ _ _ _ c.before.before.before.before.ranks-checked.ensures c.before.before.r.given.1)
+returns c = rw c.refusal_number.ensures (on_refusal _ _ _ _ _ c.ranks_checked.ensures c.in-Refused.is)
 
 -- the outcome of the ranks that were copied
 abbrev copied : List ℕ → Outcome
 copied l = record { number = 0; ranks = l }
 
-returns-2 : tie.Need-returns-2
+returns-2 : tie.Need-returns-in-Done
 unfolding outcome
 returns-2 c =
-    let g = c.before.before.before.before in
-    let told = g.before.enum_told.given.1 in
-    let checks = g.before.before.before.ranks-checked.ensures in
-    on_done _ _ _ _ _ checks told (ap copied (c.before.before.copy.ensures ∙ ranks _ _ g.get-mpm.ensures (accepted _ _ (sym checks ∙ told)).1))
+    let told = c.in-Done.is in
+    let checks = c.ranks_checked.ensures in
+    on_done _ _ _ _ _ checks told (ap copied (c.copy.ensures ∙ ranks _ _ c.get_mpm.ensures (accepted _ _ (sym checks ∙ told)).1))
 
 pub lomsakeun_get_mpm_spec : {M : Type 1} → statement M
 lomsakeun_get_mpm_spec =

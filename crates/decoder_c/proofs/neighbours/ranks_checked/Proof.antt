@@ -7,22 +7,20 @@ use Rattle.decoder_c.proofs.Ranks.{found}
 use Rattle.decoder_c.proofs.neighbours.ranks_checked.Statement.{statement}
 use Rattle.decoder_c.proofs.neighbours.ranks_checked.Tie as tie
 
-returns : tie.Need-returns
+returns : tie.Need-returns-then-not-size_ok
 unfolding check_of
-returns c = stops _ _ _ _ c.before.Size-ok.ensures c.if1.true
+returns c = stops _ _ _ _ c.size_ok.ensures c.if-not-size_ok.true-raw
 
-returns-2 : tie.Need-returns-2
+returns-2 : tie.Need-returns-then-ranks-ne5
 unfolding check_of
 returns-2 c =
-    let d = c.before in
-    goes_on _ _ _ _ _ d.before.Size-ok.ensures d.if1.false (at_refusal _ _ _ (ne_eqb _ _ c.if2.true))
+    goes_on _ _ _ _ _ c.size_ok.ensures c.if-not-size_ok.false-raw (at_refusal _ _ _ (ne_eqb _ _ c.if-ranks-ne5.true))
 
-returns-3 : tie.Need-returns-3
+returns-3 : tie.Need-returns
 unfolding check_of
 returns-3 c =
-    let d = c.before.before in
-    goes_on _ _ _ _ _ d.before.Size-ok.ensures d.if1.false
-    (past_refusal _ _ _ _ (eq-eqb _ _ c.before.if2.false) (found _ _ c.get-mpm-number.ensures))
+    goes_on _ _ _ _ _ c.size_ok.ensures c.if-not-size_ok.false-raw
+    (past_refusal _ _ _ _ (eq-eqb _ _ c.if-ranks-ne5.false) (found _ _ c.get_mpm_number.ensures))
 
 pub ranks_checked_spec : {M : Type 1} → statement M
 ranks_checked_spec = tie.close (tie.spec (λ c κs. search rules) returns returns-2 (λ c κs. search rules) returns-3)

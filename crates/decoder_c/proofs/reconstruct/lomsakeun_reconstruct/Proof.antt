@@ -5,8 +5,7 @@ use Rattle.decoder_c.proofs.reconstruct.lomsakeun_reconstruct.Tie as tie
 
 returns : tie.Need-returns
 returns c =
-    let called = c.before.before.before.before.before.before.before.before.before.before.before.before.before in
-    rw (c.answer-number.ensures, ← called.before.before.before.before.before.before.before.format-of.ensures) called.reconstruct.ensures
+    rw (c.answer_number.ensures, ← c.format_of.ensures) c.reconstruct.ensures
 
 pub lomsakeun_reconstruct_spec : {M : Type 1} → statement M
 lomsakeun_reconstruct_spec =

@@ -5,8 +5,8 @@ use Rattle.decoder_c.proofs.screen.lomsakeun_ward_row.Statement.{statement}
 use Rattle.decoder_c.proofs.screen.lomsakeun_ward_row.Tie as tie
 
 returns : tie.Need-returns
-returns c = rw (c.before.before.before.before.before.before.before.before.run_of_lem.ensures, c.before.before.before.before.before.chroma-format.ensures) at
-    (in_numbers _ _ _ c.row-numbers.ensures c.before.before.before.row.ensures)
+returns c = rw (c.run_of.ensures, c.chroma_format-format.ensures) at
+    (in_numbers _ _ _ c.row_numbers-seen.ensures c.row.ensures)
 
 pub lomsakeun_ward_row_spec : {M : Type 1} → statement M
 lomsakeun_ward_row_spec =

@@ -4,7 +4,7 @@ use Rattle.decoder_c.proofs.streams.lomsakeun_import_frame.Statement.{statement}
 use Rattle.decoder_c.proofs.streams.lomsakeun_import_frame.Tie as tie
 
 returns : tie.Need-returns
-returns c = rw c.header-numbers.ensures c.before.before.before.before.before.before.before.import-frame.ensures
+returns c = rw c.header_numbers-seen.ensures c.import_frame.ensures
 
 pub lomsakeun_import_frame_spec : {M : Type 1} → statement M
 lomsakeun_import_frame_spec =

@@ -4,7 +4,7 @@ use Rattle.decoder_c.proofs.streams.lomsakeun_read_frame.Statement.{statement}
 use Rattle.decoder_c.proofs.streams.lomsakeun_read_frame.Tie as tie
 
 returns : tie.Need-returns
-returns c = rw c.frame-numbers.ensures c.before.before.before.before.before.before.before.read-frame.ensures
+returns c = rw c.frame_numbers-seen.ensures c.read_frame.ensures
 
 pub lomsakeun_read_frame_spec : {M : Type 1} → statement M
 lomsakeun_read_frame_spec =

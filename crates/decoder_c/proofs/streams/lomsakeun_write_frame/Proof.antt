@@ -6,7 +6,7 @@ use Rattle.decoder_c.proofs.streams.lomsakeun_write_frame.Tie as tie
 
 returns : tie.Need-returns
 returns c =
-    rw (c.answer-number.ensures, sym c.before.before.before.before.before.format-of.ensures) c.before.before.before.write-frame.ensures
+    rw (c.answer_number.ensures, sym c.format_of.ensures) c.write_frame.ensures
 
 pub lomsakeun_write_frame_spec : {M : Type 1} → statement M
 lomsakeun_write_frame_spec =

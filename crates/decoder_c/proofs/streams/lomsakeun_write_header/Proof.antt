@@ -6,8 +6,8 @@ use Rattle.decoder_c.proofs.streams.lomsakeun_write_header.Tie as tie
 
 returns : tie.Need-returns
 returns c =
-    let e = c.written-numbers.ensures in
-    rw (e.0, e.1, sym c.before.before.before.before.before.format-of.ensures) c.before.before.before.write-header.ensures
+    let e = c.written_numbers-seen.ensures in
+    rw (e.0, e.1, sym c.format_of.ensures) c.write_header.ensures
 
 pub lomsakeun_write_header_spec : {M : Type 1} → statement M
 lomsakeun_write_header_spec =

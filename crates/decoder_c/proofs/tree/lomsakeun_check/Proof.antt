@@ -4,7 +4,7 @@ use Rattle.decoder_c.proofs.tree.lomsakeun_check.Statement.{statement}
 use Rattle.decoder_c.proofs.tree.lomsakeun_check.Tie as tie
 
 returns : tie.Need-returns
-returns c = rw c.answer-number.ensures c.before.check.ensures
+returns c = rw c.answer_number.ensures c.check.ensures
 
 pub lomsakeun_check_spec : {M : Type 1} → statement M
 lomsakeun_check_spec = tie.close (tie.spec (λ c κs. search rules) (λ c κs. search rules) returns)

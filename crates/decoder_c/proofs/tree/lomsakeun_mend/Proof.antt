@@ -4,7 +4,7 @@ use Rattle.decoder_c.proofs.tree.lomsakeun_mend.Statement.{statement}
 use Rattle.decoder_c.proofs.tree.lomsakeun_mend.Tie as tie
 
 returns : tie.Need-returns
-returns c = let e = c.mend-numbers.ensures in rw (e.0, e.1) c.before.before.before.before.before.mend.ensures
+returns c = let e = c.mend_numbers-seen.ensures in rw (e.0, e.1) c.mend.ensures
 
 pub lomsakeun_mend_spec : {M : Type 1} → statement M
 lomsakeun_mend_spec = tie.close (tie.spec (λ c κs. search rules) (λ c κs. search rules) (λ c. search rules) (λ c. search rules) returns)

@@ -4,8 +4,8 @@ use borrow.Author.Rules.{rules}
 use Rattle.decoder_c.proofs.tree.text_numbers.Statement.{statement}
 use Rattle.decoder_c.proofs.tree.text_numbers.Tie as tie
 
-returns-2 : tie.Need-returns-2
-returns-2 c = rw c.before.before.a2.given.1 (c.refusal-number.ensures, refl)
+returns-2 : tie.Need-returns-in-Refused
+returns-2 c = rw c.in-Refused.is (c.refusal_number.ensures, refl)
 
 pub text_numbers_spec : {M : Type 1} → statement M
 text_numbers_spec = tie.close (tie.spec (λ c. search rules) (λ c. search rules) (λ c κs. search rules) (λ c. search rules) returns-2)
