@@ -28,8 +28,8 @@ of s =
 
 returns : tie.Need-returns
 unfolding of
-returns c = c.before.before.before.before.before.before.before.before.deblock-by-rows.ensures
-    ∙ without (of c.before.before.before.before.before.before.before.before.before.before.before.before.before.before.before.before.before.before.before.before.before)
+returns c = c.deblock_by_rows.ensures
+    ∙ without (of c.before.before.before.before.before.before.before.before.before.before.before.before.before.before.before.before.before.before.before.before)
 
 pub deblock_spec : {M : Type 1} → statement M
 deblock_spec =
@@ -37,8 +37,8 @@ deblock_spec =
     (tie.spec
     (λ c. refl)
     (λ c κs. tt)
-    (λ c. c.before.before.before.before.before.before.before.before.deblock-by-rows.auto.1.1.0)
-    (λ c. c.before.before.before.before.before.before.before.before.deblock-by-rows.auto.1.1.1.0)
-    (λ c. c.before.before.before.before.before.before.before.before.deblock-by-rows.auto.1.1.1.1.0)
-    (λ c. c.before.before.before.before.before.before.before.before.deblock-by-rows.auto.1.1.1.1.1.0)
+    (λ c. c.deblock_by_rows.auto.y)
+    (λ c. c.deblock_by_rows.auto.u)
+    (λ c. c.deblock_by_rows.auto.v)
+    (λ c. c.deblock_by_rows.auto.words)
     returns)

@@ -9,8 +9,8 @@ use Rattle.df.proofs.entries_by.Tie as tie
 
 returns : tie.Need-returns
 returns c =
-    let a = c.before.before.before.before.args in
-    let g = c.before.before.struct_told.given in
+    let a = c.args in
+    let g = c.struct_told-1.given in
     let u = back w8 a.s.u_offset (record { sfits = g.1.0.1 }) in
     let v = back w8 a.s.v_offset (record { sfits = g.1.1.0.1 }) in
     c.entries.ensures ∙ (λ i. entries_in a.s.format a.strengths.now a.table0.now (u i) a.table1.now (v i))

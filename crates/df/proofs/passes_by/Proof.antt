@@ -28,10 +28,9 @@ few s =
     omega (arith, mul-le-mul_right {m = s.args.top} {n = 1024} (s.args.w / 4) high, s.requires.0.wide)
 
 -- the start, from where both passes were made
-abbrev begun : tie.After-slice-known10 → tie.Start
+abbrev begun : tie.After-slice_known-10-1 → tie.Start
 begun c =
-    let d = c.before.before.before.before.before.before.before.before.before.before.before.before.before.before.before in
-    d.before.before.before.before.before.before.before.before.before.before.before.before.before.before
+    c.before.before.before.before.before.before.before.before.before.before.before.before.before.before
 
 fits : {n : ℕ} → n ≤ 1048576 → Fits w64 n
 fits l = omega arith
@@ -39,14 +38,12 @@ fits l = omega arith
 bytes : {n : ℕ} → n ≤ 1048576 → Fits w64 (n * 4)
 bytes l = omega arith
 
-deblock_pass_requires : tie.Need-deblock-pass-requires
-deblock_pass_requires c κs = let p = c.before.before.before.before.before.before.before.before.before.before.before.requires in (p.0, p.1, p.2)
+deblock_pass_requires : tie.Need-deblock_pass-m-requires
+deblock_pass_requires c κs = let p = c.requires in (p.0, p.1, p.2)
 
-deblock_pass_requires_2 : tie.Need-deblock-pass-requires-2
+deblock_pass_requires_2 : tie.Need-deblock_pass-n-requires
 deblock_pass_requires_2 c κs =
-    let d = c.before.before.before.before.before.before.before.before.before.before in
-    let s = d.before.before.before.before.before.before.before.before.before.before.before.before in
-    (frame_done d.deblock-pass.ensures s.requires.0, s.requires.1, s.requires.2)
+    (frame_done c.deblock_pass-m.ensures c.requires.0, c.requires.1, c.requires.2)
 
 -- both passes, with the counts as they are handed back
 both_counted : {m : Maps} {t : List ℕ} {w top : ℕ} {ups levels : List Edge} {p q r : Planes} {a b x y : ℕ} {words : List ℕ}
@@ -63,11 +60,8 @@ both_counted g k e n =
 
 returns : tie.Need-returns
 returns c =
-    let d = c.before.before.before.before.before.before.before.before.before.before.before in
-    let e = d.before.before.before.before.before.before.before.before.before.before.before in
-    let s = e.before.before.before.before.before.before.before.before.before.before.before.before in
-    both_counted e.deblock-pass.ensures d.deblock-pass2.ensures
-    (end_put (s.args.top * (s.args.w / 4)) s.args.words.now all_done _ c.before.before.before.all_done.ensures) c.new.ensures
+    both_counted c.deblock_pass-m.ensures c.deblock_pass-n.ensures
+    (end_put (c.args.top * (c.args.w / 4)) c.args.words.now all_done _ c.all_done.ensures) c.new.ensures
 
 pub passes_by_spec : {M : Type 1} → statement M
 passes_by_spec =
@@ -82,11 +76,8 @@ passes_by_spec =
     (λ c. le_refl _)
     (λ c κs. tt)
     (λ c κs. tt)
-    (λ c. let d = c.before.before.before.before.before.before.before.before.before.before.before in
-    d.deblock-pass2.auto.1.1.1.1.1.1.0 ∙ d.before.before.before.before.before.before.before.before.before.before.before.deblock-pass.auto.1.1.1.1.1.1.0)
-    (λ c. let d = c.before.before.before.before.before.before.before.before.before.before.before in
-    d.deblock-pass2.auto.1.1.1.1.1.1.1.0 ∙ d.before.before.before.before.before.before.before.before.before.before.before.deblock-pass.auto.1.1.1.1.1.1.1.0)
-    (λ c. let d = c.before.before.before.before.before.before.before.before.before.before.before in
-    d.deblock-pass2.auto.1.1.1.1.1.1.1.1.0 ∙ d.before.before.before.before.before.before.before.before.before.before.before.deblock-pass.auto.1.1.1.1.1.1.1.1.0)
+    (λ c. c.deblock_pass-n.auto.y ∙ c.deblock_pass-m.auto.y)
+    (λ c. c.deblock_pass-n.auto.u ∙ c.deblock_pass-m.auto.u)
+    (λ c. c.deblock_pass-n.auto.v ∙ c.deblock_pass-m.auto.v)
     (λ c. search)
     returns)

@@ -5,14 +5,14 @@ use Rattle.edge_filter.proofs.Turns.{count_grey, count_colour, count_unlike}
 use Rattle.edge_filter.proofs.count_chroma.Statement.{statement}
 use Rattle.edge_filter.proofs.count_chroma.Tie as tie
 
-returns : tie.Need-returns
-returns c = (count_grey _ _ _ _ _ c.enum_told.given.1, omega arith, λ h. omega arith)
+returns : tie.Need-returns-in-Grey
+returns c = (count_grey _ _ _ _ _ c.in-Grey.is, omega arith, λ h. omega arith)
 
-returns-2 : tie.Need-returns-2
-returns-2 c = let r = c.count-luma.ensures in (count_colour _ _ _ _ _ _ c.before.before.enum-told2.given.1 c.before.if1.true r.0, r.1, λ h. (r.2 h, c.before.if1.true))
+returns-2 : tie.Need-returns-then-long_u-long_v
+returns-2 c = let r = c.count_luma.ensures in (count_colour _ _ _ _ _ _ c.in-Colour.is c.if-long_u-long_v.true r.0, r.1, λ h. (r.2 h, c.if-long_u-long_v.true))
 
-returns-3 : tie.Need-returns-3
-returns-3 c = (count_unlike _ _ _ _ _ c.before.enum-told2.given.1 c.if1.false, omega arith, λ h. omega arith)
+returns-3 : tie.Need-returns-else-long_u-long_v
+returns-3 c = (count_unlike _ _ _ _ _ c.in-Colour.is c.if-long_u-long_v.false, omega arith, λ h. omega arith)
 
 pub count_chroma_spec : {M : Type 1} → statement M
 count_chroma_spec =

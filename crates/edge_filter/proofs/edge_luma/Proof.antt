@@ -6,11 +6,11 @@ use Rattle.edge_filter.proofs.Turns.{edge_bare, edge_kept}
 use Rattle.edge_filter.proofs.edge_luma.Statement.{statement}
 use Rattle.edge_filter.proofs.edge_luma.Tie as tie
 
-returns : tie.Need-returns
-returns c = edge_bare Luma _ _ _ _ _ _ c.before.before.before.before.if1.true refl c.before.before.window-luma.ensures
+returns : tie.Need-returns-then-marks-eq0
+returns c = edge_bare Luma _ _ _ _ _ _ c.if-marks-eq0.true refl c.window_luma.ensures
 
-returns-2 : tie.Need-returns-2
-returns-2 c = edge_kept Luma _ _ _ _ _ _ c.before.before.before.before.before.if1.false c.before.before.before.before.mask-by.ensures c.before.before.window-kept.ensures
+returns-2 : tie.Need-returns
+returns-2 c = edge_kept Luma _ _ _ _ _ _ c.if-marks-eq0.false c.mask_by-mask.ensures c.window_kept.ensures
 
 pub edge_luma_spec : {M : Type 1} → statement M
 edge_luma_spec =

@@ -13,11 +13,11 @@ use Rattle.edge_filter.proofs.follows.Tie as tie
 returns : tie.Need-returns
 returns c =
     λ t.
-    let a = c.before.before.before.before.before.before.args in
-    let x₁ = c.before.before.before.cross_at in
-    let x₀ = c.before.before.cross-at2 in
-    let z₁ = c.before.along_at in
-    let z₀ = c.along-at2 in
+    let a = c.args in
+    let x₁ = c.cross_at in
+    let x₀ = c.cross_at-2 in
+    let z₁ = c.along_at in
+    let z₀ = c.along_at-2 in
     let m = eqb (get_or a.marks.now a.i 0) 0 in
     let n = eqb (get_or a.marks.now a.j 0) 0 in
     let f = and-true ((m && n) && eqb x₁.result x₀.result) (eqb z₁.result (z₀.result + 4)) t in

@@ -6,13 +6,13 @@ use Rattle.edge_filter.specs.Filter.{strength_at}
 use Rattle.edge_filter.proofs.strength_at.Statement.{statement}
 use Rattle.edge_filter.proofs.strength_at.Tie as tie
 
-returns : tie.Need-returns
+returns : tie.Need-returns-then-k-lt624
 unfolding strength_at
-returns c = rw (lt-ltb _ 624 c.before.before.if1.true) c.four-times.ensures
+returns c = rw (lt-ltb _ 624 c.if-k-lt624.true) c.four_times.ensures
 
-returns-2 : tie.Need-returns-2
+returns-2 : tie.Need-returns-else-k-lt624
 unfolding strength_at
-returns-2 c = rw (le-ltb _ 624 c.if1.false) refl
+returns-2 c = rw (le-ltb _ 624 c.if-k-lt624.false) refl
 
 pub strength_at_spec : {M : Type 1} → statement M
 strength_at_spec =

@@ -22,103 +22,98 @@ one_loud false b h = refl
 heard : (u v x z : ℕ) → u ≡ x → v ≡ z → (not (eqb u 0) || not (eqb v 0)) ≡ true → (eqb x 0 && eqb z 0) ≡ false
 heard u v x z e f h = sym (λ k. eqb (e k) 0 && eqb (f k) 0) ∙ one_loud (eqb u 0) (eqb v 0) h
 
-strength_at_requires : tie.Need-strength-at-requires
+strength_at_requires : tie.Need-strength_at-u0-requires
 strength_at_requires c κs = omega arith
 
-strength_at_requires_2 : tie.Need-strength-at-requires-2
+strength_at_requires_2 : tie.Need-strength_at-v0-requires
 strength_at_requires_2 c κs = omega arith
 
-returns : tie.Need-returns
+returns : tie.Need-returns-then-u0-v0
 returns c =
-    let s = c.before.before.before.before.before.before in
-    let a = s.args in
-    let u₀ = c.before.before.strength-at in
-    let v₀ = c.before.strength-at2 in
-    let q₀ = sym (λ k. eqb (u₀.ensures k) 0 && eqb (v₀.ensures k) 0) ∙ c.if1.true in (
-      turn_quiet (quiet_chroma a.entries.now a.places.now) _ 208 Chroma (pass_of a.pass) _ _ _ _ a.n a.i a.u.now s.requires.1 q₀,
-      turn_quiet (quiet_chroma a.entries.now a.places.now) _ 416 Chroma (pass_of a.pass) _ _ _ _ a.n a.i a.v.now s.requires.1 q₀,
+    let a = c.args in
+    let u₀ = c.strength_at-u0 in
+    let v₀ = c.strength_at-v0 in
+    let q₀ = sym (λ k. eqb (u₀.ensures k) 0 && eqb (v₀.ensures k) 0) ∙ c.if-u0-v0.true in (
+      turn_quiet (quiet_chroma a.entries.now a.places.now) _ 208 Chroma (pass_of a.pass) _ _ _ _ a.n a.i a.u.now c.requires.1 q₀,
+      turn_quiet (quiet_chroma a.entries.now a.places.now) _ 416 Chroma (pass_of a.pass) _ _ _ _ a.n a.i a.v.now c.requires.1 q₀,
     )
 
-strength_at_requires_3 : tie.Need-strength-at-requires-3
+strength_at_requires_3 : tie.Need-strength_at-u1-requires
 strength_at_requires_3 c κs = omega arith
 
-strength_at_requires_4 : tie.Need-strength-at-requires-4
+strength_at_requires_4 : tie.Need-strength_at-v1-requires
 strength_at_requires_4 c κs = omega arith
 
 -- where the lemmas go back to: from both edges tried to edge i found loud, and from there to the start
-abbrev first : tie.After-two-chroma → tie.Else1
+abbrev first : tie.After-two_chroma → tie.Else-u0-v0
 first c = c.before.before.before.before.before.before.before.before
 
-abbrev start : tie.Else1 → tie.Start
+abbrev start : tie.Else-u0-v0 → tie.Start
 start c = c.before.before.before.before.before.before
 
-own_loud : (c : tie.Else1) → let a = (start c).args in quiet_chroma a.entries.now a.places.now a.i ≡ false
+own_loud : (c : tie.Else-u0-v0) → let a = (start c).args in quiet_chroma a.entries.now a.places.now a.i ≡ false
 own_loud c =
-    let u = c.before.before.strength-at.ensures in
-    let v = c.before.strength-at2.ensures in
-    sym (λ k. eqb (u k) 0 && eqb (v k) 0) ∙ c.if1.false
+    let u = c.strength_at-u0.ensures in
+    let v = c.strength_at-v0.ensures in
+    sym (λ k. eqb (u k) 0 && eqb (v k) 0) ∙ c.if-u0-v0.false
 
-add_result_2 : tie.Need-overflow-add-result-2
+add_result_2 : tie.Need-overflow_add-result-then-two_chroma
 add_result_2 c =
-    let tried = c.before.before.before.before.before in
-    omega (arith, (start (first tried)).requires.2, tried.before.before.before.before.before.before.after.ensures.2)
+    omega (arith, (start (first c.before.before.before.before.before)).requires.2, c.after-j.ensures.2)
 
-returns-2 : tie.Need-returns-2
+returns-2 : tie.Need-returns-then-two_chroma
 returns-2 c =
-    let tried = c.before.before.before.before.before in
-    let own = first tried in
+    let own = first c.before.before.before.before.before in
     let a = (start own).args in
     let q₀ = own_loud own in
-    let u₀ = own.before.before.strength-at.ensures in
-    let v₀ = own.before.strength-at2.ensures in
-    let p = tried.before.before.before.before.before.before.before.chroma-place.ensures in
-    let r = tried.before.before.before.before.before.before.after in
-    let u₁ = tried.before.before.before.before.strength-at3 in
-    let v₁ = tried.before.before.before.strength-at4 in
+    let u₀ = own.strength_at-u0.ensures in
+    let v₀ = own.strength_at-v0.ensures in
+    let p = c.chroma_place-p.ensures in
+    let r = c.after-j in
+    let u₁ = c.strength_at-u1 in
+    let v₁ = c.strength_at-v1 in
     let q₁ = heard u₁.result v₁.result _ _ u₁.ensures v₁.ensures in
-    let t = tried.two-chroma.ensures in (
+    let t = c.two_chroma.ensures in (
       turn_pair (quiet_chroma a.entries.now a.places.now) _ 208 Chroma (pass_of a.pass) _ _ _ _ _ a.n a.i r.result _ _ _ _ a.u.now _
-          r.ensures.0 r.ensures.1 r.ensures.2 q₀ q₁ u₀ u₁.ensures p c.if2.true t.0,
+          r.ensures.0 r.ensures.1 r.ensures.2 q₀ q₁ u₀ u₁.ensures p c.if-two_chroma.true t.0,
       turn_pair (quiet_chroma a.entries.now a.places.now) _ 416 Chroma (pass_of a.pass) _ _ _ _ _ a.n a.i r.result _ _ _ _ a.v.now _
-          r.ensures.0 r.ensures.1 r.ensures.2 q₀ q₁ v₀ v₁.ensures p c.if2.true t.1,
+          r.ensures.0 r.ensures.1 r.ensures.2 q₀ q₁ v₀ v₁.ensures p c.if-two_chroma.true t.1,
     )
 
 -- ---- where edge j was not filtered with it
 
-abbrev tried : tie.Else2 → tie.After-two-chroma
+abbrev tried : tie.Else-two_chroma → tie.After-two_chroma
 tried c = c.before.before.before.before.before
 
-marked : tie.Need-element-copy-out-edge-chroma
-marked c = let s = start (first (tried c.before.before)) in omega (arith, s.pre.1, s.pre.2)
+marked : tie.Need-bounds-marks-i
+marked c = let s = start (first (tried c.before.before.before)) in omega (arith, s.requires.1, s.requires.2)
 
 -- both planes are as they were
-edge_chroma_requires : tie.Need-edge-chroma-requires
+edge_chroma_requires : tie.Need-edge_chroma-requires
 edge_chroma_requires c κs =
-    let d = c.before.before.before in
-    let t = (tried d).two-chroma.ensures in
-    ap length (pair_left d.if2.false t.0) ∙ (start (first (tried d))).requires.3 ∙ sym (ap length (pair_left d.if2.false t.1))
+    let t = (tried c.before.before.before.before).two_chroma.ensures in
+    ap length (pair_left c.if-two_chroma.false t.0) ∙ (start (first (tried c.before.before.before.before))).requires.3 ∙ sym (ap length (pair_left c.if-two_chroma.false t.1))
 
-add_result_3 : tie.Need-overflow-add-result-3
+add_result_3 : tie.Need-overflow_add-result-2
 add_result_3 c =
-    let s = start (first (tried c.before.before.before.before.before.before.before.before)) in
-    omega (arith, s.pre.1, s.pre.2)
+    let s = start (first (tried c.before.before.before.before.before.before.before.before.before)) in
+    omega (arith, s.requires.1, s.requires.2)
 
-returns-3 : tie.Need-returns-3
+returns-3 : tie.Need-returns
 returns-3 c =
-    let d = c.before.before.before.before.before.before.before.before in
-    let own = first (tried d) in
+    let own = first (tried c.before.before.before.before.before.before.before.before.before) in
     let s = start own in
     let a = s.args in
     let q₀ = own_loud own in
-    let u₀ = own.before.before.strength-at in
-    let v₀ = own.before.strength-at2 in
-    let p = (tried d).before.before.before.before.before.before.before.chroma-place in
-    let two = (tried d).two-chroma.ensures in
-    let t = c.before.before.before.before.edge-chroma.ensures in (
-      turn_edge (quiet_chroma a.entries.now a.places.now) _ 208 Chroma (pass_of a.pass) _ _ _ _ a.n a.i _ _ a.u.now _ s.pre.1
-          q₀ u₀.ensures p.ensures (t.0 ∙ ap (edge_of Chroma _ u₀.result p.result) (pair_left d.if2.false two.0)),
-      turn_edge (quiet_chroma a.entries.now a.places.now) _ 416 Chroma (pass_of a.pass) _ _ _ _ a.n a.i _ _ a.v.now _ s.pre.1
-          q₀ v₀.ensures p.ensures (t.1 ∙ ap (edge_of Chroma _ v₀.result p.result) (pair_left d.if2.false two.1)),
+    let u₀ = own.strength_at-u0 in
+    let v₀ = own.strength_at-v0 in
+    let p = (tried c.before.before.before.before.before.before.before.before.before).chroma_place-p in
+    let two = (tried c.before.before.before.before.before.before.before.before.before).two_chroma.ensures in
+    let t = c.edge_chroma.ensures in (
+      turn_edge (quiet_chroma a.entries.now a.places.now) _ 208 Chroma (pass_of a.pass) _ _ _ _ a.n a.i _ _ a.u.now _ s.requires.1
+          q₀ u₀.ensures p.ensures (t.0 ∙ ap (edge_of Chroma _ u₀.result p.result) (pair_left c.if-two_chroma.false two.0)),
+      turn_edge (quiet_chroma a.entries.now a.places.now) _ 416 Chroma (pass_of a.pass) _ _ _ _ a.n a.i _ _ a.v.now _ s.requires.1
+          q₀ v₀.ensures p.ensures (t.1 ∙ ap (edge_of Chroma _ v₀.result p.result) (pair_left c.if-two_chroma.false two.1)),
     )
 
 pub turn_chroma_spec : {M : Type 1} → statement M

@@ -7,15 +7,15 @@ use Rattle.edge_place.specs.Plans.{edges_in}
 use Rattle.edge_place.proofs.edges_in.Statement.{statement}
 use Rattle.edge_place.proofs.edges_in.Tie as tie
 
-returns : tie.Need-returns
+returns : tie.Need-returns-then-columns-gt65535
 unfolding edges_in
-returns c = rw (lt-leb _ 65535 c.if1.true)
+returns c = rw (lt-leb _ 65535 c.if-columns-gt65535.true)
 
-returns-2 : tie.Need-returns-2
+returns-2 : tie.Need-returns
 unfolding edges_in
 returns-2 c =
-    rw (le-leb _ 65535 c.before.before.before.if1.false)
-    (c.lesser3.ensures ∙ (λ i. min (c.before.before.lesser.ensures i) (c.before.lesser2.ensures i)))
+    rw (le-leb _ 65535 c.if-columns-gt65535.false)
+    (c.lesser-3.ensures ∙ (λ i. min (c.lesser.ensures i) (c.lesser-2.ensures i)))
 
 pub edges_in_spec : {M : Type 1} → statement M
 edges_in_spec = tie.close (tie.spec returns (λ c κs. search rules) (λ c κs. search rules) (λ c κs. search rules) returns-2)

@@ -6,17 +6,17 @@ use Rattle.edge_place.specs.Places.{marks_in}
 use Rattle.edge_place.proofs.marks_at.Statement.{statement}
 use Rattle.edge_place.proofs.marks_at.Tie as tie
 
-cast_result : tie.Need-overflow-cast-result
-cast_result c = let a = c.before.args in omega (arith, c.shared-slice-known.given a.p, c.shared-slice-known.given a.q)
+cast_result : tie.Need-overflow_cast-result
+cast_result c = let a = c.args in omega (arith, c.shared_slice_known-1.given a.p, c.shared_slice_known-1.given a.q)
 
-cast_result_2 : tie.Need-overflow-cast-result-2
-cast_result_2 c = omega (arith, c.shared-slice-known2.given c.before.before.args.q)
+cast_result_2 : tie.Need-overflow_cast-result-2
+cast_result_2 c = omega (arith, c.shared_slice_known-2-1.given c.args.q)
 
-mul_result : tie.Need-overflow-mul-result
-mul_result c = omega (arith, c.shared-slice-known2.given c.before.before.args.q)
+mul_result : tie.Need-overflow_mul-result
+mul_result c = omega (arith, c.shared_slice_known-2-1.given c.args.q)
 
-add_result : tie.Need-overflow-add-result
-add_result c = let a = c.before.before.args in omega (arith, c.shared-slice-known2.given a.p, c.shared-slice-known2.given a.q)
+add_result : tie.Need-overflow_add-result
+add_result c = let a = c.args in omega (arith, c.shared_slice_known-2-1.given a.p, c.shared_slice_known-2-1.given a.q)
 
 returns : tie.Need-returns
 unfolding marks_in

@@ -7,7 +7,7 @@ use Rattle.edge_place.proofs.place_at.Tie as tie
 
 returns : tie.Need-returns
 unfolding place_in
-returns c = λ i. (52 * c.before.before.row_of.ensures.0 i + c.get-qp.ensures.0 i) % 256
+returns c = λ i. (52 * c.row_of-row.ensures.0 i + c.get_qp.ensures.0 i) % 256
 
 pub place_at_spec : {M : Type 1} → statement M
 place_at_spec =

@@ -15,11 +15,11 @@ high : (b : ℕ) → b / 4 % 4 ≡ field_of 2 2 b
 unfolding field_of
 high b = refl
 
-returns : tie.Need-returns
-returns c = (rw c.if1.true (high _), omega arith)
+returns : tie.Need-returns-then-horizontal
+returns c = (rw c.if-horizontal.true (high _), omega arith)
 
-returns-2 : tie.Need-returns-2
-returns-2 c = (rw c.if1.false (low _), omega arith)
+returns-2 : tie.Need-returns-else-horizontal
+returns-2 c = (rw c.if-horizontal.false (low _), omega arith)
 
 pub row_in_spec : {M : Type 1} → statement M
 row_in_spec = tie.close (tie.spec (λ c. search rules) (λ c. search rules) returns returns-2)

@@ -5,7 +5,7 @@ use Rattle.leaf_record.proofs.word_of.Statement.{statement}
 use Rattle.leaf_record.proofs.word_of.Tie as tie
 
 returns : tie.Need-returns
-returns c = c.leaf_word_lem.ensures ∙ rw c.before.coded-y.ensures
+returns c = c.leaf_word.ensures ∙ rw c.coded_y.ensures
 
 pub word_of_spec : {M : Type 1} → statement M
 word_of_spec = tie.close (tie.spec (λ c κs. search rules) (λ c κs. search rules) returns)

@@ -24,49 +24,47 @@ long : (c : tie.Start) → length (take (1024 * c.args.i + 1024 - 1024 * c.args.
 long c = bytes_long (sized _ _ c.requires.0) _ _ c.requires.2 c.requires.1
 
 -- what the call told: as many marks as the root has, and a list of them
-told : (c : tie.After-list-marks) → let a = c.before.before.before.before.before.args in
+told : (c : tie.After-list_marks) → let a = c.args in
     let l = list-call.root_marks a.w a.h a.splits.now a.i in
-    (c.list-marks.result ≡ Counted (length l)) × Told l c.list-marks.new.1.1.1.1.0
-told c = list_told _ c.list-marks.result _ c.before.before.before.before.before.requires.0 c.before.before.before.before.before.requires.1 refl
-    c.before.before.before.before.before.requires.2 c.list-marks.ensures
+    (c.list_marks.result ≡ Counted (length l)) × Told l c.list_marks.new.1.1.1.1.0
+told c = list_told _ c.list_marks.result _ c.requires.0 c.requires.1 refl
+    c.requires.2 c.list_marks.ensures
 
-count : (c : tie.After-n) → let a = c.before.before.before.before.before.before.before.before.args in c.n.given.0.0 ≡ length (list-call.root_marks a.w a.h a.splits.now a.i)
-count c = (counted_done _ _ Done (sym c.n.given.1 ∙ (told c.before.before.before).0)).1
+count : (c : tie.In-Done-2) → let a = c.args in c.in-Done.n ≡ length (list-call.root_marks a.w a.h a.splits.now a.i)
+count c = (counted_done _ _ Done (sym c.in-Done.is ∙ (told c.before.before).0)).1
 
 copy_requires : tie.Need-copy-requires
-copy_requires c κs = c.before.before.before.before.before.before.before.before.before.before.before.requires.3
-    ∙ sym (long c.before.before.before.before.before.before.before.before.before.before.before)
+copy_requires c κs = c.requires.3
+    ∙ sym (long c.before.before.before.before.before.before.before.before.before)
 
-put_marks_requires : tie.Need-put-marks-requires
+put_marks_requires : tie.Need-put_marks-requires
 put_marks_requires c κs =
     let n = count c.before.before.before.before.before.before.before.before in
-    let t = (told c.before.before.before.before.before.before.before.before.before.before.before).1 in (
-      c.before.before.before.before.copy.auto.1.0
-          ∙ c.before.before.before.before.before.before.before.before.before.before.before.before.before.before.before.before.requires.3,
+    let t = (told c.before.before.before.before.before.before.before.before.before).1 in (
+      c.copy.auto.out
+          ∙ c.requires.3,
       omega (arith, n, t.few, t.long),
       λ j l. t.small j (subst (λ (k : ℕ). j < k) n l),
     )
 
-list_changes_requires : tie.Need-list-changes-requires
+list_changes_requires : tie.Need-list_changes-requires
 list_changes_requires c κs =
     let n = count c.before.before.before.before.before.before.before.before.before.before.before.before.before.before in
-    let t = (told c.before.before.before.before.before.before.before.before.before.before.before.before.before.before.before.before.before).1 in
-    let s = c.before.before.before.before.before.before.before.before.before.before.before.before.before.before.before.before.before.before.before.before.before.before in
-    (long s, omega (arith, n, t.few, t.long), (λ j l. t.small j (subst (λ (k : ℕ). j < k) n l)), few s, omega (arith, n, t.few, s.requires.4))
+    let t = (told c.before.before.before.before.before.before.before.before.before.before.before.before.before.before.before).1 in
+    (long c.before.before.before.before.before.before.before.before.before.before.before.before.before.before.before.before.before.before.before.before, omega (arith, n, t.few, t.long), (λ j l. t.small j (subst (λ (k : ℕ). j < k) n l)), few c.before.before.before.before.before.before.before.before.before.before.before.before.before.before.before.before.before.before.before.before, omega (arith, n, t.few, c.requires.4))
 
-returns : tie.Need-returns
-returns c = not_both _ _ _ (told c.before.before.before.before).0 c.before.r.given.1
+returns : tie.Need-returns-in-Refused
+returns c = not_both _ _ _ (told c.before.before).0 c.in-Refused.is
 
-returns-2 : tie.Need-returns-2
+returns-2 : tie.Need-returns-in-Done
 returns-2 c =
-    let l = c.before.before.before.before.before.before.before.before.before.before.before.before.before.before.before.before.before.before.before.before in
-    let a = l.before.before.before.before.before.args in
+    let a = c.args in
     let n = count c.before.before.before.before.before.before.before.before.before.before.before.before.before.before.before.before.before in
-    let t = (told c.before.before.before.before.before.before.before.before.before.before.before.before.before.before.before.before.before.before.before.before).1 in (
+    let t = (told c.before.before.before.before.before.before.before.before.before.before.before.before.before.before.before.before.before.before).1 in (
       root_mended a.w a.h a.splits.now a.i t n _ _
-          c.before.before.before.before.before.before.before.before.before.before.before.before.before.copy.ensures
-          c.before.before.before.before.before.before.before.before.put-marks.ensures,
-      root_listed a.w a.h a.splits.now a.i t n c.before.before.list-changes.ensures,
+          c.copy.ensures
+          c.put_marks.ensures,
+      root_listed a.w a.h a.splits.now a.i t n c.list_changes.ensures,
     )
 
 pub mend_root_spec : {M : Type 1} → statement M
@@ -81,13 +79,13 @@ mend_root_spec =
     (λ c. search rules)
     (λ c. omega arith)
     (λ c. omega arith)
-    (λ c. omega (arith, c.before.before.before.before.before.before.before.before.before.requires))
+    (λ c. omega (arith, c.requires))
     copy_requires
     (λ c. search rules)
     put_marks_requires
     (λ c. omega arith)
     (λ c. omega arith)
-    (λ c. omega (arith, c.before.before.before.before.before.before.before.before.before.before.before.before.before.before.before.before.before.before.before.requires))
+    (λ c. omega (arith, c.requires))
     (λ c. search rules)
     list_changes_requires
     returns

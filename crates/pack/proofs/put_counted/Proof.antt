@@ -22,34 +22,34 @@ few c =
     let z = c.requires.mapped.size in
     omega (arith, c.requires.count, few_digits a.splits.now (a.w / 4) (a.h / 4) (roots (a.w / 4) (a.h / 4)), roots_units (sized _ _ z), few_of _ _ z)
 
-returns : tie.Need-returns
+returns : tie.Need-returns-then-end-at
 returns c =
-    let b = c.before.bits_in.ensures.0 in
-    put_short _ c.before.before.before.before.requires (past c.before.before.before.before.args.at c.before.before.before.before.args.n _ _ b c.if1.true) where
+    let b = c.bits_in-end.ensures.0 in
+    put_short _ c.requires (past c.args.at c.args.n _ _ b c.if-end-at.true) where
       past : (at n end bits : ℕ) → end ≡ bits → end < at → bits < (at + 7) / 8 * 8 + (n + 7) / 8 * 8
       past at n end bits e l = omega arith
 
-returns-2 : tie.Need-returns-2
+returns-2 : tie.Need-returns-then-end-next
 returns-2 c =
-    let b = c.before.before.bits_in.ensures.0 in
-    put_short _ c.before.before.before.before.before.requires (past _ _ _ b c.if2.true) where
+    let b = c.bits_in-end.ensures.0 in
+    put_short _ c.requires (past _ _ _ b c.if-end-next.true) where
       past : (next end bits : ℕ) → end ≡ bits → end < next → bits < next
       past next end bits e l = omega arith
 
-put_digits_requires : tie.Need-put-digits-requires
+put_digits_requires : tie.Need-put_digits-requires
 put_digits_requires c κs =
-    let p = c.before.before.before.before.before.before.requires in
-    (p.mapped, p.done, omega (arith, c.before.before.if1.false, c.before.before.before.bits_in.ensures.1, c.before.if2.false))
+    let p = c.requires in
+    (p.mapped, p.done, omega (arith, c.if-end-at.false, c.bits_in-end.ensures.1, c.if-end-next.false))
 
-returns-3 : tie.Need-returns-3
+returns-3 : tie.Need-returns
 returns-3 c =
-    let b = c.before.before.before.before.before.before.before.before.before.before.bits_in.ensures.0 in
-    put_done _ c.before.before.before.before.before.before.before.before.before.before.before.before.before.requires _ _
-    (inside _ _ _ b c.before.before.before.before.before.before.before.before.if2.false) refl
-    (filled _ _ _ _ c.before.before.before.before.before.before.before.before.before.before.before.before.before.args.at
-    c.before.before.before.before.before.before.before.before.before.before.before.before.before.args.n
-    c.before.before.before.before.before.before.before.before.before.before.before.before.before.requires.count
-    c.before.before.before.before.before.before.put-digits.ensures c.before.before.put-zeros.ensures) where
+    let b = c.bits_in-end.ensures.0 in
+    put_done _ c.requires _ _
+    (inside _ _ _ b c.if-end-next.false) refl
+    (filled _ _ _ _ c.args.at
+    c.args.n
+    c.requires.count
+    c.put_digits.ensures c.put_zeros.ensures) where
       inside : (next end bits : ℕ) → end ≡ bits → next ≤ end → next ≤ bits
       inside next end bits e l = omega arith
 
@@ -59,18 +59,18 @@ put_counted_spec =
     (tie.spec
     (λ c κs. search rules)
     returns
-    (λ c. omega (arith, c.if1.false, c.before.bits_in.ensures.1))
-    (λ c. omega (arith, c.if1.false, c.before.bits_in.ensures.1))
+    (λ c. omega (arith, c.if-end-at.false, c.bits_in-end.ensures.1))
+    (λ c. omega (arith, c.if-end-at.false, c.bits_in-end.ensures.1))
     (λ c. omega (arith, few c.before.before.before.before))
     (λ c. omega (arith, few c.before.before.before.before))
-    (λ c. omega (arith, c.if1.false, c.before.bits_in.ensures.1, few c.before.before.before.before))
+    (λ c. omega (arith, c.if-end-at.false, c.bits_in-end.ensures.1, few c.before.before.before.before))
     returns-2
     put_digits_requires
     (λ c. omega (
       arith,
       few c.before.before.before.before.before.before.before.before.before.before,
-      c.before.before.before.before.before.before.if1.false,
-      c.before.before.before.before.before.before.before.bits_in.ensures.1,
+      c.if-end-at.false,
+      c.bits_in-end.ensures.1,
     ))
     (λ c κs. search rules)
     (λ c. search rules)

@@ -19,38 +19,38 @@ use Rattle.pack.proofs.Writing.{few_of}
 use Rattle.pack.proofs.put_map.Statement.{statement}
 use Rattle.pack.proofs.put_map.Tie as tie
 
-size_told : (c : tie.Else1) → size_ok c.before.before.before.before.args.w c.before.before.before.before.args.h ≡ true
-size_told c = sym c.before.Size-ok.ensures ∙ not-false _ c.if1.false
+size_told : (c : tie.Else-not-size_ok) → size_ok c.args.w c.args.h ≡ true
+size_told c = sym c.size_ok.ensures ∙ c.if-not-size_ok.false
 
-roots_are : (c : tie.After-root-count) → c.root-count.result ≡ root_count c.before.before.before.before.before.args.w c.before.before.before.before.before.args.h
-roots_are c = roots_told _ _ _ (size_told c.before) c.root-count.ensures
+roots_are : (c : tie.After-root_count) → c.root_count.result ≡ root_count c.args.w c.args.h
+roots_are c = roots_told _ _ _ (size_told c.before) c.root_count.ensures
 
-mapped : (c : tie.Else2) → Mapped c.before.before.before.before.before.before.args.w c.before.before.before.before.before.before.args.h
-    (length c.before.before.before.before.before.before.args.splits.now)
-mapped c = record { size = size_told c.before.before; bytes = c.if2.false ∙ ap (λ (n : ℕ). 1024 * n) (roots_are c.before) }
+mapped : (c : tie.Else-splits-root_count) → Mapped c.args.w c.args.h
+    (length c.args.splits.now)
+mapped c = record { size = size_told c.before.before; bytes = c.if-splits-root_count.false ∙ ap (λ (n : ℕ). 1024 * n) (roots_are c.before) }
 
-returns : tie.Need-returns
+returns : tie.Need-returns-then-not-size_ok
 unfolding put-call.check
-returns c = put_refused _ Size (stops _ _ _ _ c.before.Size-ok.ensures c.if1.true)
+returns c = put_refused _ Size (stops _ _ _ _ c.size_ok.ensures c.if-not-size_ok.true-raw)
 
-mul_if2 : tie.Need-overflow-mul-if2
+mul_if2 : tie.Need-overflow_mul-root_count
 mul_if2 c = omega (arith, roots_are c, few_of _ _ (size_told c.before))
 
-returns-2 : tie.Need-returns-2
+returns-2 : tie.Need-returns-then-splits-root_count
 unfolding put-call.check
 returns-2 c =
     put_refused _ Length
-    (goes_on _ _ _ _ _ c.before.before.before.Size-ok.ensures c.before.before.if1.false
-    (at_refusal _ _ _ (ne_eqb _ _ (λ e. c.if2.true (e ∙ ap (λ (n : ℕ). 1024 * n) (sym (roots_are c.before)))))))
+    (goes_on _ _ _ _ _ c.size_ok.ensures c.if-not-size_ok.false-raw
+    (at_refusal _ _ _ (ne_eqb _ _ (λ e. c.if-splits-root_count.true (e ∙ ap (λ (n : ℕ). 1024 * n) (sym (roots_are c.before)))))))
 
-put_counted_requires : tie.Need-put-counted-requires
+put_counted_requires : tie.Need-put_counted-requires
 put_counted_requires c κs =
-    let a = c.before.before.before.before.before.before.before.before.before.before.before.args in
-    let k = counted_done _ _ (picture_walk a.splits.now (a.w / 4) (a.h / 4)).answer (sym c.before.before.n.given.1 ∙ c.before.before.before.before.map-digits.ensures) in
-    record { mapped = mapped c.before.before.before.before.before; done = k.0; count = k.1 }
+    let a = c.args in
+    let k = counted_done _ _ (picture_walk a.splits.now (a.w / 4) (a.h / 4)).answer (sym c.in-Done.is ∙ c.map_digits.ensures) in
+    record { mapped = mapped c.before.before.before; done = k.0; count = k.1 }
 
-returns-3 : tie.Need-returns-3
-returns-3 c = put_stopped _ (mapped c.before.before.before.before) _ (counted_refused _ _ _ (sym c.before.r.given.1 ∙ c.before.before.before.map-digits.ensures))
+returns-3 : tie.Need-returns-in-Refused
+returns-3 c = put_stopped _ (mapped c.before.before) _ (counted_refused _ _ _ (sym c.in-Refused.is ∙ c.map_digits.ensures))
 
 pub put_map_spec : {M : Type 1} → statement M
 put_map_spec =
@@ -67,4 +67,4 @@ put_map_spec =
     put_counted_requires
     returns-3
     (λ c. search rules)
-    (λ c. c.before.before.put-counted.ensures))
+    (λ c. c.put_counted.ensures))

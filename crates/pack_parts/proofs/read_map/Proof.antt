@@ -131,7 +131,7 @@ module _ {M : Type 1} {𝓤 : Ura M} (𝓛 : Logic 𝓤) (at_mem : Memory → SP
   to_get = (((κ', (κ'', tt)), (q', (q'', tt)), tt, (wide, (high, (h.src, (h.at, (d, tt))))), (vint w64 wide ∷ [], (vint w64 high ∷ [], (sv ∷ [], (vint w64 h.at ∷ [], (dv ∷ [], tt)))))), tt)
 
   goes : h.at < 2 ^ 64 → ent 𝓤 (sep 𝓤 (sep 𝓤 (A.lft κ' q') (sep 𝓤 (A.lft κ'' q'') (sem 𝓛 ftrue)))
-      (sep 𝓤 (sem 𝓛 ((ShrSlice (named 1) κ' u8).own_val h.src (sv ∷ []))) (sem 𝓛 (D.own d (dv ∷ []))))) ((Get 𝓛 at_mem run).pre to_get)
+      (sep 𝓤 (sem 𝓛 ((ShrSlice (named 1) κ' u8).own_val h.src (sv ∷ []))) (sem 𝓛 (D.own d (dv ∷ []))))) ((Get 𝓛 at_mem run).requires to_get)
   goes n_fits =
       qed 𝓛 ((‵ (flft κ' q') ⊛ ‵ (flft κ'' q'') ⊛ ‵ ftrue) ∷ ‵ ((ShrSlice (named 1) κ' u8).own_val h.src (sv ∷ [])) ∷ ‵ (D.own d (dv ∷ [])) ∷ []) ∵
       nothing ! $ move ! (3 ∷ 0 ∷ []) $ fjoin ! $ owned ! usize (Is usize) (uint_Makes 𝓛 w64) h.at _ (refl, n_fits) $ fjoin ! $ move ! (2 ∷ 0 ∷ []) $ fjoin ! $
@@ -195,7 +195,7 @@ module _ {M : Type 1} {𝓤 : Ura M} (𝓛 : Logic 𝓤) (at_mem : Memory → SP
         move ! (1 ∷ []) $ use1 𝓛 (‵ (R.own h (T'.lowered h ∷ [])) ⊛ ‵ (R.own h (T'.lowered h ∷ []))) ((LL.copy (T.the_type α) (T'.the_copy α) 𝓛).twice h (T'.lowered h ∷ [])) $ split ! $
         use1 𝓛 (given (T'.lowered h ∷ [] ≡ T'.lowered h ∷ []) (‵ (all_own (T.the_type α).parts (T'.the_laws α) (h.src, (h.at, tt)))))
         (own_open 𝓛 (T.the_type α) (T'.the_laws α) (h.src, (h.at, tt)) (T'.lowered h)) $ learn ! (λ _. fsplit ! $ move ! (1 ∷ []) $ drop ! $
-        move ! (7 ∷ []) $ fsplit ! $ drop ! $ fsplit ! $ drop ! $ fsplit ! $ move ! (8 ∷ 2 ∷ 0 ∷ []) $ use3 𝓛 (raw ((Get 𝓛 at_mem run).pre to_get)) (goes (n_fits g)) $
+        move ! (7 ∷ []) $ fsplit ! $ drop ! $ fsplit ! $ drop ! $ fsplit ! $ move ! (8 ∷ 2 ∷ 0 ∷ []) $ use3 𝓛 (raw ((Get 𝓛 at_mem run).requires to_get)) (goes (n_fits g)) $
         -- [what get_map asks; true; what a Reader owns; the struct's cell; the open borrow; obs; auth; _7; …]
         calls_at ! fm (Get 𝓛 at_mem run) known to_get
         (and_then ! (load ! (from ! (stop !)) (look ! 21 refl))
@@ -262,4 +262,4 @@ read_map_spec 𝓤 𝓛 𝓜 𝓡 =
     entered 𝓤 𝓛.H (triple_of 𝓛 read.signature (read.spec 𝓛 𝓜.mem 𝓡.run))
     (tables 𝓤 𝓛.H 𝓜 𝓡 code.env).C (tables 𝓤 𝓛.H 𝓜 𝓡 code.env).Λ #pack_parts·read-map code.function (code.unfolded 𝓤 𝓛.H 𝓜 𝓡)
     (read_map_meets 𝓛 𝓜.mem 𝓡.run (tables_of 𝓤 𝓛.H 𝓜 (tables 𝓤 𝓛.H 𝓜 𝓡 code.env))
-    (cited 𝓤 𝓛.H (Get 𝓛 𝓜.mem 𝓡.run) 𝓜 𝓡 code.env #unpack·get-map get_def.routine code.calls-unpack::get-map (get_thm.met 𝓤 𝓛 𝓜 𝓡)))
+    (cited 𝓤 𝓛.H (Get 𝓛 𝓜.mem 𝓡.run) 𝓜 𝓡 code.env #unpack·get-map get_def.routine code.calls_unpack::get-map (get_thm.met 𝓤 𝓛 𝓜 𝓡)))

@@ -143,7 +143,7 @@ module _ {M : Type 1} {𝓤 : Ura M} (𝓛 : Logic 𝓤) (at_mem : Memory → SP
 
   goes : n < 2 ^ 64 → (ν : ℕ) (δ : GName) → ent 𝓤 (sep 𝓤 (A.lft (ν ∷ []) full_share)
       (sep 𝓤 (sem 𝓛 ((MutSlice (named 0) (ν ∷ []) u8).own_val (x δ ys) (s ∷ [])))
-      (sep 𝓤 (sep 𝓤 (A.lft κ'' q'') (sem 𝓛 ftrue)) (sem 𝓛 (D.own d (dv ∷ [])))))) ((Put 𝓛 at_mem run).pre (to_put ν δ))
+      (sep 𝓤 (sep 𝓤 (A.lft κ'' q'') (sem 𝓛 ftrue)) (sem 𝓛 (D.own d (dv ∷ [])))))) ((Put 𝓛 at_mem run).requires (to_put ν δ))
   goes n_fits ν δ =
       qed 𝓛 (‵ (flft (ν ∷ []) full_share) ∷ ‵ ((MutSlice (named 0) (ν ∷ []) u8).own_val (x δ ys) (s ∷ [])) ∷ ((‵ (flft κ'' q'') ⊛ ‵ ftrue) ⊛ ‵ (D.own d (dv ∷ []))) ∷ []) ∵
       move ! (2 ∷ []) $ split ! $ nothing ! $ owned ! usize (Is usize) (uint_Makes 𝓛 w64) n _ (refl, n_fits) $ fjoin ! $ move ! (4 ∷ 0 ∷ []) $ fjoin ! $ move ! (2 ∷ 0 ∷ []) $ fjoin ! $
@@ -213,7 +213,7 @@ module _ {M : Type 1} {𝓤 : Ura M} (𝓛 : Logic 𝓤) (at_mem : Memory → SP
         use2 𝓛 (later (some (λ (δ : GName). ‵ ((MutSlice (named 0) (ν ∷ []) u8).own_val (x δ ys) (s ∷ [])) ⊛ ‵ (LentAgain u8 κ' (ν ∷ []) q' γ' b' o' δ ys))))
         (lends_again u8 κ' (ν ∷ []) q' γ' b' o' 𝓛 (named 1) (named 0) ys) $ await ! tt $ pick ! (λ δ. split ! $
         -- [the slice; what its holder keeps; ν's token; the splits' token; what splits own, twice; true; ..]
-        move ! (3 ∷ 4 ∷ []) $ join ! $ move ! (3 ∷ 1 ∷ 0 ∷ []) $ use3 𝓛 (raw ((Put 𝓛 at_mem run).pre (to_put ν δ))) (goes (n_fits g) ν δ) $
+        move ! (3 ∷ 4 ∷ []) $ join ! $ move ! (3 ∷ 1 ∷ 0 ∷ []) $ use3 𝓛 (raw ((Put 𝓛 at_mem run).requires (to_put ν δ))) (goes (n_fits g) ν δ) $
         calls_at ! fm (Put 𝓛 at_mem run) known (to_put ν δ)
         (and_then ! (load ! (from ! (stop !)) (look ! 23 refl))
         (and_then ! (load ! (from ! (stop !)) (look ! 21 refl))
@@ -285,4 +285,4 @@ write_map_spec 𝓤 𝓛 𝓜 𝓡 =
     entered 𝓤 𝓛.H (triple_of 𝓛 write.signature (write.spec 𝓛 𝓜.mem 𝓡.run))
     (tables 𝓤 𝓛.H 𝓜 𝓡 code.env).C (tables 𝓤 𝓛.H 𝓜 𝓡 code.env).Λ #pack_parts·write-map code.function (code.unfolded 𝓤 𝓛.H 𝓜 𝓡)
     (write_map_meets 𝓛 𝓜.mem 𝓡.run (tables_of 𝓤 𝓛.H 𝓜 (tables 𝓤 𝓛.H 𝓜 𝓡 code.env))
-    (cited 𝓤 𝓛.H (Put 𝓛 𝓜.mem 𝓡.run) 𝓜 𝓡 code.env #pack·put-map put-def.routine code.calls-pack::put-map (put-thm.met 𝓤 𝓛 𝓜 𝓡)))
+    (cited 𝓤 𝓛.H (Put 𝓛 𝓜.mem 𝓡.run) 𝓜 𝓡 code.env #pack·put-map put-def.routine code.calls_pack::put-map (put-thm.met 𝓤 𝓛 𝓜 𝓡)))

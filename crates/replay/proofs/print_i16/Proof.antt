@@ -6,10 +6,10 @@ use lib.ListN.{length}
 use Rattle.replay.proofs.print_i16.Statement.{statement}
 use Rattle.replay.proofs.print_i16.Tie as tie
 
-abbrev invariant-loop : tie.invariant-loop
+abbrev invariant-loop : tie.invariant-loop-i
 invariant-loop values i₀ i-end i = (i-end ≡ length values) × (i ≤ i-end)
 
-abbrev decreases-loop : tie.decreases-loop
+abbrev decreases-loop : tie.decreases-loop-i
 decreases-loop values i₀ i-end i = i-end - i
 
 pub print_i16_spec : {M : Type 1} → statement M

@@ -35,17 +35,17 @@ size_above : (z : ℤ) → SFits w16 z → lt_z z (pos 0) ≡ false → Printed 
 size_above (pos n) f e = (tt, record { fits = omega (arith, f.sfits) })
 size_above (negsuc n) f e = absurd (let h : ◌≡◌ {A = ℕ} 0 1 = cc in omega arith)
 
-cast_wide : tie.Need-overflow-cast-wide
+cast_wide : tie.Need-overflow_cast-wide
 cast_wide c = rw (back w16 _ c.ranges.v) (wide c.ranges.v)
 
-sub_print_decimal : tie.Need-overflow-sub-print-decimal
-sub_print_decimal c = let f = c.before.before.before.ranges.v in rw (plain f) (below f)
+sub_print_decimal : tie.Need-overflow_sub-wide
+sub_print_decimal c = let f = c.ranges.v in rw (plain f) (below f)
 
-cast_print_decimal : tie.Need-overflow-cast-print-decimal
-cast_print_decimal c = let f = c.before.before.before.ranges.v in rw (plain f, back w32 _ (below f)) (size_below _ f (rw (plain f) at c.before.before.if1.true))
+cast_print_decimal : tie.Need-overflow_cast-wide-then-wide-lt0
+cast_print_decimal c = let f = c.ranges.v in rw (plain f, back w32 _ (below f)) (size_below _ f (rw (plain f) at c.if-wide-lt0.true))
 
-cast_print_decimal_2 : tie.Need-overflow-cast-print-decimal-2
-cast_print_decimal_2 c = let f = c.before.before.before.ranges.v in rw (plain f) (size_above _ f (rw (plain f) at c.before.before.if1.false))
+cast_print_decimal_2 : tie.Need-overflow_cast-wide-else-wide-lt0
+cast_print_decimal_2 c = let f = c.ranges.v in rw (plain f) (size_above _ f (rw (plain f) at c.if-wide-lt0.false))
 
 pub print_signed_spec : {M : Type 1} → statement M
 print_signed_spec =

@@ -6,7 +6,7 @@ use Rattle.laws.proofs.Widths.{sfits, back}
 use Rattle.replay.proofs.print_signed_byte.Statement.{statement}
 use Rattle.replay.proofs.print_signed_byte.Tie as tie
 
-cast_print_signed : tie.Need-overflow-cast-print-signed
+cast_print_signed : tie.Need-overflow_cast-v
 cast_print_signed c = let f = c.ranges.v in rw (back w8 _ f) (sfits w16 128 (omega (arith, f.sfits)) tt)
 
 pub print_signed_byte_spec : {M : Type 1} → statement M

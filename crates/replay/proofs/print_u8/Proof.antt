@@ -7,14 +7,14 @@ use lib.ListN.{length}
 use Rattle.replay.proofs.print_u8.Statement.{statement}
 use Rattle.replay.proofs.print_u8.Tie as tie
 
-abbrev invariant-loop : tie.invariant-loop
+abbrev invariant-loop : tie.invariant-loop-i
 invariant-loop values i₀ t3 i-end i = (i-end ≡ length values) × (i ≤ i-end) × (length t3 ≡ 1)
 
-abbrev decreases-loop : tie.decreases-loop
+abbrev decreases-loop : tie.decreases-loop-i
 decreases-loop values i₀ t3 i-end i = i-end - i
 
-cast_print_decimal : tie.Need-overflow-cast-print-decimal invariant-loop decreases-loop
-cast_print_decimal c = omega (arith, c.shared-slice-known2.given c.before.before.before.before.loop.i)
+cast_print_decimal : tie.Need-overflow_cast-values invariant-loop decreases-loop
+cast_print_decimal c = omega (arith, c.shared_slice_known-in-loop-i-1.given c.loop-i.i)
 
 pub print_u8_spec : {M : Type 1} → statement M
 print_u8_spec =

@@ -5,10 +5,10 @@ use lib.ListN.{length}
 use Rattle.replay_bands.proofs.every.Statement.{statement}
 use Rattle.replay_bands.proofs.every.Tie as tie
 
-abbrev invariant-loop : tie.invariant-loop
+abbrev invariant-loop : tie.invariant-loop-at
 invariant-loop s at₀ at = Unit {0}
 
-abbrev decreases-loop : tie.decreases-loop
+abbrev decreases-loop : tie.decreases-loop-at
 decreases-loop s at₀ at = length s - at
 
 pub every_spec : {M : Type 1} → statement M

@@ -4,19 +4,17 @@ use Rattle.cases.proofs.Fills.{part_long}
 use Rattle.replay_chroma_qp.proofs.one.Statement.{statement}
 use Rattle.replay_chroma_qp.proofs.one.Tie as tie
 
-slice_aggregate_tables : tie.Need-slice-aggregate-tables
-slice_aggregate_tables c = let p = c.before.before.before.before.before.before.before.before.before.before.before.before.before.before in
-    part_long _ _ _ _ p.slice-i8.ensures.len p.slice-i8.auto.1.1.0
+slice_aggregate_tables : tie.Need-slice_bounds-tables-end
+slice_aggregate_tables c = part_long _ _ _ _ c.slice_i8-pa0.ensures.len c.slice_i8-pa0.auto.room
 
-slice_aggregate_tables_2 : tie.Need-slice-aggregate-tables-2
-slice_aggregate_tables_2 c = let p = c.before.before.before.before.before.before.before.before.before.before.before.before in
-    part_long _ _ _ _ p.slice-i82.ensures.len p.slice-i82.auto.1.1.0
+slice_aggregate_tables_2 : tie.Need-slice_bounds-tables-end-2
+slice_aggregate_tables_2 c = part_long _ _ _ _ c.slice_i8-pb0.ensures.len c.slice_i8-pb0.auto.room
 
-slice_aggregate_tables_3 : tie.Need-slice-aggregate-tables-3
-slice_aggregate_tables_3 c = let p = c.before.before.before.before.before.before.before.before.before in part_long _ _ _ _ p.slice-i83.ensures.len p.slice-i83.auto.1.1.0
+slice_aggregate_tables_3 : tie.Need-slice_bounds-tables-end-3
+slice_aggregate_tables_3 c = part_long _ _ _ _ c.slice_i8-pa1.ensures.len c.slice_i8-pa1.auto.room
 
-slice_aggregate_tables_4 : tie.Need-slice-aggregate-tables-4
-slice_aggregate_tables_4 c = let p = c.before.before.before.before.before.before.before in part_long _ _ _ _ p.slice-i84.ensures.len p.slice-i84.auto.1.1.0
+slice_aggregate_tables_4 : tie.Need-slice_bounds-tables-end-4
+slice_aggregate_tables_4 c = part_long _ _ _ _ c.slice_i8-pb1.ensures.len c.slice_i8-pb1.auto.room
 
 pub one_spec : {M : Type 1} → statement M
 one_spec =

@@ -4,11 +4,11 @@ use Rattle.cases.proofs.Fills.{part_long}
 use Rattle.replay_chroma_qp.proofs.tables.Statement.{statement}
 use Rattle.replay_chroma_qp.proofs.tables.Tie as tie
 
-slice_aggregate_derived : tie.Need-slice-aggregate-derived
-slice_aggregate_derived c = let p = c.before.before.before.before.before in part_long _ _ _ _ p.slice-i8.ensures.len p.slice-i8.auto.1.1.0
+slice_aggregate_derived : tie.Need-slice_bounds-derived-end
+slice_aggregate_derived c = part_long _ _ _ _ c.slice_i8-pt0.ensures.len c.slice_i8-pt0.auto.room
 
-slice_aggregate_derived_2 : tie.Need-slice-aggregate-derived-2
-slice_aggregate_derived_2 c = let p = c.before.before.before in part_long _ _ _ _ p.slice-i82.ensures.len p.slice-i82.auto.1.1.0
+slice_aggregate_derived_2 : tie.Need-slice_bounds-derived-end-2
+slice_aggregate_derived_2 c = part_long _ _ _ _ c.slice_i8-pt1.ensures.len c.slice_i8-pt1.auto.room
 
 pub tables_spec : {M : Type 1} → statement M
 tables_spec =

@@ -4,8 +4,8 @@ use Rattle.cases.proofs.Fills.{part_long}
 use Rattle.replay_deblock.proofs.by_rows.Statement.{statement}
 use Rattle.replay_deblock.proofs.by_rows.Tie as tie
 
-slice_aggregate_deblock_by_rows : tie.Need-slice-aggregate-deblock-by-rows
-slice_aggregate_deblock_by_rows c = let p = c.before.before.before.before.before.before in part_long _ _ _ _ p.slice-u8.ensures.len p.slice-u8.auto.1.1.0
+slice_aggregate_deblock_by_rows : tie.Need-slice_bounds-deblock_by_rows-end
+slice_aggregate_deblock_by_rows c = part_long _ _ _ _ c.slice_u8-p.ensures.len c.slice_u8-p.auto.room
 
 pub by_rows_spec : {M : Type 1} → statement M
 by_rows_spec =

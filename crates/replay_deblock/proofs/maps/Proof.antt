@@ -4,20 +4,17 @@ use Rattle.cases.proofs.Fills.{part_long}
 use Rattle.replay_deblock.proofs.maps.Statement.{statement}
 use Rattle.replay_deblock.proofs.maps.Tie as tie
 
-slice_aggregate_tables : tie.Need-slice-aggregate-tables
-slice_aggregate_tables c = let p = c.before.before.before.before.before.before.before.before.before.before.before.before.before.before.before in
-    part_long _ _ _ _ p.slice-u8.ensures.len p.slice-u8.auto.1.1.0
+slice_aggregate_tables : tie.Need-slice_bounds-tables-end
+slice_aggregate_tables c = part_long _ _ _ _ c.slice_u8-ps.ensures.len c.slice_u8-ps.auto.room
 
-slice_aggregate_tables_2 : tie.Need-slice-aggregate-tables-2
-slice_aggregate_tables_2 c = let p = c.before.before.before.before.before.before.before.before.before.before.before.before.before in
-    part_long _ _ _ _ p.slice-i16.ensures.len p.slice-i16.auto.1.1.0
+slice_aggregate_tables_2 : tie.Need-slice_bounds-tables-end-2
+slice_aggregate_tables_2 c = part_long _ _ _ _ c.slice_i16-pm.ensures.len c.slice_i16-pm.auto.room
 
-slice_aggregate_tables_3 : tie.Need-slice-aggregate-tables-3
-slice_aggregate_tables_3 c = let p = c.before.before.before.before.before.before.before.before.before.before.before in
-    part_long _ _ _ _ p.slice-i8.ensures.len p.slice-i8.auto.1.1.0
+slice_aggregate_tables_3 : tie.Need-slice_bounds-tables-end-3
+slice_aggregate_tables_3 c = part_long _ _ _ _ c.slice_i8-pr.ensures.len c.slice_i8-pr.auto.room
 
-slice_aggregate_tables_4 : tie.Need-slice-aggregate-tables-4
-slice_aggregate_tables_4 c = let p = c.before.before.before.before.before.before.before.before.before in part_long _ _ _ _ p.slice-u82.ensures.len p.slice-u82.auto.1.1.0
+slice_aggregate_tables_4 : tie.Need-slice_bounds-tables-end-4
+slice_aggregate_tables_4 c = part_long _ _ _ _ c.slice_u8-pk.ensures.len c.slice_u8-pk.auto.room
 
 pub maps_spec : {M : Type 1} → statement M
 maps_spec =

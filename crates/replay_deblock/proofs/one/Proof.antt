@@ -4,18 +4,17 @@ use Rattle.cases.proofs.Fills.{part_long}
 use Rattle.replay_deblock.proofs.one.Statement.{statement}
 use Rattle.replay_deblock.proofs.one.Tie as tie
 
-slice_aggregate_maps : tie.Need-slice-aggregate-maps
-slice_aggregate_maps c = let p = c.before.before.before.before.before.before.before.before.before.before.before in
-    part_long _ _ _ _ p.slice-u16.ensures.len p.slice-u16.auto.1.1.0
+slice_aggregate_maps : tie.Need-slice_bounds-maps-end
+slice_aggregate_maps c = part_long _ _ _ _ c.slice_u16-py.ensures.len c.slice_u16-py.auto.room
 
-slice_aggregate_maps_2 : tie.Need-slice-aggregate-maps-2
-slice_aggregate_maps_2 c = let p = c.before.before.before.before.before.before.before.before.before in part_long _ _ _ _ p.slice-u162.ensures.len p.slice-u162.auto.1.1.0
+slice_aggregate_maps_2 : tie.Need-slice_bounds-maps-end-2
+slice_aggregate_maps_2 c = part_long _ _ _ _ c.slice_u16-pu.ensures.len c.slice_u16-pu.auto.room
 
-slice_aggregate_maps_3 : tie.Need-slice-aggregate-maps-3
-slice_aggregate_maps_3 c = let p = c.before.before.before.before.before.before.before in part_long _ _ _ _ p.slice-u163.ensures.len p.slice-u163.auto.1.1.0
+slice_aggregate_maps_3 : tie.Need-slice_bounds-maps-end-3
+slice_aggregate_maps_3 c = part_long _ _ _ _ c.slice_u16-pv.ensures.len c.slice_u16-pv.auto.room
 
-slice_aggregate_maps_4 : tie.Need-slice-aggregate-maps-4
-slice_aggregate_maps_4 c = let p = c.before.before.before.before.before in part_long _ _ _ _ p.slice-u32.ensures.len p.slice-u32.auto.1.1.0
+slice_aggregate_maps_4 : tie.Need-slice_bounds-maps-end-4
+slice_aggregate_maps_4 c = part_long _ _ _ _ c.slice_u32-pw.ensures.len c.slice_u32-pw.auto.room
 
 pub one_spec : {M : Type 1} → statement M
 one_spec =

@@ -4,16 +4,14 @@ use Rattle.cases.proofs.Fills.{part_long}
 use Rattle.replay_deblock.proofs.tables.Statement.{statement}
 use Rattle.replay_deblock.proofs.tables.Tie as tie
 
-slice_aggregate_deblocked : tie.Need-slice-aggregate-deblocked
-slice_aggregate_deblocked c = let p = c.before.before.before.before.before.before.before.before.before.before.before.before in
-    part_long _ _ _ _ p.slice-i8.ensures.len p.slice-i8.auto.1.1.0
+slice_aggregate_deblocked : tie.Need-slice_bounds-deblocked-end
+slice_aggregate_deblocked c = part_long _ _ _ _ c.slice_i8-p0.ensures.len c.slice_i8-p0.auto.room
 
-slice_aggregate_deblocked_2 : tie.Need-slice-aggregate-deblocked-2
-slice_aggregate_deblocked_2 c = let p = c.before.before.before.before.before.before.before.before.before.before in
-    part_long _ _ _ _ p.slice-i82.ensures.len p.slice-i82.auto.1.1.0
+slice_aggregate_deblocked_2 : tie.Need-slice_bounds-deblocked-end-2
+slice_aggregate_deblocked_2 c = part_long _ _ _ _ c.slice_i8-p1.ensures.len c.slice_i8-p1.auto.room
 
-slice_aggregate_deblocked_3 : tie.Need-slice-aggregate-deblocked-3
-slice_aggregate_deblocked_3 c = let p = c.before.before.before.before.before.before.before.before in part_long _ _ _ _ p.slice-u8.ensures.len p.slice-u8.auto.1.1.0
+slice_aggregate_deblocked_3 : tie.Need-slice_bounds-deblocked-end-3
+slice_aggregate_deblocked_3 c = part_long _ _ _ _ c.slice_u8-ps.ensures.len c.slice_u8-ps.auto.room
 
 pub tables_spec : {M : Type 1} → statement M
 tables_spec =

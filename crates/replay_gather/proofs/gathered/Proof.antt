@@ -4,8 +4,8 @@ use Rattle.cases.proofs.Fills.{part_long}
 use Rattle.replay_gather.proofs.gathered.Statement.{statement}
 use Rattle.replay_gather.proofs.gathered.Tie as tie
 
-slice_aggregate_filled : tie.Need-slice-aggregate-filled
-slice_aggregate_filled c = let p = c.before.before.before in part_long _ _ _ _ p.slice-u16.ensures.len p.slice-u16.auto.1.1.0
+slice_aggregate_filled : tie.Need-slice_bounds-filled-end
+slice_aggregate_filled c = part_long _ _ _ _ c.slice_u16-pr.ensures.len c.slice_u16-pr.auto.room
 
 pub gathered_spec : {M : Type 1} → statement M
 gathered_spec =

@@ -4,11 +4,11 @@ use Rattle.cases.proofs.Fills.{part_long}
 use Rattle.replay_gather.proofs.one.Statement.{statement}
 use Rattle.replay_gather.proofs.one.Tie as tie
 
-slice_aggregate_gathered : tie.Need-slice-aggregate-gathered
-slice_aggregate_gathered c = let p = c.before.before.before.before.before.before in part_long _ _ _ _ p.slice-u16.ensures.len p.slice-u16.auto.1.1.0
+slice_aggregate_gathered : tie.Need-slice_bounds-gathered-end
+slice_aggregate_gathered c = part_long _ _ _ _ c.slice_u16-pp.ensures.len c.slice_u16-pp.auto.room
 
-slice_aggregate_gathered_2 : tie.Need-slice-aggregate-gathered-2
-slice_aggregate_gathered_2 c = let p = c.before.before.before.before in part_long _ _ _ _ p.slice-u32.ensures.len p.slice-u32.auto.1.1.0
+slice_aggregate_gathered_2 : tie.Need-slice_bounds-gathered-end-2
+slice_aggregate_gathered_2 c = part_long _ _ _ _ c.slice_u32-pw.ensures.len c.slice_u32-pw.auto.room
 
 pub one_spec : {M : Type 1} → statement M
 one_spec =

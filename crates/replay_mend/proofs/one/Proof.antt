@@ -4,14 +4,14 @@ use borrow.Author.Rules.{rules}
 use Rattle.replay_mend.proofs.one.Statement.{statement}
 use Rattle.replay_mend.proofs.one.Tie as tie
 
-slice_aggregate_mended : tie.Need-slice-aggregate-mended
-slice_aggregate_mended c = let p = c.before.before.before.before.before.before.before.before in part_long _ _ _ _ p.slice-u8.ensures.len p.slice-u8.auto.1.1.0
+slice_aggregate_mended : tie.Need-slice_bounds-mended-end
+slice_aggregate_mended c = part_long _ _ _ _ c.slice_u8-ps.ensures.len c.slice_u8-ps.auto.room
 
-slice_aggregate_mended_2 : tie.Need-slice-aggregate-mended-2
-slice_aggregate_mended_2 c = let p = c.before.before.before.before.before.before in part_long _ _ _ _ p.slice-u82.ensures.len p.slice-u82.auto.1.1.0
+slice_aggregate_mended_2 : tie.Need-slice_bounds-mended-end-2
+slice_aggregate_mended_2 c = part_long _ _ _ _ c.slice_u8-po.ensures.len c.slice_u8-po.auto.room
 
-slice_aggregate_mended_3 : tie.Need-slice-aggregate-mended-3
-slice_aggregate_mended_3 c = let p = c.before.before.before.before in part_long _ _ _ _ p.slice-u16.ensures.len p.slice-u16.auto.1.1.0
+slice_aggregate_mended_3 : tie.Need-slice_bounds-mended-end-3
+slice_aggregate_mended_3 c = part_long _ _ _ _ c.slice_u16-pl.ensures.len c.slice_u16-pl.auto.room
 
 pub one_spec : {M : Type 1} → statement M
 one_spec =

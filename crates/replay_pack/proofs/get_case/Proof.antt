@@ -4,11 +4,11 @@ use borrow.Author.Rules.{rules}
 use Rattle.replay_pack.proofs.get_case.Statement.{statement}
 use Rattle.replay_pack.proofs.get_case.Tie as tie
 
-slice_aggregate_get : tie.Need-slice-aggregate-get
-slice_aggregate_get c = let p = c.before.before.before.before.before.before in part_long _ _ _ _ p.slice-u8.ensures.len p.slice-u8.auto.1.1.0
+slice_aggregate_get : tie.Need-slice_bounds-get-end
+slice_aggregate_get c = part_long _ _ _ _ c.slice_u8-ps.ensures.len c.slice_u8-ps.auto.room
 
-slice_aggregate_get_2 : tie.Need-slice-aggregate-get-2
-slice_aggregate_get_2 c = let p = c.before.before.before in part_long _ _ _ _ p.slice-u82.ensures.len p.slice-u82.auto.1.1.0
+slice_aggregate_get_2 : tie.Need-slice_bounds-get-end-2
+slice_aggregate_get_2 c = part_long _ _ _ _ c.slice_u8-pm.ensures.len c.slice_u8-pm.auto.room
 
 pub get_case_spec : {M : Type 1} → statement M
 get_case_spec =

@@ -4,11 +4,11 @@ use borrow.Author.Rules.{rules}
 use Rattle.replay_pack.proofs.put_case.Statement.{statement}
 use Rattle.replay_pack.proofs.put_case.Tie as tie
 
-slice_aggregate_put : tie.Need-slice-aggregate-put
-slice_aggregate_put c = let p = c.before.before.before.before.before.before in part_long _ _ _ _ p.slice-u8.ensures.len p.slice-u8.auto.1.1.0
+slice_aggregate_put : tie.Need-slice_bounds-put-end
+slice_aggregate_put c = part_long _ _ _ _ c.slice_u8-ps.ensures.len c.slice_u8-ps.auto.room
 
-slice_aggregate_put_2 : tie.Need-slice-aggregate-put-2
-slice_aggregate_put_2 c = let p = c.before.before.before.before in part_long _ _ _ _ p.slice-u82.ensures.len p.slice-u82.auto.1.1.0
+slice_aggregate_put_2 : tie.Need-slice_bounds-put-end-2
+slice_aggregate_put_2 c = part_long _ _ _ _ c.slice_u8-pb.ensures.len c.slice_u8-pb.auto.room
 
 pub put_case_spec : {M : Type 1} → statement M
 put_case_spec =

@@ -4,11 +4,11 @@ use Rattle.cases.proofs.Fills.{part_long}
 use Rattle.replay_predict.proofs.one.Statement.{statement}
 use Rattle.replay_predict.proofs.one.Tie as tie
 
-slice_aggregate_predicted : tie.Need-slice-aggregate-predicted
-slice_aggregate_predicted c = let p = c.before.before.before.before.before.before in part_long _ _ _ _ p.slice-u16.ensures.len p.slice-u16.auto.1.1.0
+slice_aggregate_predicted : tie.Need-slice_bounds-predicted-end
+slice_aggregate_predicted c = part_long _ _ _ _ c.slice_u16-pr.ensures.len c.slice_u16-pr.auto.room
 
-slice_aggregate_predicted_2 : tie.Need-slice-aggregate-predicted-2
-slice_aggregate_predicted_2 c = let p = c.before.before.before.before in part_long _ _ _ _ p.slice-u162.ensures.len p.slice-u162.auto.1.1.0
+slice_aggregate_predicted_2 : tie.Need-slice_bounds-predicted-end-2
+slice_aggregate_predicted_2 c = part_long _ _ _ _ c.slice_u16-pb.ensures.len c.slice_u16-pb.auto.room
 
 pub one_spec : {M : Type 1} → statement M
 one_spec =

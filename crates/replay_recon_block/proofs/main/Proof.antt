@@ -5,8 +5,8 @@ use lib.Seq.{length-take-le}
 use Rattle.replay_recon_block.proofs.main.Statement.{statement}
 use Rattle.replay_recon_block.proofs.main.Tie as tie
 
-slice_aggregate_every : tie.Need-slice-aggregate-every
-slice_aggregate_every c = sym (length-take-le _ _ c.before.before.load.ensures)
+slice_aggregate_every : tie.Need-slice_bounds-every-end
+slice_aggregate_every c = sym (length-take-le _ _ c.load-n.ensures)
 
 pub main_spec : {M : Type 1} → statement M
 main_spec =

@@ -4,14 +4,14 @@ use Rattle.cases.proofs.Fills.{part_long}
 use Rattle.replay_recon_block.proofs.one.Statement.{statement}
 use Rattle.replay_recon_block.proofs.one.Tie as tie
 
-slice_aggregate_added : tie.Need-slice-aggregate-added
-slice_aggregate_added c = let p = c.before.before.before.before.before.before.before.before.before in part_long _ _ _ _ p.slice-u16.ensures.len p.slice-u16.auto.1.1.0
+slice_aggregate_added : tie.Need-slice_bounds-added-end
+slice_aggregate_added c = part_long _ _ _ _ c.slice_u16-pp.ensures.len c.slice_u16-pp.auto.room
 
-slice_aggregate_added_2 : tie.Need-slice-aggregate-added-2
-slice_aggregate_added_2 c = let p = c.before.before.before.before.before.before.before in part_long _ _ _ _ p.slice-i16.ensures.len p.slice-i16.auto.1.1.0
+slice_aggregate_added_2 : tie.Need-slice_bounds-added-end-2
+slice_aggregate_added_2 c = part_long _ _ _ _ c.slice_i16-pc.ensures.len c.slice_i16-pc.auto.room
 
-slice_aggregate_added_3 : tie.Need-slice-aggregate-added-3
-slice_aggregate_added_3 c = let p = c.before.before.before.before.before in part_long _ _ _ _ p.slice-u162.ensures.len p.slice-u162.auto.1.1.0
+slice_aggregate_added_3 : tie.Need-slice_bounds-added-end-3
+slice_aggregate_added_3 c = part_long _ _ _ _ c.slice_u16-pr.ensures.len c.slice_u16-pr.auto.room
 
 pub one_spec : {M : Type 1} → statement M
 one_spec =

@@ -4,19 +4,17 @@ use Rattle.cases.proofs.Fills.{part_long}
 use Rattle.replay_rows.proofs.motion_case.Statement.{statement}
 use Rattle.replay_rows.proofs.motion_case.Tie as tie
 
-slice_aggregate_moved : tie.Need-slice-aggregate-moved
-slice_aggregate_moved c = let p = c.before.before.before.before.before.before.before.before.before.before.before.before.before.before in
-    part_long _ _ _ _ p.slice-u32.ensures.len p.slice-u32.auto.1.1.0
+slice_aggregate_moved : tie.Need-slice_bounds-moved-end
+slice_aggregate_moved c = part_long _ _ _ _ c.slice_u32-pw.ensures.len c.slice_u32-pw.auto.room
 
-slice_aggregate_moved_2 : tie.Need-slice-aggregate-moved-2
-slice_aggregate_moved_2 c = let p = c.before.before.before.before.before.before.before.before.before.before.before.before in
-    part_long _ _ _ _ p.slice-i16.ensures.len p.slice-i16.auto.1.1.0
+slice_aggregate_moved_2 : tie.Need-slice_bounds-moved-end-2
+slice_aggregate_moved_2 c = part_long _ _ _ _ c.slice_i16-pm.ensures.len c.slice_i16-pm.auto.room
 
-slice_aggregate_moved_3 : tie.Need-slice-aggregate-moved-3
-slice_aggregate_moved_3 c = let p = c.before.before.before.before.before.before.before.before.before.before in part_long _ _ _ _ p.slice-i8.ensures.len p.slice-i8.auto.1.1.0
+slice_aggregate_moved_3 : tie.Need-slice_bounds-moved-end-3
+slice_aggregate_moved_3 c = part_long _ _ _ _ c.slice_i8-pr.ensures.len c.slice_i8-pr.auto.room
 
-slice_aggregate_moved_4 : tie.Need-slice-aggregate-moved-4
-slice_aggregate_moved_4 c = let p = c.before.before.before.before.before.before.before.before in part_long _ _ _ _ p.slice-u8.ensures.len p.slice-u8.auto.1.1.0
+slice_aggregate_moved_4 : tie.Need-slice_bounds-moved-end-4
+slice_aggregate_moved_4 c = part_long _ _ _ _ c.slice_u8-p.ensures.len c.slice_u8-p.auto.room
 
 pub motion_case_spec : {M : Type 1} → statement M
 motion_case_spec =

@@ -7,10 +7,10 @@ use Rattle.replay_sheet.proofs.replay.Statement.{statement}
 use Rattle.replay_sheet.proofs.replay.Tie as tie
 
 -- t5 is the line after a listing
-abbrev invariant-loop : tie.invariant-loop
+abbrev invariant-loop : tie.invariant-loop-at
 invariant-loop s out₀ at₀ t5 out at = (at ≤ length s) × (length t5 ≡ 3) × (length out ≡ length out₀)
 
-abbrev decreases-loop : tie.decreases-loop
+abbrev decreases-loop : tie.decreases-loop-at
 decreases-loop s out₀ at₀ t5 out at = length s - at
 
 pub replay_spec : {M : Type 1} → statement M

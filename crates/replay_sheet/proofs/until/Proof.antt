@@ -5,10 +5,10 @@ use lib.ListN.{length}
 use Rattle.replay_sheet.proofs.until.Statement.{statement}
 use Rattle.replay_sheet.proofs.until.Tie as tie
 
-abbrev invariant-loop : tie.invariant-loop
+abbrev invariant-loop : tie.invariant-loop-i
 invariant-loop s at i₀ i = (at ≤ i) × (i ≤ length s)
 
-abbrev decreases-loop : tie.decreases-loop
+abbrev decreases-loop : tie.decreases-loop-i
 decreases-loop s at i₀ i = length s - i
 
 pub until_spec : {M : Type 1} → statement M

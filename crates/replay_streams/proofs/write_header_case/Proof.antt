@@ -4,8 +4,8 @@ use Rattle.cases.proofs.Fills.{part_long}
 use Rattle.replay_streams.proofs.write_header_case.Statement.{statement}
 use Rattle.replay_streams.proofs.write_header_case.Tie as tie
 
-slice_aggregate_header_written : tie.Need-slice-aggregate-header-written
-slice_aggregate_header_written c = let p = c.before.before in part_long _ _ _ _ p.slice-u8.ensures.len p.slice-u8.auto.1.1.0
+slice_aggregate_header_written : tie.Need-slice_bounds-header_written-end
+slice_aggregate_header_written c = part_long _ _ _ _ c.slice_u8-p.ensures.len c.slice_u8-p.auto.room
 
 pub write_header_case_spec : {M : Type 1} → statement M
 write_header_case_spec =

@@ -7,11 +7,11 @@ use Rattle.row.proofs.Runs.{fits_test}
 use Rattle.row.proofs.fits.Statement.{statement}
 use Rattle.row.proofs.fits.Tie as tie
 
-returns : tie.Need-returns
-returns c = let a = c.before.args in sym (lt-leb (a.k + a.n) a.units (omega (arith, c.if1.true)))
+returns : tie.Need-returns-then-units-n
+returns c = let a = c.args in sym (lt-leb (a.k + a.n) a.units (omega (arith, c.if-units-n.true)))
 
-returns-2 : tie.Need-returns-2
-returns-2 c = let a = c.before.args in fits_test a.units a.k a.n (omega (arith, c.if1.false))
+returns-2 : tie.Need-returns
+returns-2 c = let a = c.args in fits_test a.units a.k a.n (omega (arith, c.if-units-n.false))
 
 pub fits_spec : {M : Type 1} → statement M
 fits_spec = tie.close (tie.spec returns returns-2)

@@ -11,40 +11,40 @@ use Rattle.row.proofs.Units.{alike}
 use Rattle.row.proofs.row_between.Statement.{statement}
 use Rattle.row.proofs.row_between.Tie as tie
 
-returns : tie.Need-returns
+returns : tie.Need-returns-then-get_if
 unfolding row_by
-returns c = (either_intra _ _ _ _ _ _ c.before.before.get-if.ensures c.before.get-if2.ensures c.if1.true, omega arith)
+returns c = (either_intra _ _ _ _ _ _ c.get_if.ensures c.get_if-2.ensures c.if-get_if.true, omega arith)
 
-returns-2 : tie.Need-returns-2
+returns-2 : tie.Need-returns-then-get_cbfl
 unfolding row_by
 returns-2 c = (
-  either_coded _ _ _ _ _ _ _ _ c.before.before.before.before.before.get-if.ensures c.before.before.before.before.get-if2.ensures
-      c.before.before.before.if1.false c.before.before.get-cbfl.ensures c.before.get-cbfl2.ensures c.if2.true,
+  either_coded _ _ _ _ _ _ _ _ c.get_if.ensures c.get_if-2.ensures
+      c.if-get_if.false c.get_cbfl.ensures c.get_cbfl-2.ensures c.if-get_cbfl.true,
   omega arith,
 )
 
 -- a row by motion, where neither unit is intra or luma-coded
-moved : (c : tie.Else2) (r : ℕ) →
-    let a = c.before.before.before.before.before.before.before.before.before.args in
+moved : (c : tie.Else-get_cbfl) (r : ℕ) →
+    let a = c.args in
     r ≡ motion_row (motion_at a.motion.now a.refs.now a.q) (motion_at a.motion.now a.refs.now a.p) →
     r ≡ row_by a.words.now a.motion.now a.refs.now a.q a.p
 unfolding row_by
 moved c r row =
-    by_motion _ _ _ _ _ _ _ _ _ c.before.before.before.before.before.get-if.ensures c.before.before.before.before.get-if2.ensures c.before.before.before.if1.false
-    c.before.before.get-cbfl.ensures c.before.get-cbfl2.ensures c.if2.false row
+    by_motion _ _ _ _ _ _ _ _ _ c.get_if.ensures c.get_if-2.ensures c.if-get_if.false
+    c.get_cbfl.ensures c.get_cbfl-2.ensures c.if-get_cbfl.false row
 
-returns-3 : tie.Need-returns-3
+returns-3 : tie.Need-returns-then-not-same_refs
 returns-3 c = (moved c.before.before.before _ c.by_motion.ensures.0, c.by_motion.ensures.1)
 
-returns-4 : tie.Need-returns-4
+returns-4 : tie.Need-returns-then-same_motion
 returns-4 c = (
   moved c.before.before.before.before _
-      (alike _ _ _ _ _ _ c.before.before.before.same-refs.ensures (not-false _ c.before.before.if3.false) c.before.same-motion.ensures c.if4.true),
+      (alike _ _ _ _ _ _ c.same_refs.ensures c.if-not-same_refs.false c.same_motion.ensures c.if-same_motion.true),
   omega arith,
 )
 
-returns-5 : tie.Need-returns-5
-returns-5 c = (moved c.before.before.before.before.before _ c.by-motion2.ensures.0, c.by-motion2.ensures.1)
+returns-5 : tie.Need-returns
+returns-5 c = (moved c.before.before.before.before.before _ c.by_motion-2.ensures.0, c.by_motion-2.ensures.1)
 
 pub row_between_spec : {M : Type 1} → statement M
 row_between_spec =

@@ -17,22 +17,19 @@ number {z} h = back w16 z (record { sfits = h })
 returns : tie.Need-returns
 unfolding same_motion
 returns c =
-    let third = c.before.before.before in
-    let second = third.before.before.before in
-    let first = second.before.before.before in
     rw (
-      first.same_number.ensures,
-      number first.before.before.same-number-arg.given,
-      number first.before.same-number-arg2.given,
-      second.same-number2.ensures,
-      number second.before.before.same-number-arg3.given,
-      number second.before.same-number-arg4.given,
-      third.same-number3.ensures,
-      number third.before.before.same-number-arg5.given,
-      number third.before.same-number-arg6.given,
-      c.same-number4.ensures,
-      number c.before.before.same-number-arg7.given,
-      number c.before.same-number-arg8.given,
+      c.same_number.ensures,
+      number c.same_number-arg-1.given,
+      number c.same_number-arg-2-1.given,
+      c.same_number-2.ensures,
+      number c.same_number-arg-3-1.given,
+      number c.same_number-arg-4-1.given,
+      c.same_number-3.ensures,
+      number c.same_number-arg-5-1.given,
+      number c.same_number-arg-6-1.given,
+      c.same_number-4.ensures,
+      number c.same_number-arg-7-1.given,
+      number c.same_number-arg-8-1.given,
     )
 
 pub same_motion_spec : {M : Type 1} → statement M

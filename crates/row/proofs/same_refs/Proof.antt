@@ -17,14 +17,13 @@ number {z} h = back w8 z (record { sfits = h })
 returns : tie.Need-returns
 unfolding same_refs
 returns c =
-    let first = c.before.before.before in
     rw (
-      first.same-ref.ensures,
-      number first.before.before.same-ref-arg.given,
-      number first.before.same-ref-arg2.given,
-      c.same-ref2.ensures,
-      number c.before.before.same-ref-arg3.given,
-      number c.before.same-ref-arg4.given,
+      c.same_ref.ensures,
+      number c.same_ref-arg-1.given,
+      number c.same_ref-arg-2-1.given,
+      c.same_ref-2.ensures,
+      number c.same_ref-arg-3-1.given,
+      number c.same_ref-arg-4-1.given,
     )
 
 pub same_refs_spec : {M : Type 1} → statement M

@@ -7,15 +7,15 @@ use Rattle.rows.proofs.fill_rows.Tie as tie
 
 fill_requires : tie.Need-fill-requires
 fill_requires c κs =
-    let s = c.before.before.before.before.before.before.args in
-    let a = maps_accepted s.w s.h s.words.now s.motion.now s.refs.now s.rows.now (sym c.before.before.before.checked-maps.ensures ∙ c.before.enum_told.given.1) in
+    let s = c.args in
+    let a = maps_accepted s.w s.h s.words.now s.motion.now s.refs.now s.rows.now (sym c.checked_maps.ensures ∙ c.in-Done.is) in
     (a.lent, a.rows_long)
 
-returns : tie.Need-returns
-returns c = fill_refused _ _ c.before.before.before.checked-maps.ensures _ c.before.r.given.1
+returns : tie.Need-returns-in-Refused
+returns c = fill_refused _ _ c.checked_maps.ensures _ c.in-Refused.is
 
-returns-2 : tie.Need-returns-2
-returns-2 c = fill_done _ _ c.before.before.before.before.before.before.checked-maps.ensures _ c.before.before.before.before.enum_told.given.1 c.before.before.fill.ensures
+returns-2 : tie.Need-returns-in-Done
+returns-2 c = fill_done _ _ c.checked_maps.ensures _ c.in-Done.is c.fill.ensures
 
 pub fill_rows_spec : {M : Type 1} → statement M
 fill_rows_spec = tie.close (tie.spec (λ c κs. search rules) (λ c. search rules) (λ c. search rules) fill_requires returns (λ c. search rules) returns-2)

@@ -6,13 +6,13 @@ use Rattle.rows_rules.specs.Checks.{lengths_ok}
 use Rattle.rows.proofs.lengths_ok.Statement.{statement}
 use Rattle.rows.proofs.lengths_ok.Tie as tie
 
-mul_n : tie.Need-overflow-mul-n
+mul_n : tie.Need-overflow_mul-n
 mul_n c = omega (arith, few_units c.args.w c.args.h c.requires.0 c.requires.1)
 
-mul_result : tie.Need-overflow-mul-result
+mul_result : tie.Need-overflow_mul-result
 mul_result c = omega (arith, few_units c.args.w c.args.h c.requires.0 c.requires.1)
 
-mul_result_2 : tie.Need-overflow-mul-result-2
+mul_result_2 : tie.Need-overflow_mul-result-2
 mul_result_2 c = omega (arith, few_units c.args.w c.args.h c.requires.0 c.requires.1)
 
 returns : tie.Need-returns

@@ -3,10 +3,10 @@ use Rattle.std.proofs.Common.{◌-◌, ◌≤◌, length, rules}
 use Rattle.say.proofs.line_of.Statement.{statement}
 use Rattle.say.proofs.line_of.Tie as tie
 
-abbrev invariant-loop : tie.invariant-loop
+abbrev invariant-loop : tie.invariant-loop-i
 invariant-loop lines n met₀ from₀ i₀ met from i = i ≤ length lines
 
-abbrev decreases-loop : tie.decreases-loop
+abbrev decreases-loop : tie.decreases-loop-i
 decreases-loop lines n met₀ from₀ i₀ met from i = length lines - i
 
 pub line_of_spec : {M : Type 1} → statement M

@@ -3,10 +3,10 @@ use Rattle.std.proofs.Common.{◌-◌, ◌≤◌, length, rules}
 use Rattle.say.proofs.put.Statement.{statement}
 use Rattle.say.proofs.put.Tie as tie
 
-abbrev invariant-loop : tie.invariant-loop
+abbrev invariant-loop : tie.invariant-loop-i
 invariant-loop fd text numbers met₀ from₀ i₀ met from i = i ≤ length text
 
-abbrev decreases-loop : tie.decreases-loop
+abbrev decreases-loop : tie.decreases-loop-i
 decreases-loop fd text numbers met₀ from₀ i₀ met from i = length text - i
 
 pub put_spec : {M : Type 1} → statement M

@@ -15,48 +15,48 @@ use Rattle.sheet.proofs.print_digits.Statement.{statement}
 use Rattle.sheet.proofs.print_digits.Tie as tie
 
 -- the sides passed
-sides : (c : tie.Else1) → let a = c.before.before.before.before.args in sides_ok a.w a.h ≡ true
-sides c = sym c.before.sides-ok.ensures ∙ not-false _ c.if1.false
+sides : (c : tie.Else-not-sides_ok) → let a = c.args in sides_ok a.w a.h ≡ true
+sides c = sym c.sides_ok.ensures ∙ c.if-not-sides_ok.false
 
 -- and the limit
-limited : (c : tie.Else2) → let a = c.before.before.before.before.before.args in limit_ok a.limit ≡ true
-limited c = limit_test _ ∙ not-false _ c.if2.false
+limited : (c : tie.Else-not-limit) → let a = c.args in limit_ok a.limit ≡ true
+limited c = limit_test _ ∙ c.if-not-limit.false
 
 -- the map has room for the roots
-room : (c : tie.After-map-room) → 1024 * c.before.root-count.result ≤ length c.map-room.result
-room c = omega (arith, c.before.root-count.ensures.1, c.map-room.ensures)
+room : (c : tie.After-map_room-map) → 1024 * c.root_count-n.result ≤ length c.map_room-map.result
+room c = omega (arith, c.root_count-n.ensures.1, c.map_room-map.ensures)
 
-returns : tie.Need-returns
+returns : tie.Need-returns-then-not-sides_ok
 returns c = starts_as (size_no _ _ _ _ _
-    (sym c.before.before.before.before.before.sides-ok.ensures ∙ not-true _ c.before.before.before.before.if1.true)) c.before.before.put-refusal.ensures
+    (sym c.sides_ok.ensures ∙ c.if-not-sides_ok.true)) c.put_refusal.ensures
 
-returns-2 : tie.Need-returns-2
+returns-2 : tie.Need-returns-then-not-limit
 returns-2 c =
     starts_as (limit_no _ _ _ _ (sides c.before.before.before.before.before) _
-    (limit_test _ ∙ not-true _ c.before.before.before.before.if2.true)) c.before.before.put-refusal2.ensures
+    (limit_test _ ∙ c.if-not-limit.true)) c.put_refusal-then-not-limit.ensures
 
-returns-3 : tie.Need-returns-3
+returns-3 : tie.Need-returns-then-old
 returns-3 c = starts_as (old_no _ _ _ _ (sides c.before.before.before.before.before.before) (limited c.before.before.before.before.before) _
-    c.before.before.before.before.if3.true) c.before.before.put-refusal3.ensures
+    c.if-old.true) c.put_refusal-then-old.ensures
 
-root_count_requires : tie.Need-root-count-requires
+root_count_requires : tie.Need-root_count-n-requires
 root_count_requires c κs = sided _ _ (sides c.before.before)
 
-print_tree_requires : tie.Need-print-tree-requires
+print_tree_requires : tie.Need-print_tree-requires
 print_tree_requires c κs =
-    let p = c.before.before.before.before.before.before.before.before.before.before.requires in (
+    let p = c.requires in (
       sides c.before.before.before.before.before.before,
       limited c.before.before.before.before.before,
       p.0,
       p.1,
-      length-take-le _ _ (room c.before.before) ∙ ap (λ (n : ℕ). 1024 * n) c.before.before.before.root-count.ensures.0,
+      length-take-le _ _ (room c.before.before) ∙ ap (λ (n : ℕ). 1024 * n) c.root_count-n.ensures.0,
       p.2,
     )
 
-returns-4 : tie.Need-returns-4
+returns-4 : tie.Need-returns
 returns-4 c = starts_as (not_old _ _ _ _ (sides c.before.before.before.before.before.before.before.before.before.before)
     (limited c.before.before.before.before.before.before.before.before.before) _
-    c.before.before.before.before.before.before.before.before.if3.false) c.before.before.before.print-tree.ensures
+    c.if-old.false) c.print_tree.ensures
 
 pub print_digits_spec : {M : Type 1} → statement M
 print_digits_spec =

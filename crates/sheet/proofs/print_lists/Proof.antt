@@ -7,40 +7,39 @@ use Rattle.sheet.proofs.print_lists.Statement.{statement}
 use Rattle.sheet.proofs.print_lists.Tie as tie
 
 -- what the call lists
-told : (c : tie.After-known-told2) → let s = c.before.before.before.before.before.before.before.before.before.before.before.before.before.before in
-    let l = c.before.before.before.before.before.before.before.list-edges.new.1.1.1.1 in
-    Printable s.args.w s.args.h s.args.limit s.args.map.now s.args.vertical.now s.args.horizontal.now s.requires.0 s.requires.1 s.requires.2
-    c.before.m.given.0.0 c.before.m.given.0.1.0 l.0 l.1.0
+told : (c : tie.In-Done) → let l = c.list_edges.new.1.1.1.1 in
+    Printable c.args.w c.args.h c.args.limit c.args.map.now c.args.vertical.now c.args.horizontal.now c.requires.0 c.requires.1 c.requires.2
+    c.in-Done.m c.in-Done.n l.0 l.1.0
 told c =
-    let p = c.before.before.before.before.before.before.before.before.before.before.before.before.before.before.requires in
+    let p = c.requires in
     printable _ _ _ _ _ _ p.0 p.1 p.2 _ _ _ _
-    (listed_both _ _ _ _ _ _ p.0 p.1 p.2 _ _ _ _ _ c.before.before.before.before.before.before.before.list-edges.ensures c.before.m.given.1)
+    (listed_both _ _ _ _ _ _ p.0 p.1 p.2 _ _ _ _ _ c.list_edges.ensures c.in-Done.is)
 
-cast_list_edges : tie.Need-overflow-cast-list-edges
-cast_list_edges c = let s = c.before.before.before.before in omega (arith, limit_small s.args.limit s.requires.0.limited)
+cast_list_edges : tie.Need-overflow_cast-limit
+cast_list_edges c = omega (arith, limit_small c.args.limit c.requires.0.limited)
 
-put_listing_requires : tie.Need-put-listing-requires
+put_listing_requires : tie.Need-put_listing-requires
 put_listing_requires c κs =
-    let t = told c.before.before.before in (
+    let t = told c.before in (
       t.first,
       t.second,
       omega (
         arith,
         t.room,
-        c.before.before.before.before.before.before.before.before.before.before.before.before.before.before.before.before.before.requires.3,
+        c.requires.3,
       ),
       t.few_first,
       t.few_second,
     )
 
-returns : tie.Need-returns
+returns : tie.Need-returns-in-Refused
 returns c =
-    let p = c.before.before.before.before.before.before.before.before.before.before.before.before.before.before.before.before.before.before.requires in
+    let p = c.requires in
     absurd (not_refused _ _ _ _ _ _ p.0 p.1 p.2 _ _ _ _
-    c.before.before.before.before.before.before.before.before.before.before.before.list-edges.ensures c.before.before.before.before.before.r.given.1)
+    c.list_edges.ensures c.in-Refused.is)
 
-returns-2 : tie.Need-returns-2
-returns-2 c = starts_as (told c.before.before.before.before.before.before).text c.before.before.put-listing.ensures
+returns-2 : tie.Need-returns-in-Done
+returns-2 c = starts_as (told c.before.before.before.before).text c.put_listing.ensures
 
 pub print_lists_spec : {M : Type 1} → statement M
 print_lists_spec =

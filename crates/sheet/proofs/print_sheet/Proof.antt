@@ -12,40 +12,39 @@ use Rattle.sheet.proofs.print_sheet.Statement.{statement}
 use Rattle.sheet.proofs.print_sheet.Tie as tie
 
 -- what the five lines say
-told : (c : tie.After-known-told2) → let g = c.before.w.given.0 in
-    Whole c.before.before.before.before.before.before.args.input.now g.0 g.1.0 g.1.1.0 g.1.1.1.0 g.1.1.1.1.0 g.1.1.1.1.1.0
-told c = whole_sheet_lem _ _ _ _ _ _ _ (sym (answer_is _ _ c.before.before.before.read.ensures) ∙ c.before.w.given.1)
+told : (c : tie.In-Read) → let g = c.w-1.given.0 in
+    Whole c.args.input.now g.0 g.1.0 g.1.1.0 g.1.1.1.0 g.1.1.1.1.0 g.1.1.1.1.1.0
+told c = whole_sheet_lem _ _ _ _ _ _ _ (sym (answer_is _ _ c.read.ensures) ∙ c.in-Read.is)
 
 -- the digits end among the first 4,096 bytes
 few : (from to : ℕ) (l : List ℕ) → to ≤ 4096 → length (take (to - from) l) ≤ 4096
 few from to l h = omega (arith, length-take (to - from) l)
 
-put_refusal_requires : tie.Need-put-refusal-requires
+put_refusal_requires : tie.Need-put_refusal-requires
 put_refusal_requires c κs =
-    let m = bad_line _ _ (sym (answer_is _ _ c.before.before.before.before.read.ensures) ∙ c.before.before.line.given.1) in
-    (omega (arith, m.small), omega (arith, c.before.before.before.before.before.before.before.requires))
+    let m = bad_line _ _ (sym (answer_is _ _ c.read.ensures) ∙ c.in-Malformed.is) in
+    (omega (arith, m.small), omega (arith, c.requires))
 
-sub_print_digits : tie.Need-overflow-sub-print-digits
+sub_print_digits : tie.Need-slice_bounds-print_digits-count
 sub_print_digits c = (told c).ordered
 
-part_print_digits_start : tie.Need-slice-bounds-print-digits-start
+part_print_digits_start : tie.Need-slice_bounds-print_digits-start
 part_print_digits_start c = (told c).ordered
 
-part_print_digits_end : tie.Need-slice-bounds-print-digits-end
+part_print_digits_end : tie.Need-slice_bounds-print_digits-end
 part_print_digits_end c = (told c).inside
 
-print_digits_requires : tie.Need-print-digits-requires
+print_digits_requires : tie.Need-print_digits-requires
 print_digits_requires c κs =
     let u = told c.before.before in
-    (u.two, few _ _ _ u.short, c.before.before.before.before.before.before.before.before.requires)
+    (u.two, few _ _ _ u.short, c.requires)
 
-returns : tie.Need-returns
+returns : tie.Need-returns-in-Malformed
 returns c =
-    let u = c.before.before.before.before.before in
-    starts_as (bad_sheet _ _ (bad_line _ _ (sym (answer_is _ _ u.before.before.read.ensures) ∙ u.line.given.1))) c.before.before.put-refusal.ensures
+    starts_as (bad_sheet _ _ (bad_line _ _ (sym (answer_is _ _ c.read.ensures) ∙ c.in-Malformed.is))) c.put_refusal.ensures
 
-returns-2 : tie.Need-returns-2
-returns-2 c = starts_as (good_sheet _ _ _ _ _ _ _ (told c.before.before.before.before.before)) c.before.before.print-digits.ensures
+returns-2 : tie.Need-returns-in-Read
+returns-2 c = starts_as (good_sheet _ _ _ _ _ _ _ (told c.before.before.before.before.before)) c.print_digits.ensures
 
 pub print_sheet_spec : {M : Type 1} → statement M
 print_sheet_spec =

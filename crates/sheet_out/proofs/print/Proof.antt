@@ -7,16 +7,16 @@ use Rattle.sheet.proofs.Outcomes.{text_fits}
 use Rattle.sheet_out.proofs.print.Statement.{statement}
 use Rattle.sheet_out.proofs.print.Tie as tie
 
-fits : tie.Need-slice-reshare-prefix-write-all
+fits : tie.Need-slice_bounds-write_all-end
 fits c =
-    let l = c.before.before.before.before.before.listing in
-    text_fits _ _ _ _ _ l.auto.1.0 l.ensures c.before.n.given.1
+    let l = c.listing in
+    text_fits _ _ _ _ _ l.auto.out l.ensures c.in-Done.is
 
-returns : tie.Need-returns
-returns c = ap (λ (o : Outcome). o.out) c.before.before.before.before.before.before.before.listing.ensures
+returns : tie.Need-returns-in-Done
+returns c = ap (λ (o : Outcome). o.out) c.listing.ensures
 
-returns-2 : tie.Need-returns-2
-returns-2 c = ap (λ (o : Outcome). o.out) c.before.before.before.before.listing.ensures
+returns-2 : tie.Need-returns-in-Refused
+returns-2 c = ap (λ (o : Outcome). o.out) c.listing.ensures
 
 pub print_spec : {M : Type 1} → statement M
 print_spec =

@@ -9,23 +9,18 @@ use Rattle.unit_edits.specs.Sides.{pass_of}
 use Rattle.unit_edits.proofs.edge_row.Statement.{statement}
 use Rattle.unit_edits.proofs.edge_row.Tie as tie
 
-returns : tie.Need-returns
-returns c = (no_edge _ _ _ _ _ _ _ c.before.before.requires.2 c.if1.true, omega arith)
+returns : tie.Need-returns-then-not-there
+returns c = (no_edge _ _ _ _ _ _ _ c.requires.2 c.if-not-there.true-raw, omega arith)
 
-sub_p : tie.Need-overflow-sub-p
+sub_p : tie.Need-overflow_sub-p
 sub_p c =
-    let branch = c.before in
-    let start = branch.before.before in
-    let there = sym start.requires.2 ∙ not-false _ branch.if1.false in
-    omega (arith, c.step_back.ensures, before (pass_of start.args.side) start.args.columns start.args.k there)
+    let there = sym c.requires.2 ∙ c.if-not-there.false in
+    omega (arith, c.step_back.ensures, before (pass_of c.args.side) c.args.columns c.args.k there)
 
-returns-2 : tie.Need-returns-2
+returns-2 : tie.Need-returns
 returns-2 c =
-    let stepped = c.before in
-    let branch = stepped.before in
-    let start = branch.before.before in
-    let p = start.requires in (
-      some_edge p.0 _ _ _ _ _ p.1 p.2 branch.if1.false (ap (λ (s : ℕ). start.args.k - s) stepped.step_back.ensures) c.row_at.ensures.0,
+    let p = c.requires in (
+      some_edge p.0 _ _ _ _ _ p.1 p.2 c.if-not-there.false-raw (ap (λ (s : ℕ). c.args.k - s) c.step_back.ensures) c.row_at.ensures.0,
       c.row_at.ensures.1,
     )
 

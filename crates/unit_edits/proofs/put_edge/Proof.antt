@@ -6,7 +6,7 @@ use Rattle.unit_edits.proofs.put_edge.Tie as tie
 
 returns : tie.Need-returns
 unfolding edge_put
-returns c = rw (c.with_row.ensures, c.before.before.edge_row.ensures.0)
+returns c = rw (c.with_row.ensures, c.edge_row-row.ensures.0)
 
 pub put_edge_spec : {M : Type 1} → statement M
 put_edge_spec = tie.close (tie.spec (λ c κs. search rules) (λ c. search rules) (λ c κs. search rules) (λ c. search rules) (λ c. search rules) returns)

@@ -5,17 +5,17 @@ use borrow.Author.Tests.{not-true, not-false}
 use Rattle.unit_edits.proofs.put_next.Statement.{statement}
 use Rattle.unit_edits.proofs.put_next.Tie as tie
 
-returns : tie.Need-returns
-returns c = rw (not-true c.before.before.before.args.inside c.if1.true)
+returns : tie.Need-returns-then-not-inside
+returns c = rw (not-true c.args.inside c.if-not-inside.true-raw)
 
-put_edge_requires : tie.Need-put-edge-requires
+put_edge_requires : tie.Need-put_edge-requires
 put_edge_requires c κs =
-    let p = c.before.before.before.before.requires in
-    let e = not-false _ c.before.if1.false in
+    let p = c.requires in
+    let e = c.if-not-inside.false in
     (p.0, (p.1 e).0, sym (p.1 e).1, p.2)
 
-returns-2 : tie.Need-returns-2
-returns-2 c = rw (not-false c.before.before.before.before.before.before.before.args.inside c.before.before.before.before.if1.false) c.before.before.put-edge.ensures
+returns-2 : tie.Need-returns
+returns-2 c = rw (not-false c.args.inside c.if-not-inside.false-raw) c.put_edge.ensures
 
 pub put_next_spec : {M : Type 1} → statement M
 put_next_spec = tie.close (tie.spec returns put_edge_requires (λ c. search rules) returns-2)

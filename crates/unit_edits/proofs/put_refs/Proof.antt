@@ -5,8 +5,8 @@ use lib.ListN.{length-set}
 use Rattle.unit_edits.proofs.put_refs.Statement.{statement}
 use Rattle.unit_edits.proofs.put_refs.Tie as tie
 
-slice_set_from_refi1 : tie.Need-slice-set-from-refi1
-slice_set_from_refi1 c = simp length-set (omega (arith, c.before.before.requires))
+slice_set_from_refi1 : tie.Need-bounds-refs-r-2
+slice_set_from_refi1 c = simp length-set (omega (arith, c.requires))
 
 pub put_refs_spec : {M : Type 1} → statement M
 put_refs_spec =

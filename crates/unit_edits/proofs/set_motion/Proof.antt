@@ -8,40 +8,34 @@ use Rattle.unit_edits.proofs.set_motion.Statement.{statement}
 use Rattle.unit_edits.proofs.set_motion.Tie as tie
 
 -- where the checks found nothing
-good : (c : tie.After-enum-told) → let a = c.before.before.before.before.before.args in
+good : (c : tie.In-Done) → let a = c.args in
     UnitAccepted a.w a.h a.words.now a.motion.now a.refs.now a.rows.now a.x.0 a.y.0
-good c = unit_accepted _ _ _ _ _ _ _ _ (sym c.before.before.checked-unit.ensures ∙ c.enum_told.given.1)
+good c = unit_accepted _ _ _ _ _ _ _ _ (sym c.checked_unit.ensures ∙ c.in-Done.is)
 
-mul_k : tie.Need-overflow-mul-k
+mul_k : tie.Need-overflow_mul-k
 mul_k c = let g = good c.before in omega (arith, unit_in_map g.unit, g.maps.lent.few)
 
-add_k : tie.Need-overflow-add-k
+add_k : tie.Need-overflow_add-k
 add_k c = let g = good c.before.before in omega (arith, unit_in_map g.unit, g.maps.lent.few)
 
-put_motion_requires : tie.Need-put-motion-requires
+put_motion_requires : tie.Need-put_motion-requires
 put_motion_requires c κs = let g = good c.before.before.before in omega (arith, unit_in_map g.unit, g.maps.lent.long_motion)
 
-put_refs_requires : tie.Need-put-refs-requires
+put_refs_requires : tie.Need-put_refs-requires
 put_refs_requires c κs = let g = good c.before.before.before.before.before.before in omega (arith, unit_in_map g.unit, g.maps.lent.long_refs)
 
-put_edges_requires : tie.Need-put-edges-requires
+put_edges_requires : tie.Need-put_edges-requires
 put_edges_requires c κs =
-    let referred = c.before.before.before.before in
-    let moved = referred.before.before.before in
-    let g = good moved.before.before.before.before in
-    (lent_moved g.maps.lent _ _ _ _ moved.put-motion.ensures referred.put-refs.ensures, g.unit, g.maps.rows_long)
+    let g = good c.before.before.before.before.before.before.before.before.before in
+    (lent_moved g.maps.lent _ _ _ _ c.put_motion.ensures c.put_refs.ensures, g.unit, g.maps.rows_long)
 
-returns : tie.Need-returns
-returns c = motion_refused _ _ c.before.before.before.checked-unit.ensures _ c.before.r.given.1
+returns : tie.Need-returns-in-Refused
+returns c = motion_refused _ _ c.checked_unit.ensures _ c.in-Refused.is
 
-returns-2 : tie.Need-returns-2
+returns-2 : tie.Need-returns-in-Done
 returns-2 c =
-    let put = c.before.before in
-    let referred = put.before.before.before.before.before in
-    let moved = referred.before.before.before in
-    let told = moved.before.before.before.before in
-    motion_done _ _ told.before.before.checked-unit.ensures _ _ _ told.enum_told.given.1
-    moved.put-motion.ensures referred.put-refs.ensures put.put-edges.ensures
+    motion_done _ _ c.checked_unit.ensures _ _ _ c.in-Done.is
+    c.put_motion.ensures c.put_refs.ensures c.put_edges.ensures
 
 pub set_motion_spec : {M : Type 1} → statement M
 set_motion_spec =

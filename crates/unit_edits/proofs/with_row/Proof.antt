@@ -4,11 +4,11 @@ use Rattle.rows_rules.proofs.Sides.{left_put, top_put}
 use Rattle.unit_edits.proofs.with_row.Statement.{statement}
 use Rattle.unit_edits.proofs.with_row.Tie as tie
 
-returns : tie.Need-returns
-returns c = rw c.enum_told.given.1 (left_put _ _)
+returns : tie.Need-returns-in-Left
+returns c = rw c.in-Left.is (left_put _ _)
 
-returns-2 : tie.Need-returns-2
-returns-2 c = rw c.enum-told2.given.1 (top_put _ _)
+returns-2 : tie.Need-returns-in-Top
+returns-2 c = rw c.in-Top.is (top_put _ _)
 
 pub with_row_spec : {M : Type 1} → statement M
 with_row_spec =

@@ -18,44 +18,44 @@ use Rattle.pack.proofs.Writing.{few_of}
 use Rattle.unpack.proofs.get_map.Statement.{statement}
 use Rattle.unpack.proofs.get_map.Tie as tie
 
-size_told : (c : tie.Else1) → size_ok c.before.before.before.before.args.w c.before.before.before.before.args.h ≡ true
-size_told c = sym c.before.Size-ok.ensures ∙ not-false _ c.if1.false
+size_told : (c : tie.Else-not-size_ok) → size_ok c.args.w c.args.h ≡ true
+size_told c = sym c.size_ok.ensures ∙ c.if-not-size_ok.false
 
-roots_are : (c : tie.After-root-count) → c.root-count.result ≡ root_count c.before.before.before.before.before.args.w c.before.before.before.before.before.args.h
-roots_are c = roots_told _ _ _ (size_told c.before) c.root-count.ensures
+roots_are : (c : tie.After-root_count) → c.root_count.result ≡ root_count c.args.w c.args.h
+roots_are c = roots_told _ _ _ (size_told c.before) c.root_count.ensures
 
-mapped : (c : tie.Else2) → Mapped c.before.before.before.before.before.before.args.w c.before.before.before.before.before.before.args.h
-    (length c.before.before.before.before.before.before.args.map.now)
-mapped c = record { size = size_told c.before.before; bytes = c.if2.false ∙ ap (λ (n : ℕ). 1024 * n) (roots_are c.before) }
+mapped : (c : tie.Else-map-root_count) → Mapped c.args.w c.args.h
+    (length c.args.map.now)
+mapped c = record { size = size_told c.before.before; bytes = c.if-map-root_count.false ∙ ap (λ (n : ℕ). 1024 * n) (roots_are c.before) }
 
-returns : tie.Need-returns
+returns : tie.Need-returns-then-not-size_ok
 unfolding get-call.check
-returns c = get_refused _ Size (stops _ _ _ _ c.before.Size-ok.ensures c.if1.true)
+returns c = get_refused _ Size (stops _ _ _ _ c.size_ok.ensures c.if-not-size_ok.true-raw)
 
-mul_if2 : tie.Need-overflow-mul-if2
+mul_if2 : tie.Need-overflow_mul-root_count
 mul_if2 c = omega (arith, roots_are c, few_of _ _ (size_told c.before))
 
-returns-2 : tie.Need-returns-2
+returns-2 : tie.Need-returns-then-map-root_count
 unfolding get-call.check
 returns-2 c =
     get_refused _ Length
-    (goes_on _ _ _ _ _ c.before.before.before.Size-ok.ensures c.before.before.if1.false
-    (at_refusal _ _ _ (ne_eqb _ _ (λ e. c.if2.true (e ∙ ap (λ (n : ℕ). 1024 * n) (sym (roots_are c.before)))))))
+    (goes_on _ _ _ _ _ c.size_ok.ensures c.if-not-size_ok.false-raw
+    (at_refusal _ _ _ (ne_eqb _ _ (λ e. c.if-map-root_count.true (e ∙ ap (λ (n : ℕ). 1024 * n) (sym (roots_are c.before)))))))
 
-returns-3 : tie.Need-returns-3
-returns-3 c = get_past _ (mapped c.before.before) (past _ _ _ c.before.bits_in.ensures.0 c.if3.true) where
+returns-3 : tie.Need-returns-then-end-at
+returns-3 c = get_past _ (mapped c.before.before) (past _ _ _ c.bits_in-end.ensures.0 c.if-end-at.true) where
   past : (at end bits : ℕ) → end ≡ bits → end < at → bits < at
   past at end bits e l = omega arith
 
-get_taken_requires : tie.Need-get-taken-requires
+get_taken_requires : tie.Need-get_taken-requires
 get_taken_requires c κs =
-    let b = c.before.before.bits_in.ensures in (
+    let b = c.bits_in-end.ensures in (
       mapped c.before.before.before,
       record {
         first = refl;
         last = b.0;
-        inside = within c.before.before.before.before.before.before.before.before.before.args.at _
-            (length c.before.before.before.before.before.before.before.before.before.args.src.now) b.0 c.before.if3.false;
+        inside = within c.args.at _
+            (length c.args.src.now) b.0 c.if-end-at.false;
         near = b.1;
       },
     ) where
@@ -73,8 +73,8 @@ get_map_spec =
     returns-2
     (λ c κs. search rules)
     returns-3
-    (λ c. omega (arith, c.if3.false, c.before.bits_in.ensures.1))
-    (λ c. omega (arith, c.if3.false, c.before.bits_in.ensures.1))
+    (λ c. omega (arith, c.if-end-at.false, c.bits_in-end.ensures.1))
+    (λ c. omega (arith, c.if-end-at.false, c.bits_in-end.ensures.1))
     get_taken_requires
     (λ c. search rules)
-    (λ c. c.before.before.get-taken.ensures))
+    (λ c. c.get_taken.ensures))

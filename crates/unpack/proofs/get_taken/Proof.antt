@@ -33,21 +33,21 @@ input c = let a = c.args in record { w = a.w; h = a.h; src = a.src.now; at = a.a
 same : (c : tie.Start) → bits_from c.args.src.now c.args.start (c.args.end - c.args.start) ≡ digits_from c.args.src.now c.args.at
 same c = let s = c.requires.1 in ap₂ (λ (p q : ℕ). bits_from c.args.src.now p (q - p)) s.first s.last
 
-told : (c : tie.After-map-taken) → c.map-taken.result ≡ counted (get-call.count (input c.before.before.before)) (get-call.descent (input c.before.before.before)).walk.answer
+told : (c : tie.After-map_taken) → c.map_taken.result ≡ counted (get-call.count (input c.before.before.before)) (get-call.descent (input c.before.before.before)).walk.answer
 told c =
-    c.map-taken.ensures
-    ∙ ap (λ (ds : List ℕ). let d = upto (c.before.before.before.args.w / 4) (c.before.before.before.args.h / 4) ds
-    (roots (c.before.before.before.args.w / 4) (c.before.before.before.args.h / 4)) in counted (length d.marks) d.walk.answer) (same c.before.before.before)
+    c.map_taken.ensures
+    ∙ ap (λ (ds : List ℕ). let d = upto (c.args.w / 4) (c.args.h / 4) ds
+    (roots (c.args.w / 4) (c.args.h / 4)) in counted (length d.marks) d.walk.answer) (same c.before.before.before)
 
-taken : (c : tie.After-n) → ((get-call.descent (input c.before.before.before.before.before)).walk.answer ≡ Done)
-    × (c.n.given.0.0 ≡ get-call.count (input c.before.before.before.before.before))
-taken c = counted_done _ _ (get-call.descent (input c.before.before.before.before.before)).walk.answer (sym c.n.given.1 ∙ told c.before.before)
+taken : (c : tie.In-Done-2) → ((get-call.descent (input c.before.before.before.before)).walk.answer ≡ Done)
+    × (c.in-Done.n ≡ get-call.count (input c.before.before.before.before))
+taken c = counted_done _ _ (get-call.descent (input c.before.before.before.before)).walk.answer (sym c.in-Done.is ∙ told c.before)
 
-few : (c : tie.After-n) → c.n.given.0.0 ≤ 348160
+few : (c : tie.In-Done-2) → c.in-Done.n ≤ 348160
 unfolding blocks_in
 few c =
-    let a = c.before.before.before.before.before.args in
-    let z = c.before.before.before.before.before.requires.0.size in
+    let a = c.args in
+    let z = c.requires.0.size in
     omega (
       arith,
       (taken c).1,
@@ -58,55 +58,55 @@ few c =
     )
 
 -- the fill bits, as the code tests them
-tested : (c : tie.After-zeros-ok) → c.zeros-ok.result ≡ fill_ok c.before.before.before.before.before.before.before.args.src.now
-    c.before.before.before.before.before.before.before.args.at (get-call.count (input c.before.before.before.before.before.before.before))
+tested : (c : tie.After-zeros_ok) → c.zeros_ok.result ≡ fill_ok c.args.src.now
+    c.args.at (get-call.count (input c.before.before.before.before.before))
 tested c =
     let k = (taken c.before.before).1 in
-    c.zeros-ok.ensures ∙ ap₂ (λ (p n : ℕ). zeros_ok c.before.before.before.before.before.before.before.args.src.now (p + n) (p + (n + 7) / 8 * 8))
-    c.before.before.before.before.before.before.before.requires.1.first k
+    c.zeros_ok.ensures ∙ ap₂ (λ (p n : ℕ). zeros_ok c.args.src.now (p + n) (p + (n + 7) / 8 * 8))
+    c.requires.1.first k
 
-returns : tie.Need-returns
-returns c = get_unfilled (input c.before.before.before.before.before.before.before.before) c.before.before.before.before.before.before.before.before.requires.0
-    (taken c.before.before.before).0 (sym (tested c.before) ∙ not-true _ c.if1.true)
+returns : tie.Need-returns-then-not-zeros_ok
+returns c = get_unfilled (input c.before.before.before.before.before.before) c.requires.0
+    (taken c.before.before.before).0 (sym (tested c.before) ∙ c.if-not-zeros_ok.true)
 
-fill_map_requires : tie.Need-fill-map-requires
+fill_map_requires : tie.Need-fill_map-requires
 fill_map_requires c κs =
-    let s = c.before.before.before.before.before.before.before.before.before.requires.1 in
-    let a = c.before.before.before.before.before.before.before.before.before.args in (
-      c.before.before.before.before.before.before.before.before.before.requires.0,
+    let s = c.requires.1 in
+    let a = c.args in (
+      c.requires.0,
       s.inside,
       s.near,
       ap (λ (ds : List ℕ). (upto (a.w / 4) (a.h / 4) ds (roots (a.w / 4) (a.h / 4))).walk.answer)
-          (same c.before.before.before.before.before.before.before.before.before) ∙ (taken c.before.before.before.before).0,
+          (same c.before.before.before.before.before.before.before) ∙ (taken c.before.before.before.before).0,
     )
 
-returns-2 : tie.Need-returns-2
-returns-2 c = get_stopped (input c.before.before.before.before.before.before) c.before.before.before.before.before.before.requires.0 _
-    (counted_refused _ _ _ (sym c.before.r.given.1 ∙ told c.before.before.before))
+returns-2 : tie.Need-returns-in-Refused
+returns-2 c = get_stopped (input c.before.before.before.before) c.requires.0 _
+    (counted_refused _ _ _ (sym c.in-Refused.is ∙ told c.before))
 
-returns-3 : tie.Need-returns-3
+returns-3 : tie.Need-returns-else-not-zeros_ok
 returns-3 c =
-    let a = c.before.before.before.before.before.before.before.before.before.before.before.before.args in
-    get_done (input c.before.before.before.before.before.before.before.before.before.before.before.before)
-    c.before.before.before.before.before.before.before.before.before.before.before.before.requires.0
+    let a = c.args in
+    get_done (input c.before.before.before.before.before.before.before.before.before.before)
+    c.requires.0
     (taken c.before.before.before.before.before.before.before).0 _
-    (sym (tested c.before.before.before.before.before) ∙ not-false _ c.before.before.before.before.if1.false)
+    (sym (tested c.before.before.before.before.before) ∙ c.if-not-zeros_ok.false)
     (ap₂ (λ (k : ℕ) (m : List ℕ). record { number = 0; at = k; map = m })
-    (ap₂ (λ (p n : ℕ). p + (n + 7) / 8 * 8) c.before.before.before.before.before.before.before.before.before.before.before.before.requires.1.first
+    (ap₂ (λ (p n : ℕ). p + (n + 7) / 8 * 8) c.requires.1.first
     (taken c.before.before.before.before.before.before.before).1)
-    (c.before.before.fill-map.ensures ∙ ap (map_of (a.w / 4) (a.h / 4)) (same c.before.before.before.before.before.before.before.before.before.before.before.before)))
+    (c.fill_map.ensures ∙ ap (map_of (a.w / 4) (a.h / 4)) (same c.before.before.before.before.before.before.before.before.before.before)))
 
 pub get_taken_spec : {M : Type 1} → statement M
 get_taken_spec =
     tie.close
     (tie.spec
-    (λ c κs. (c.before.before.requires.0.size, c.before.before.requires.1.inside, c.before.before.requires.1.near))
+    (λ c κs. (c.requires.0.size, c.requires.1.inside, c.requires.1.near))
     (λ c. search rules)
     (λ c. search rules)
     (λ c. omega (arith, few c.before))
     (λ c. omega (arith, few c.before))
-    (λ c. omega (arith, few c.before, c.before.before.before.before.before.before.requires.1))
-    (λ c. omega (arith, few c.before, c.before.before.before.before.before.before.requires.1))
+    (λ c. omega (arith, few c.before, c.requires.1))
+    (λ c. omega (arith, few c.before, c.requires.1))
     (λ c κs. search rules)
     returns
     fill_map_requires

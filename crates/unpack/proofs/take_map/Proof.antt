@@ -31,100 +31,100 @@ use Rattle.unpack.proofs.take_map.Tie as tie
 abbrev input : tie.Start → take-call.Input
 input c = let a = c.args in record { w = a.w; h = a.h; src = a.src.now; from = a.from; to = a.to; map = a.map.now }
 
-size_told : (c : tie.Else1) → size_ok c.before.before.before.before.args.w c.before.before.before.before.args.h ≡ true
-size_told c = sym c.before.Size-ok.ensures ∙ not-false _ c.if1.false
+size_told : (c : tie.Else-not-size_ok) → size_ok c.args.w c.args.h ≡ true
+size_told c = sym c.size_ok.ensures ∙ c.if-not-size_ok.false
 
-roots_are : (c : tie.After-root-count) → c.root-count.result ≡ root_count c.before.before.before.before.before.args.w c.before.before.before.before.before.args.h
-roots_are c = roots_told _ _ _ (size_told c.before) c.root-count.ensures
+roots_are : (c : tie.After-root_count) → c.root_count.result ≡ root_count c.args.w c.args.h
+roots_are c = roots_told _ _ _ (size_told c.before) c.root_count.ensures
 
-mapped : (c : tie.Else2) → Mapped c.before.before.before.before.before.before.args.w c.before.before.before.before.before.before.args.h
-    (length c.before.before.before.before.before.before.args.map.now)
-mapped c = record { size = size_told c.before.before; bytes = c.if2.false ∙ ap (λ (n : ℕ). 1024 * n) (roots_are c.before) }
+mapped : (c : tie.Else-map-root_count) → Mapped c.args.w c.args.h
+    (length c.args.map.now)
+mapped c = record { size = size_told c.before.before; bytes = c.if-map-root_count.false ∙ ap (λ (n : ℕ). 1024 * n) (roots_are c.before) }
 
 -- the places passed
-places : (c : tie.Else3) → take-call.places_ok c.before.before.before.before.before.before.before.args.from c.before.before.before.before.before.before.before.args.to ≡ true
+places : (c : tie.Else-not-from-to) → take-call.places_ok c.args.from c.args.to ≡ true
 unfolding take-call.places_ok
-places c = not-false _ c.if3.false
+places c = c.if-not-from-to.false
 
-ordered : (c : tie.Else3) → c.before.before.before.before.before.before.before.args.from ≤ c.before.before.before.before.before.before.before.args.to
+ordered : (c : tie.Else-not-from-to) → c.args.from ≤ c.args.to
 unfolding take-call.places_ok
-ordered c = leb-true _ _ (both_left (leb c.before.before.before.before.before.before.before.args.from c.before.before.before.before.before.before.before.args.to) _ (places c))
+ordered c = leb-true _ _ (both_left (leb c.args.from c.args.to) _ (places c))
 
-near : (c : tie.Else3) → c.before.before.before.before.before.before.before.args.to ≤ 4611686018427387904
+near : (c : tie.Else-not-from-to) → c.args.to ≤ 4611686018427387904
 unfolding take-call.places_ok
-near c = leb-true _ _ (both_right (leb c.before.before.before.before.before.before.before.args.from c.before.before.before.before.before.before.before.args.to) _ (places c))
+near c = leb-true _ _ (both_right (leb c.args.from c.args.to) _ (places c))
 
 -- the digits were taken
-taken : (c : tie.After-n) → ((take-call.descent
-    (input c.before.before.before.before.before.before.before.before.before.before)).walk.answer ≡ Done)
-    × (c.n.given.0.0 ≡ length (take-call.descent (input c.before.before.before.before.before.before.before.before.before.before)).marks)
+taken : (c : tie.In-Done-2) → ((take-call.descent
+    (input c.before.before.before.before.before.before.before.before.before)).walk.answer ≡ Done)
+    × (c.in-Done.n ≡ length (take-call.descent (input c.before.before.before.before.before.before.before.before.before)).marks)
 taken c = counted_done _ _ (take-call.descent
-    (input c.before.before.before.before.before.before.before.before.before.before)).walk.answer (sym c.n.given.1 ∙ c.before.before.map-taken.ensures)
+    (input c.before.before.before.before.before.before.before.before.before)).walk.answer (sym c.in-Done.is ∙ c.map_taken.ensures)
 
-few : (c : tie.After-n) → c.n.given.0.0 ≤ 348160
+few : (c : tie.In-Done-2) → c.in-Done.n ≤ 348160
 unfolding blocks_in
 few c =
-    let a = c.before.before.before.before.before.before.before.before.before.before.args in
-    let z = size_told c.before.before.before.before.before.before in
+    let a = c.args in
+    let z = size_told c.before.before.before.before.before in
     omega (
       arith,
       (taken c).1,
       few_descents (root_descent (a.w / 4) (a.h / 4)) 85 (λ j l. few_grown (a.w / 4) (a.h / 4) 4 (root_x (a.w / 4) j) (root_y (a.w / 4) j) l) (roots (a.w / 4) (a.h / 4))
-          (take-call.digits (input c.before.before.before.before.before.before.before.before.before.before)),
+          (take-call.digits (input c.before.before.before.before.before.before.before.before.before)),
       roots_units (sized _ _ z),
       few_of _ _ z,
     )
 
-returns : tie.Need-returns
+returns : tie.Need-returns-then-not-size_ok
 unfolding take-call.check
-returns c = take_refused _ Size (stops _ _ _ _ c.before.Size-ok.ensures c.if1.true)
+returns c = take_refused _ Size (stops _ _ _ _ c.size_ok.ensures c.if-not-size_ok.true-raw)
 
-mul_if2 : tie.Need-overflow-mul-if2
+mul_if2 : tie.Need-overflow_mul-root_count
 mul_if2 c = omega (arith, roots_are c, few_of _ _ (size_told c.before))
 
-returns-2 : tie.Need-returns-2
+returns-2 : tie.Need-returns-then-map-root_count
 unfolding take-call.check
 returns-2 c =
     take_refused _ Length
-    (goes_on _ _ _ _ _ c.before.before.before.Size-ok.ensures c.before.before.if1.false
-    (at_refusal _ _ _ (ne_eqb _ _ (λ e. c.if2.true (e ∙ ap (λ (n : ℕ). 1024 * n) (sym (roots_are c.before)))))))
+    (goes_on _ _ _ _ _ c.size_ok.ensures c.if-not-size_ok.false-raw
+    (at_refusal _ _ _ (ne_eqb _ _ (λ e. c.if-map-root_count.true (e ∙ ap (λ (n : ℕ). 1024 * n) (sym (roots_are c.before)))))))
 
-returns-3 : tie.Need-returns-3
+returns-3 : tie.Need-returns-then-not-from-to
 unfolding take-call.places_ok
-returns-3 c = take_off _ (mapped c.before) (not-true _ c.if3.true)
+returns-3 c = take_off _ (mapped c.before) c.if-not-from-to.true
 
-map_taken_requires : tie.Need-map-taken-requires
+map_taken_requires : tie.Need-map_taken-requires
 map_taken_requires c κs = (size_told c.before.before.before, ordered c, near c)
 
-fill_map_requires : tie.Need-fill-map-requires
+fill_map_requires : tie.Need-fill_map-requires
 fill_map_requires c κs = (
-  mapped c.before.before.before.before.before.before,
-  ordered c.before.before.before.before.before,
-  near c.before.before.before.before.before,
+  mapped c.before.before.before.before,
+  ordered c.before.before.before,
+  near c.before.before.before,
   (taken c.before.before).0,
 )
 
-add_t29 : tie.Need-overflow-add-t29
+add_t29 : tie.Need-overflow_add-result
 add_t29 c = omega (
   arith,
   few c.before.before.before.before.before,
-  ordered c.before.before.before.before.before.before.before.before,
-  near c.before.before.before.before.before.before.before.before,
+  ordered c.before.before.before.before.before.before,
+  near c.before.before.before.before.before.before,
 )
 
-returns-4 : tie.Need-returns-4
-returns-4 c = take_stopped (input c.before.before.before.before.before.before.before.before.before.before.before)
-    (mapped c.before.before.before.before.before) (places c.before.before.before.before) _
-    (counted_refused _ _ _ (sym c.before.r.given.1 ∙ c.before.before.before.map-taken.ensures))
+returns-4 : tie.Need-returns-in-Refused
+returns-4 c = take_stopped (input c.before.before.before.before.before.before.before.before.before)
+    (mapped c.before.before.before) (places c.before.before) _
+    (counted_refused _ _ _ (sym c.in-Refused.is ∙ c.map_taken.ensures))
 
-returns-5 : tie.Need-returns-5
+returns-5 : tie.Need-returns-in-Done
 returns-5 c =
-    take_done (input c.before.before.before.before.before.before.before.before.before.before.before.before.before.before.before)
-    (mapped c.before.before.before.before.before.before.before.before.before)
-    (places c.before.before.before.before.before.before.before.before) _ (taken c.before.before.before.before.before).0
+    take_done (input c.before.before.before.before.before.before.before.before.before.before.before.before.before)
+    (mapped c.before.before.before.before.before.before.before)
+    (places c.before.before.before.before.before.before) _ (taken c.before.before.before.before.before).0
     (ap₂ (λ (k : ℕ) (m : List ℕ).
-    record { number = 0; at = c.before.before.before.before.before.before.before.before.before.before.before.before.before.before.before.args.from + k; map = m })
-    (taken c.before.before.before.before.before).1 c.before.before.fill-map.ensures)
+    record { number = 0; at = c.args.from + k; map = m })
+    (taken c.before.before.before.before.before).1 c.fill_map.ensures)
 
 pub take_map_spec : {M : Type 1} → statement M
 take_map_spec =

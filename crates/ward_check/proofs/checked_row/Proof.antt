@@ -7,52 +7,52 @@ use Rattle.ward_check.proofs.Ladder.{sides, inside, at_size, at_length, at_windo
 use Rattle.ward_check.proofs.checked_row.Statement.{statement}
 use Rattle.ward_check.proofs.checked_row.Tie as tie
 
-returns : tie.Need-returns
+returns : tie.Need-returns-then-not-size_ok
 returns c =
-    let a = c.before.before.args in
-    at_size a.run a.k a.nth a.plane a.row a.format a.w a.h a.y a.u a.v a.c a.out Done _ c.before.Size-ok.ensures c.if1.true
+    let a = c.args in
+    at_size a.run a.k a.nth a.plane a.row a.format a.w a.h a.y a.u a.v a.c a.out Done _ c.size_ok.ensures c.if-not-size_ok.true-raw
 
-lengths_ok_requires : tie.Need-lengths-ok-requires
+lengths_ok_requires : tie.Need-lengths_ok-requires
 lengths_ok_requires c κs =
-    let s = sides c.before.before.args.w c.before.before.args.h (sym c.before.Size-ok.ensures ∙ not-false _ c.if1.false) in
+    let s = sides c.args.w c.args.h (sym c.size_ok.ensures ∙ c.if-not-size_ok.false) in
     (s.wide, s.high)
 
-returns-2 : tie.Need-returns-2
+returns-2 : tie.Need-returns-then-not-lengths_ok
 returns-2 c =
-    let a = c.before.before.before.before.args in
-    at_length a.run a.k a.nth a.plane a.row a.format a.w a.h a.y a.u a.v a.c a.out Done _ c.before.before.before.Size-ok.ensures
-    c.before.before.if1.false
-    _ c.before.lengths-ok.ensures c.if2.true
+    let a = c.args in
+    at_length a.run a.k a.nth a.plane a.row a.format a.w a.h a.y a.u a.v a.c a.out Done _ c.size_ok.ensures
+    c.if-not-size_ok.false-raw
+    _ c.lengths_ok.ensures c.if-not-lengths_ok.true-raw
 
-returns-3 : tie.Need-returns-3
+returns-3 : tie.Need-returns-then-not-window_ok
 returns-3 c =
-    let a = c.before.before.before.before.before.before.args in
-    at_window a.run a.k a.nth a.plane a.row a.format a.w a.h a.y a.u a.v a.c a.out Done _ c.before.before.before.before.before.Size-ok.ensures
-    c.before.before.before.before.if1.false
-    _ c.before.before.before.lengths-ok.ensures c.before.before.if2.false _ c.before.window-ok.ensures c.if3.true
+    let a = c.args in
+    at_window a.run a.k a.nth a.plane a.row a.format a.w a.h a.y a.u a.v a.c a.out Done _ c.size_ok.ensures
+    c.if-not-size_ok.false-raw
+    _ c.lengths_ok.ensures c.if-not-lengths_ok.false-raw _ c.window_ok.ensures c.if-not-window_ok.true-raw
 
-turn_ok_requires : tie.Need-turn-ok-requires
+turn_ok_requires : tie.Need-turn_ok-requires
 turn_ok_requires c κs =
-    (inside c.before.before.before.before.before.before.args.c c.before.before.before.before.before.before.args.w c.before.before.before.before.before.before.args.h
-    (sym c.before.window-ok.ensures ∙ not-false _ c.if3.false)).rows
+    (inside c.args.c c.args.w c.args.h
+    (sym c.window_ok.ensures ∙ c.if-not-window_ok.false)).rows
 
-returns-4 : tie.Need-returns-4
+returns-4 : tie.Need-returns-then-not-turn_ok
 returns-4 c =
-    let a = c.before.before.before.before.before.before.before.before.args in
+    let a = c.args in
     at_turn a.run a.k a.nth a.plane a.row a.format a.w a.h a.y a.u a.v a.c a.out Done
-    _ c.before.before.before.before.before.before.before.Size-ok.ensures
-    c.before.before.before.before.before.before.if1.false
-    _ c.before.before.before.before.before.lengths-ok.ensures c.before.before.before.before.if2.false _ c.before.before.before.window-ok.ensures c.before.before.if3.false
-    _ c.before.turn-ok.ensures c.if4.true
+    _ c.size_ok.ensures
+    c.if-not-size_ok.false-raw
+    _ c.lengths_ok.ensures c.if-not-lengths_ok.false-raw _ c.window_ok.ensures c.if-not-window_ok.false-raw
+    _ c.turn_ok.ensures c.if-not-turn_ok.true-raw
 
-returns-5 : tie.Need-returns-5
+returns-5 : tie.Need-returns
 returns-5 c =
-    let a = c.before.before.before.before.before.before.before.before.args in
+    let a = c.args in
     at_end a.run a.k a.nth a.plane a.row a.format a.w a.h a.y a.u a.v a.c a.out Done
-    _ c.before.before.before.before.before.before.before.Size-ok.ensures
-    c.before.before.before.before.before.before.if1.false
-    _ c.before.before.before.before.before.lengths-ok.ensures c.before.before.before.before.if2.false _ c.before.before.before.window-ok.ensures c.before.before.if3.false
-    _ c.before.turn-ok.ensures c.if4.false
+    _ c.size_ok.ensures
+    c.if-not-size_ok.false-raw
+    _ c.lengths_ok.ensures c.if-not-lengths_ok.false-raw _ c.window_ok.ensures c.if-not-window_ok.false-raw
+    _ c.turn_ok.ensures c.if-not-turn_ok.false-raw
 
 pub checked_row_spec : {M : Type 1} → statement M
 checked_row_spec =

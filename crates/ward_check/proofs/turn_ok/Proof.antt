@@ -6,7 +6,7 @@ use Rattle.ward_check.proofs.turn_ok.Tie as tie
 
 returns : tie.Need-returns
 unfolding turn_ok
-returns c = rw (c.across-run.ensures, c.before.in_plane_lem.ensures, c.before.before.before.planes-of.ensures)
+returns c = rw (c.across_run-rows.ensures, c.in_plane.ensures, c.planes_of-planes.ensures)
 
 pub turn_ok_spec : {M : Type 1} → statement M
 turn_ok_spec = tie.close (tie.spec (λ c κs. search rules) (λ c. search rules) (λ c κs. search rules) (λ c κs. search rules) returns)

@@ -12,59 +12,58 @@ fails : (run : Run) (w x y n r long out i : ℕ) → get_or (lies_tests run w x 
 unfolding lies
 fails run w x y n r long out i e = sym (all_fails (lies_tests run w x y n r long out) i e)
 
-returns : tie.Need-returns
-returns c = fails _ _ _ _ _ _ _ _ 0 (lt-leb _ _ c.if1.true)
+returns : tie.Need-returns-then-stride-gt4096
+returns c = fails _ _ _ _ _ _ _ _ 0 (lt-leb _ _ c.if-stride-gt4096.true)
 
-returns-2 : tie.Need-returns-2
-returns-2 c = fails _ _ _ _ _ _ _ _ 1 (lt-leb _ _ c.if2.true)
+returns-2 : tie.Need-returns-then-y-gt4096
+returns-2 c = fails _ _ _ _ _ _ _ _ 1 (lt-leb _ _ c.if-y-gt4096.true)
 
-returns-3 : tie.Need-returns-3
-returns-3 c = fails _ _ _ _ _ _ _ _ 2 (lt-leb _ _ c.if3.true)
+returns-3 : tie.Need-returns-then-row-gt4096
+returns-3 c = fails _ _ _ _ _ _ _ _ 2 (lt-leb _ _ c.if-row-gt4096.true)
 
-returns-4 : tie.Need-returns-4
+returns-4 : tie.Need-returns-then-stride-x
 returns-4 c =
-    let a = c.before.before.before.before.args in
-    let past : a.stride < a.x + a.n = omega (arith, c.if4.true) in
+    let a = c.args in
+    let past : a.stride < a.x + a.n = omega (arith, c.if-stride-x.true) in
     fails _ _ _ _ _ _ _ _ 3 (lt-leb _ _ past)
 
-returns-5 : tie.Need-returns-5
+returns-5 : tie.Need-returns-then-stride-x-2
 returns-5 c =
-    let a = c.before.before.before.before.before.args in
-    let past : a.stride < a.x + a.n = omega (arith, c.if5.true) in
+    let a = c.args in
+    let past : a.stride < a.x + a.n = omega (arith, c.if-stride-x-2.true) in
     fails _ _ _ _ _ _ _ _ 3 (lt-leb _ _ past)
 
-abbrev start : tie.Else5 → tie.Start
+abbrev start : tie.Else-stride-x-2 → tie.Start
 start c = c.before.before.before.before.before
 
 -- what the tests so far tell
-wide : (c : tie.Else5) → (start c).args.stride ≤ 4096
-wide c = omega (arith, c.before.before.before.before.if1.false)
+wide : (c : tie.Else-stride-x-2) → (start c).args.stride ≤ 4096
+wide c = omega (arith, c.if-stride-gt4096.false)
 
-some : (c : tie.Else5) → (start c).args.row ≤ 4096
-some c = omega (arith, c.before.before.if3.false)
+some : (c : tie.Else-stride-x-2) → (start c).args.row ≤ 4096
+some c = omega (arith, c.if-row-gt4096.false)
 
-columns : (c : tie.Else5) → (start c).args.x + (start c).args.n ≤ (start c).args.stride
-columns c = omega (arith, c.if5.false, c.before.if4.false)
+columns : (c : tie.Else-stride-x-2) → (start c).args.x + (start c).args.n ≤ (start c).args.stride
+columns c = omega (arith, c.if-stride-x-2.false, c.if-stride-x.false)
 
 -- the rows above the last, with it
-module _ (c : tie.After-last-row) where
+module _ (c : tie.After-last_row) where
   rows : (start c.before).args.y + c.last_row.result ≤ 12289
-  rows = let a = (start c.before).args in omega (arith, c.last_row.ensures, last_small a.run a.row (some c.before), c.before.before.before.before.if2.false)
+  rows = let a = (start c.before).args in omega (arith, c.last_row.ensures, last_small a.run a.row (some c.before), c.if-y-gt4096.false)
 
   product : ((start c.before).args.y + c.last_row.result) * (start c.before).args.stride ≤ 50335744
   product = omega (arith, mul-le-mul {n₂ = 12289} {m₂ = 4096} rows (wide c.before))
 
-returns-6 : tie.Need-returns-6
+returns-6 : tie.Need-returns
 unfolding lies
 returns-6 c =
-    let d = c.before.before in
     rw (
-      le-leb _ _ (wide d),
-      le-leb _ _ d.before.before.before.if2.false,
-      le-leb _ _ (some d),
-      le-leb _ _ (columns d),
-      c.before.last_row.ensures,
-      c.across-run.ensures,
+      le-leb _ _ (wide c.before.before),
+      le-leb _ _ c.if-y-gt4096.false,
+      le-leb _ _ (some c.before.before),
+      le-leb _ _ (columns c.before.before),
+      c.last_row.ensures,
+      c.across_run.ensures,
     )
 
 pub lies_spec : {M : Type 1} → statement M

@@ -4,30 +4,30 @@ use Rattle.ward_rows.proofs.Stores.{small_first, small_second}
 use Rattle.ward_rows.proofs.preview_sample.Statement.{statement}
 use Rattle.ward_rows.proofs.preview_sample.Tie as tie
 
-screen_requires : tie.Need-screen-requires
-screen_requires c κs = small_first c.before.before.args.p.now c.before.before.args.upper c.before.before.requires.0
+screen_requires : tie.Need-screen-a-requires
+screen_requires c κs = small_first c.args.p.now c.args.upper c.requires.0
 
-screen_requires_2 : tie.Need-screen-requires-2
-screen_requires_2 c κs = small_second c.before.before.before.before.args.p.now c.before.before.before.before.args.upper c.before.before.before.before.requires.0
+screen_requires_2 : tie.Need-screen-b-requires
+screen_requires_2 c κs = small_second c.args.p.now c.args.upper c.requires.0
 
-screen_requires_3 : tie.Need-screen-requires-3
+screen_requires_3 : tie.Need-screen-c-requires
 screen_requires_3 c κs =
-    small_first c.before.before.before.before.before.before.args.p.now c.before.before.before.before.before.before.args.lower
-    c.before.before.before.before.before.before.requires.1
+    small_first c.args.p.now c.args.lower
+    c.requires.1
 
-screen_requires_4 : tie.Need-screen-requires-4
+screen_requires_4 : tie.Need-screen-d-requires
 screen_requires_4 c κs =
-    small_second c.before.before.before.before.before.before.before.before.args.p.now c.before.before.before.before.before.before.before.before.args.lower
-    c.before.before.before.before.before.before.before.before.requires.1
+    small_second c.args.p.now c.args.lower
+    c.requires.1
 
 returns : tie.Need-returns
 returns c =
-    c.quarter-of.ensures
+    c.quarter_of.ensures
     ∙ cc (
-      c.before.before.before.before.before.before.before.screen.ensures.0,
-      c.before.before.before.before.before.screen2.ensures.0,
-      c.before.before.before.screen3.ensures.0,
-      c.before.screen4.ensures.0,
+      c.screen-a.ensures.0,
+      c.screen-b.ensures.0,
+      c.screen-c.ensures.0,
+      c.screen-d.ensures.0,
     )
 
 pub preview_sample_spec : {M : Type 1} → statement M

@@ -7,50 +7,48 @@ use Rattle.ward_rows.proofs.Sums.{sums_small, pair_shown, quarter_later}
 use Rattle.ward_rows.proofs.put_preview.Statement.{statement}
 use Rattle.ward_rows.proofs.put_preview.Tie as tie
 
-abbrev invariant-loop : tie.invariant-loop
+abbrev invariant-loop : tie.invariant-loop-i
 invariant-loop p from below n out₀ i₀ out i = (i ≤ n) × Rowed 0 0 (half_at p from below) out₀ out i
 
-abbrev decreases-loop : tie.decreases-loop
+abbrev decreases-loop : tie.decreases-loop-i
 decreases-loop p from below n out₀ i₀ out i = n - i
 
-column_sums_requires : tie.Need-column-sums-requires invariant-loop decreases-loop
+column_sums_requires : tie.Need-column_sums-requires invariant-loop decreases-loop
 column_sums_requires c κs =
-    let s = c.before.before.before.before in
-    let i = c.before.loop.i in
-    (small_part s.args.p.now _ _ (2 * i) 32 (omega arith) s.requires.0, small_part s.args.p.now _ _ (2 * i) 32 (omega arith) s.requires.1, omega arith, omega arith)
+    let i = c.loop-i.i in
+    (small_part c.args.p.now _ _ (2 * i) 32 (omega arith) c.requires.0, small_part c.args.p.now _ _ (2 * i) 32 (omega arith) c.requires.1, omega arith, omega arith)
 
-put_sums_requires : tie.Need-put-sums-requires invariant-loop decreases-loop
+put_sums_requires : tie.Need-put_sums-requires invariant-loop decreases-loop
 put_sums_requires c κs =
-    let a = c.before.before.before.before.before.before.args in
-    let l = c.before.before.before.loop in
-    ((λ k. rw c.before.column-sums.ensures (sums_small a.p.now (a.from + 2 * l.i) (a.below + 2 * l.i) k)), omega (arith, l.invariant.1.long))
+    let a = c.args in
+    let l = c.loop-i in
+    ((λ k. rw c.column_sums.ensures (sums_small a.p.now (a.from + 2 * l.i) (a.below + 2 * l.i) k)), omega (arith, l.invariant.1.long))
 
-loop_again : tie.Need-loop-preserved invariant-loop decreases-loop
+loop_again : tie.Need-loop-i-preserved invariant-loop decreases-loop
 loop_again c =
-    let a = c.before.before.before.before.before.before.before.before.before.args in
-    let l = c.before.before.before.before.before.before.loop in (
+    let a = c.args in
+    let l = c.loop-i in (
       omega arith,
-      rw c.before.before.put-sums.ensures
-          (first_part _ _ _ l.i 16 _ (omega arith) (λ j h. rw c.before.before.before.before.column-sums.ensures (pair_shown a.p.now a.from a.below l.i j h)) l.invariant.1),
+      rw c.put_sums.ensures
+          (first_part _ _ _ l.i 16 _ (omega arith) (λ j h. rw c.column_sums.ensures (pair_shown a.p.now a.from a.below l.i j h)) l.invariant.1),
     )
 
-put_singly_requires : tie.Need-put-singly-requires invariant-loop decreases-loop
+put_singly_requires : tie.Need-put_singly-requires invariant-loop decreases-loop
 put_singly_requires c κs =
-    let s = c.before.before.before.before.before in
-    let i = c.before.before.loop.i in
-    let n = s.args.n in (
-      small_part s.args.p.now _ _ (2 * i) (2 * (n - i)) (omega arith) s.requires.0,
-      small_part s.args.p.now _ _ (2 * i) (2 * (n - i)) (omega arith) s.requires.1,
+    let i = c.loop-i.i in
+    let n = c.args.n in (
+      small_part c.args.p.now _ _ (2 * i) (2 * (n - i)) (omega arith) c.requires.0,
+      small_part c.args.p.now _ _ (2 * i) (2 * (n - i)) (omega arith) c.requires.1,
       omega arith,
       omega arith,
-      omega (arith, c.before.before.loop.invariant.1.long),
+      omega (arith, c.loop-i.invariant.1.long),
     )
 
 returns : tie.Need-returns invariant-loop decreases-loop
 returns c =
-    let a = c.before.before.before.before.before.before.before.before.args in
-    let l = c.before.before.before.before.before.loop in
-    c.before.before.put-singly.ensures
+    let a = c.args in
+    let l = c.loop-i in
+    c.put_singly.ensures
     ∙ rowed_all _ _ _ _ _ _ (l.i + (a.n - l.i)) (omega arith)
     (first_part _ _ _ l.i (a.n - l.i) _ (omega arith) (λ j h. quarter_later a.p.now a.from a.below l.i j) l.invariant.1)
 

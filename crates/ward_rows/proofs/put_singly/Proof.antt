@@ -6,29 +6,28 @@ use Rattle.ward_rows.proofs.Stores.{small_part}
 use Rattle.ward_rows.proofs.put_singly.Statement.{statement}
 use Rattle.ward_rows.proofs.put_singly.Tie as tie
 
-abbrev invariant-loop : tie.invariant-loop
+abbrev invariant-loop : tie.invariant-loop-i
 invariant-loop p upper lower n at out₀ i₀ out i = (i ≤ n) × Rowed 0 at (half_at p upper lower) out₀ out i
 
-abbrev decreases-loop : tie.decreases-loop
+abbrev decreases-loop : tie.decreases-loop-i
 decreases-loop p upper lower n at out₀ i₀ out i = n - i
 
-preview_sample_requires : tie.Need-preview-sample-requires invariant-loop decreases-loop
+preview_sample_requires : tie.Need-preview_sample-requires invariant-loop decreases-loop
 preview_sample_requires c κs =
-    let s = c.before.before.before.before in
-    let i = c.before.loop.i in
-    (small_part s.args.p.now _ _ (2 * i) 2 (omega arith) s.requires.0, small_part s.args.p.now _ _ (2 * i) 2 (omega arith) s.requires.1, omega arith, omega arith)
+    let i = c.loop-i.i in
+    (small_part c.args.p.now _ _ (2 * i) 2 (omega arith) c.requires.0, small_part c.args.p.now _ _ (2 * i) 2 (omega arith) c.requires.1, omega arith, omega arith)
 
-loop_again : tie.Need-loop-preserved invariant-loop decreases-loop
+loop_again : tie.Need-loop-i-preserved invariant-loop decreases-loop
 loop_again c =
-    let h = c.before.before.loop in
-    (omega arith, rowed_more _ _ _ _ _ h.i _ (omega arith) c.preview-sample.ensures h.invariant.1)
+    let h = c.loop-i in
+    (omega arith, rowed_more _ _ _ _ _ h.i _ (omega arith) c.preview_sample.ensures h.invariant.1)
 
 returns : tie.Need-returns invariant-loop decreases-loop
-returns c = rowed_all _ _ _ _ _ _ c.before.loop.i (omega arith) c.before.loop.invariant.1
+returns c = rowed_all _ _ _ _ _ _ c.loop-i.i (omega arith) c.loop-i.invariant.1
 
 pub put_singly_spec : {M : Type 1} → statement M
 put_singly_spec =
     tie.close
     (tie.spec invariant-loop decreases-loop (λ c. (omega arith, rowed_none _ _ _ _)) (λ c. omega arith) (λ c. omega arith) (λ c. omega arith) (λ c. omega arith)
-    preview_sample_requires (λ c. omega (arith, c.before.before.loop.invariant.1.long)) (λ c. omega (arith, c.before.before.loop.invariant.1.long)) (λ c. omega arith)
-    (λ c. omega arith) loop_again (λ c. c.before.loop.invariant.1.long) returns)
+    preview_sample_requires (λ c. omega (arith, c.loop-i.invariant.1.long)) (λ c. omega (arith, c.loop-i.invariant.1.long)) (λ c. omega arith)
+    (λ c. omega arith) loop_again (λ c. c.loop-i.invariant.1.long) returns)

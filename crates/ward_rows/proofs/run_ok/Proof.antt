@@ -5,7 +5,7 @@ use Rattle.ward_rows.proofs.run_ok.Statement.{statement}
 use Rattle.ward_rows.proofs.run_ok.Tie as tie
 
 returns : tie.Need-returns
-returns c = c.samples-ok.ensures ∙ part_ok c.before.before.before.args.p.now c.before.before.before.args.from c.before.before.before.args.n c.before.before.before.requires
+returns c = c.samples_ok.ensures ∙ part_ok c.args.p.now c.args.from c.args.n c.requires
 
 pub run_ok_spec : {M : Type 1} → statement M
 run_ok_spec =

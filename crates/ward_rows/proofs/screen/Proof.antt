@@ -4,16 +4,16 @@ use Rattle.ward_rows.proofs.Samples.{screened_over, screened_under}
 use Rattle.ward_rows.proofs.screen.Statement.{statement}
 use Rattle.ward_rows.proofs.screen.Tie as tie
 
-returns : tie.Need-returns
+returns : tie.Need-returns-then-q-gt255
 returns c =
-    let v = c.before.before.args.v in
-    let e : c.before.wrapping-add-u16.result ≡ v + 2 = omega (arith, c.before.wrapping-add-u16.ensures, c.before.before.requires) in
+    let v = c.args.v in
+    let e : c.wrapping_add_u16-q.result ≡ v + 2 = omega (arith, c.wrapping_add_u16-q.ensures, c.requires) in
     (screened_over v (omega (arith, e)), omega arith)
 
-returns-2 : tie.Need-returns-2
+returns-2 : tie.Need-returns
 returns-2 c =
-    let v = c.before.before.args.v in
-    let e : c.before.wrapping-add-u16.result ≡ v + 2 = omega (arith, c.before.wrapping-add-u16.ensures, c.before.before.requires) in
+    let v = c.args.v in
+    let e : c.wrapping_add_u16-q.result ≡ v + 2 = omega (arith, c.wrapping_add_u16-q.ensures, c.requires) in
     (ap (λ (k : ℕ). k / 4) e ∙ screened_under v (omega (arith, e)), omega arith)
 
 pub screen_spec : {M : Type 1} → statement M

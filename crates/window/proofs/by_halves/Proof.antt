@@ -9,8 +9,8 @@ use Rattle.window.proofs.by_halves.Tie as tie
 returns : tie.Need-returns
 unfolding by_halves
 returns c =
-    let a = c.before.before.args in
-    let l = c.before.last.ensures in
+    let a = c.args in
+    let l = c.last.ensures in
     λ i. ltb (l i) a.long && eqb a.p.step 1
 
 pub by_halves_spec : {M : Type 1} → statement M

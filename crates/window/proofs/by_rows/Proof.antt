@@ -9,8 +9,8 @@ use Rattle.window.proofs.by_rows.Tie as tie
 returns : tie.Need-returns
 unfolding by_rows
 returns c =
-    let a = c.before.before.before.args in
-    let l = c.before.before.last.ensures in
+    let a = c.args in
+    let l = c.last.ensures in
     let s = c.wide.ensures.0 in
     λ i. (ltb (l i) a.long && eqb a.p.next 1) && leb a.n (s i)
 

@@ -13,51 +13,47 @@ use Rattle.window.proofs.chroma_halves.Statement.{statement}
 use Rattle.window.proofs.chroma_halves.Tie as tie
 
 -- where the lines lie, in planes of at least m samples
-lie : (c : tie.After-wide2) → (m : ℕ) → min (length c.before.before.before.before.args.u.now) (length c.before.before.before.before.args.v.now) ≤ m
-    → c.before.wide.result + (2 - 1) * c.wide2.result + 3 * 1 < m
+lie : (c : tie.After-wide-next) → (m : ℕ) → min (length c.args.u.now) (length c.args.v.now) ≤ m
+    → c.wide-at.result + (2 - 1) * c.wide-next.result + 3 * 1 < m
 lie c m h =
-    let s = c.before.before.before.before in
-    halves_lie s.args.p 2 _ m c.wide2.result c.before.wide.result h s.requires c.wide2.ensures.0 c.before.wide.ensures.0
+    halves_lie c.args.p 2 _ m c.wide-next.result c.wide-at.result h c.requires c.wide-next.ensures.0 c.wide-at.ensures.0
 
-in_u_lem : (c : tie.After-wide2) → c.before.wide.result + (2 - 1) * c.wide2.result + 3 * 1 < length c.before.before.before.before.args.u.now
-in_u_lem c = lie c (length c.before.before.before.before.args.u.now) (omega arith)
+in_u_lem : (c : tie.After-wide-next) → c.wide-at.result + (2 - 1) * c.wide-next.result + 3 * 1 < length c.args.u.now
+in_u_lem c = lie c (length c.args.u.now) (omega arith)
 
-in_v_lem : (c : tie.After-wide2) → c.before.wide.result + (2 - 1) * c.wide2.result + 3 * 1 < length c.before.before.before.before.args.v.now
-in_v_lem c = lie c (length c.before.before.before.before.args.v.now) (omega arith)
+in_v_lem : (c : tie.After-wide-next) → c.wide-at.result + (2 - 1) * c.wide-next.result + 3 * 1 < length c.args.v.now
+in_v_lem c = lie c (length c.args.v.now) (omega arith)
 
-gather_requires : tie.Need-gather-requires
-gather_requires c κs = (lit≤ tt, in_u_lem c.before.before)
+gather_requires : tie.Need-gather-tu-requires
+gather_requires c κs = (lit≤ tt, in_u_lem c.before)
 
-gather_requires_2 : tie.Need-gather-requires-2
-gather_requires_2 c κs = (lit≤ tt, in_v_lem c.before.before.before.before)
+gather_requires_2 : tie.Need-gather-t-requires
+gather_requires_2 c κs = (lit≤ tt, in_v_lem c.before.before)
 
 scatter_requires : tie.Need-scatter-requires
-scatter_requires c κs = (lit≤ tt, in_u_lem c.before.before.before.before.before.before.before.before)
+scatter_requires c κs = (lit≤ tt, in_u_lem c.before.before.before.before.before.before)
 
 scatter_requires_2 : tie.Need-scatter-requires-2
-scatter_requires_2 c κs = (lit≤ tt, in_v_lem c.before.before.before.before.before.before.before.before.before.before.before.before.before)
+scatter_requires_2 c κs = (lit≤ tt, in_v_lem c.before.before.before.before.before.before.before.before.before.before.before)
 
-same_length : tie.Need-same-length
-same_length c = c.before.before.before.before.before.before.before.scatter.auto.0
+same_length : tie.Need-shape_of-u
+same_length c = c.scatter.auto.s
 
-same_length_2 : tie.Need-same-length-2
-same_length_2 c = c.before.before.scatter2.auto.0
+same_length_2 : tie.Need-shape_of-v
+same_length_2 c = c.scatter-2.auto.s
 
 returns : tie.Need-returns
 returns c =
-    let v = c.before.before.before.before.before.before.before.before.before.before in
-    let w = v.before.before.before.before.before.before in
-    let s = w.before.before.before.before in
-    let a = s.args in
-    let b = halves_at a.p 2 _ s.requires in
-    let f = w.before.wide in
-    let g = w.wide2 in
-    let r = v.lanes-by-halves in
-    let m = v.before.before.before.before.before.mask-of.ensures in
+    let a = c.args in
+    let b = halves_at a.p 2 _ c.requires in
+    let f = c.wide-at in
+    let g = c.wide-next in
+    let r = c.lanes_by_halves-r in
+    let m = c.mask_of-inner.ensures in
     chroma_done halves halves_spread _ _ a.p 1 g.result f.result m (sym b.below) g.ensures.0 f.ensures.0
     (λ k. a.su) (λ k. a.sv) 2 _ _ _ (chroma_sts a.su a.sv 0 0) r.result a.u.now a.v.now _ _ (lit≤ tt)
-    v.before.before.before.gather.ensures v.before.gather2.ensures (u_each a.su a.sv) (v_each a.su a.sv) r.ensures
-    c.before.before.before.before.before.before.before.scatter.ensures c.before.before.scatter2.ensures
+    c.gather-tu.ensures c.gather-t.ensures (u_each a.su a.sv) (v_each a.su a.sv) r.ensures
+    c.scatter.ensures c.scatter-2.ensures
 
 pub chroma_halves_spec : {M : Type 1} → statement M
 chroma_halves_spec =

@@ -6,11 +6,9 @@ use Rattle.window.proofs.copy_rows.Tie as tie
 
 returns : tie.Need-returns
 returns c =
-    let r = c.before.before.before.before.before.before.before.before.before.before.before.before.before.before in
-    let s = r.before.before.before.before in
-    rows_copied s.args.mask s.args.to s.args.apart s.args.from s.args.step s.args.n s.args.s.now s.args.r.now _ _ _ _ s.requires.0
-    r.copy-row-if.ensures c.before.before.before.before.before.before.before.before.before.before.copy-row-if2.ensures
-    c.before.before.before.before.before.before.copy-row-if3.ensures c.before.before.copy-row-if4.ensures
+    rows_copied c.args.mask c.args.to c.args.apart c.args.from c.args.step c.args.n c.args.s.now c.args.r.now _ _ _ _ c.requires.0
+    c.copy_row_if.ensures c.copy_row_if-2.ensures
+    c.copy_row_if-3.ensures c.copy_row_if-4.ensures
 
 pub copy_rows_spec : {M : Type 1} → statement M
 copy_rows_spec =

@@ -6,15 +6,15 @@ use Rattle.window.proofs.Places.{last_small}
 use Rattle.window.proofs.last.Statement.{statement}
 use Rattle.window.proofs.last.Tie as tie
 
-few : (c : tie.After-wide3) → (c.before.before.before.args.n - 1) * c.before.before.wide.result ≤ 30064771065
-few c = last_small c.before.before.before.args.n c.before.before.wide.result c.before.before.before.requires.1 c.before.before.wide.ensures.1
+few : (c : tie.After-wide) → (c.args.n - 1) * c.wide-next.result ≤ 30064771065
+few c = last_small c.args.n c.wide-next.result c.requires.1 c.wide-next.ensures.1
 
 returns : tie.Need-returns
 returns c =
-    let a = c.wide3.ensures.0 in
-    let n = c.before.before.wide.ensures.0 in
-    let s = c.before.wide2.ensures.0 in
-    λ i. a i + (c.before.before.before.args.n - 1) * n i + 3 * s i
+    let a = c.wide.ensures.0 in
+    let n = c.wide-next.ensures.0 in
+    let s = c.wide-step.ensures.0 in
+    λ i. a i + (c.args.n - 1) * n i + 3 * s i
 
 pub last_spec : {M : Type 1} → statement M
 last_spec =

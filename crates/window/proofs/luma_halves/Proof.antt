@@ -13,31 +13,28 @@ use Rattle.window.proofs.luma_halves.Statement.{statement}
 use Rattle.window.proofs.luma_halves.Tie as tie
 
 -- where the lines lie
-lie : (c : tie.After-wide2) → c.before.wide.result + (4 - 1) * c.wide2.result + 3 * 1 < length c.before.before.before.args.y.now
+lie : (c : tie.After-wide-next) → c.wide-at.result + (4 - 1) * c.wide-next.result + 3 * 1 < length c.args.y.now
 lie c =
-    let s = c.before.before.before in
-    let l = length s.args.y.now in
-    halves_lie s.args.p 4 l l c.wide2.result c.before.wide.result (omega arith) s.requires c.wide2.ensures.0 c.before.wide.ensures.0
+    let l = length c.args.y.now in
+    halves_lie c.args.p 4 l l c.wide-next.result c.wide-at.result (omega arith) c.requires c.wide-next.ensures.0 c.wide-at.ensures.0
 
-same_length : tie.Need-same-length
-same_length c = c.before.before.scatter.auto.0
+same_length : tie.Need-shape_of-y
+same_length c = c.scatter.auto.s
 
 returns : tie.Need-returns
 returns c =
-    let w = c.before.before.before.before.before.before.before.before.before in
-    let s = w.before.before.before in
-    let a = s.args in
-    let b = halves_at a.p 4 (length a.y.now) s.requires in
-    let f = w.before.wide in
-    let g = w.wide2 in
-    let r = c.before.before.before.before.before.lanes-by-halves in
-    let m = c.before.before.before.before.before.before.before.before.mask-of.ensures in
+    let a = c.args in
+    let b = halves_at a.p 4 (length a.y.now) c.requires in
+    let f = c.wide-at in
+    let g = c.wide-next in
+    let r = c.lanes_by_halves-r in
+    let m = c.mask_of-all.ensures in
     plane_done halves halves_spread _ _ a.p 1 g.result f.result m (sym b.below) g.ensures.0 f.ensures.0
     (λ k. a.st) 0 4 a.y.now _ _ (luma_sts a.st 0) r.result (lit≤ tt)
-    c.before.before.before.before.before.before.gather.ensures.lines (luma_each a.st) r.ensures c.before.before.scatter.ensures
+    c.gather-t.ensures.lines (luma_each a.st) r.ensures c.scatter.ensures
 
 pub luma_halves_spec : {M : Type 1} → statement M
 luma_halves_spec =
     tie.close
-    (tie.spec (λ c κs. search rules) (λ c κs. search rules) (λ c κs. tt) (λ c κs. (lit≤ tt, lie c.before.before))
-    (λ c κs. tt) (λ c κs. (lit≤ tt, lie c.before.before.before.before.before.before)) same_length returns)
+    (tie.spec (λ c κs. search rules) (λ c κs. search rules) (λ c κs. tt) (λ c κs. (lit≤ tt, lie c.before))
+    (λ c κs. tt) (λ c κs. (lit≤ tt, lie c.before.before.before.before.before)) same_length returns)

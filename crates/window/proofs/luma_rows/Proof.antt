@@ -14,35 +14,32 @@ use Rattle.window.proofs.luma_rows.Statement.{statement}
 use Rattle.window.proofs.luma_rows.Tie as tie
 
 -- where the rows lie
-lie : (c : tie.After-wide2) → (4 ≤ c.wide2.result) × (c.before.wide.result + 4 + 3 * c.wide2.result ≤ length c.before.before.before.args.y.now)
+lie : (c : tie.After-wide-step) → (4 ≤ c.wide-step.result) × (c.wide-at.result + 4 + 3 * c.wide-step.result ≤ length c.args.y.now)
 lie c =
-    let s = c.before.before.before in
-    let l = length s.args.y.now in
-    rows_lie s.args.p 4 l l c.wide2.result c.before.wide.result (lit≤ tt) (omega arith) s.requires c.wide2.ensures.0 c.before.wide.ensures.0
+    let l = length c.args.y.now in
+    rows_lie c.args.p 4 l l c.wide-step.result c.wide-at.result (lit≤ tt) (omega arith) c.requires c.wide-step.ensures.0 c.wide-at.ensures.0
 
-copy_rows_requires : tie.Need-copy-rows-requires
-copy_rows_requires c κs = (lit≤ tt, search rules, (lie c.before.before.before).1)
+copy_rows_requires : tie.Need-copy_rows-requires
+copy_rows_requires c κs = (lit≤ tt, search rules, (lie c.before.before).1)
 
-copy_rows_requires_2 : tie.Need-copy-rows-requires-2
-copy_rows_requires_2 c κs = let l = lie c.before.before.before.before.before.before.before.before in (l.0, l.1, search rules)
+copy_rows_requires_2 : tie.Need-copy_rows-requires-2
+copy_rows_requires_2 c κs = let l = lie c.before.before.before.before.before.before.before in (l.0, l.1, search rules)
 
-same_length : tie.Need-same-length
-same_length c = c.before.before.copy-rows2.auto.0
+same_length : tie.Need-shape_of-y
+same_length c = c.copy_rows-2.auto.r
 
 returns : tie.Need-returns
 returns c =
-    let w = c.before.before.before.before.before.before.before.before.before.before.before in
-    let s = w.before.before.before in
-    let a = s.args in
-    let b = rows_at a.p 4 (length a.y.now) (lit≤ tt) s.requires in
-    let f = w.before.wide in
-    let g = w.wide2 in
-    let m = c.before.before.before.before.before.before.before.before.before.before.mask-of.ensures in
-    let r = c.before.before.before.before.before.lanes in
-    let t = c.before.before.before.before.before.before.before.copy-rows.ensures in
+    let a = c.args in
+    let b = rows_at a.p 4 (length a.y.now) (lit≤ tt) c.requires in
+    let f = c.wide-at in
+    let g = c.wide-step in
+    let m = c.mask_of-all.ensures in
+    let r = c.lanes-r in
+    let t = c.copy_rows.ensures in
     plane_done rows rows_spread _ _ a.p g.result 1 f.result m g.ensures.0 (sym b.beside) f.ensures.0 (λ k. a.st) 0 4 a.y.now _ _
     (luma_sts a.st 0) r.result (lit≤ tt) (gathered _ g.result f.result a.y.now _ _ 0 4 m (lit≤ tt) refl t).lines
-    (luma_each a.st) r.ensures c.before.before.copy-rows2.ensures
+    (luma_each a.st) r.ensures c.copy_rows-2.ensures
 
 pub luma_rows_spec : {M : Type 1} → statement M
 luma_rows_spec =

@@ -6,11 +6,11 @@ use Rattle.window.proofs.put_line.Tie as tie
 
 returns : tie.Need-returns
 returns c =
-    let a = c.before.before.before.before.before.before.before.before.before.before.before.before.before.before.before.before.before.args in
+    let a = c.args in
     line_put a.mask a.step a.at a.q a.s.now _ _ _ _
-    c.before.before.before.before.before.before.before.before.before.before.before.before.before.before.put_if.ensures
-    c.before.before.before.before.before.before.before.before.before.before.put-if2.ensures
-    c.before.before.before.before.before.before.put-if3.ensures c.before.before.put-if4.ensures
+    c.put_if.ensures
+    c.put_if-2.ensures
+    c.put_if-3.ensures c.put_if-4.ensures
 
 pub put_line_spec : {M : Type 1} → statement M
 put_line_spec =

@@ -11,48 +11,47 @@ use Rattle.window.proofs.Lanes.{line_inside}
 use Rattle.window.proofs.scatter.Statement.{statement}
 use Rattle.window.proofs.scatter.Tie as tie
 
-abbrev invariant-loop : tie.invariant-loop
+abbrev invariant-loop : tie.invariant-loop-k
 invariant-loop s₀ mask t first n step next at k₀ s k = (k ≤ n) × (length s ≡ length s₀) × (s ≡ put_lines mask (λ j. lane_of halves t (first + j)) step next at k s₀)
 
-abbrev decreases-loop : tie.decreases-loop
+abbrev decreases-loop : tie.decreases-loop-k
 decreases-loop s₀ mask t first n step next at k₀ s k = n - k
 
 -- where a turn's line lies
-turn : (c : tie.In-loop invariant-loop decreases-loop) → let a = c.before.before.before.args in a.at + c.before.loop.k * a.next + 3 * a.step < length a.s.now
+turn : (c : tie.In-loop-k invariant-loop decreases-loop) → let a = c.args in a.at + c.loop-k.k * a.next + 3 * a.step < length a.s.now
 turn c =
-    let s = c.before.before.before in
-    line_inside s.args.step s.args.next s.args.at s.args.n c.before.loop.k s.args.s.now s.requires.1 c.loop-test.true
+    line_inside c.args.step c.args.next c.args.at c.args.n c.loop-k.k c.args.s.now c.requires.1 c.loop-k-test.true
 
-loop_holds : tie.Need-loop-init invariant-loop decreases-loop
+loop_holds : tie.Need-loop-k-init invariant-loop decreases-loop
 unfolding put_lines
 loop_holds c = (omega arith, refl, refl)
 
-mul_put_line : tie.Need-overflow-mul-put-line invariant-loop decreases-loop
+mul_put_line : tie.Need-overflow_mul-k invariant-loop decreases-loop
 mul_put_line c = omega (arith, turn c.before.before)
 
-add_put_line : tie.Need-overflow-add-put-line invariant-loop decreases-loop
+add_put_line : tie.Need-overflow_add-at invariant-loop decreases-loop
 add_put_line c = omega (arith, turn c.before.before)
 
-put_line_requires : tie.Need-put-line-requires invariant-loop decreases-loop
-put_line_requires c κs = omega (arith, turn c.before.before, c.before.before.before.loop.invariant.1)
+put_line_requires : tie.Need-put_line-requires invariant-loop decreases-loop
+put_line_requires c κs = omega (arith, turn c.before.before, c.loop-k.invariant.1)
 
-loop_again : tie.Need-loop-preserved invariant-loop decreases-loop
+loop_again : tie.Need-loop-k-preserved invariant-loop decreases-loop
 loop_again c =
-    let l = c.before.before.before.before.before.before.loop in
-    let a = c.before.before.before.before.before.before.before.before.args in (
+    let l = c.loop-k in
+    let a = c.args in (
       omega arith,
-      c.before.before.put-line.auto.0 ∙ l.invariant.1,
+      c.put_line.auto.s ∙ l.invariant.1,
       put_more a.mask (λ j. lane_of halves a.t.now (a.first + j)) a.step a.next a.at l.k _ a.s.now l.s _
-          c.before.before.before.lane_of_lem.ensures l.invariant.2 c.before.before.put-line.ensures,
+          c.lane_of.ensures l.invariant.2 c.put_line.ensures,
     )
 
-same_length : tie.Need-same-length invariant-loop decreases-loop
-same_length c = c.before.loop.invariant.1
+same_length : tie.Need-shape_of-s invariant-loop decreases-loop
+same_length c = c.loop-k.invariant.1
 
 returns : tie.Need-returns invariant-loop decreases-loop
 returns c =
-    let e : c.before.loop.k ≡ c.before.before.before.args.n = omega arith in
-    rw (← e) c.before.loop.invariant.2
+    let e : c.loop-k.k ≡ c.args.n = omega arith in
+    rw (← e) c.loop-k.invariant.2
 
 pub scatter_spec : {M : Type 1} → statement M
 scatter_spec =

@@ -4,20 +4,20 @@ use Rattle.y4m.proofs.Outcomes.{no_header, no_frame, whole}
 use Rattle.y4m.proofs.import_frame.Statement.{statement}
 use Rattle.y4m.proofs.import_frame.Tie as tie
 
-returns : tie.Need-returns
-returns c = no_header _ _ c.before.before.before.read-header.ensures _ _ c.before.r.given.1
+returns : tie.Need-returns-in-Refused
+returns c = no_header _ _ c.read_header.ensures _ _ c.in-Refused.is
 
-returns-2 : tie.Need-returns-2
+returns-2 : tie.Need-returns-in-Refused-read_frame
 returns-2 c =
-    no_frame _ _ c.before.before.before.before.before.before.before.before.before.before.before.before.before.before.before.before.read-header.ensures _ _ _ _ _
-    _ _ c.before.before.before.before.before.before.before.before.before.before.before.before.before.before.w.given.1 _ _ _ _
-    c.before.before.before.before.before.before.before.before.before.read-frame.ensures _ _ c.before.r2.given.1
+    no_frame _ _ c.read_header.ensures _ _ _ _ _
+    _ _ c.in-Read.is _ _ _ _
+    c.read_frame.ensures _ _ c.in-Refused-read_frame.is
 
-returns-3 : tie.Need-returns-3
+returns-3 : tie.Need-returns-in-Read-read_frame
 returns-3 c =
-    whole _ _ c.before.before.before.before.before.before.before.before.before.before.before.before.before.before.before.before.read-header.ensures _ _ _ _ _ _
-    _ c.before.before.before.before.before.before.before.before.before.before.before.before.before.before.w.given.1 _ _ _ _
-    c.before.before.before.before.before.before.before.before.before.read-frame.ensures _ c.before.end.given.1
+    whole _ _ c.read_header.ensures _ _ _ _ _ _
+    _ c.in-Read.is _ _ _ _
+    c.read_frame.ensures _ c.in-Read-read_frame.is
 
 pub import_frame_spec : {M : Type 1} → statement M
 import_frame_spec =

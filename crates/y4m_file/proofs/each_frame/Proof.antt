@@ -3,11 +3,11 @@ use Rattle.std.proofs.Common.{◌≡◌, ◌-◌, length, refl, rules}
 use Rattle.y4m_file.proofs.each_frame.Statement.{statement}
 use Rattle.y4m_file.proofs.each_frame.Tie as tie
 
-abbrev invariant-loop : tie.invariant-loop
+abbrev invariant-loop : tie.invariant-loop-frames
 invariant-loop file w h start copy bytes₀ y₀ u₀ v₀ frames₀ place₀ bytes y u v frames place =
     (length bytes ≡ length bytes₀) × (length y ≡ length y₀) × (length u ≡ length u₀) × (length v ≡ length v₀)
 
-abbrev decreases-loop : tie.decreases-loop
+abbrev decreases-loop : tie.decreases-loop-frames
 decreases-loop file w h start copy bytes₀ y₀ u₀ v₀ frames₀ place₀ bytes y u v frames place = 18446744073709551615 - frames
 
 pub each_frame_spec : {M : Type 1} → statement M

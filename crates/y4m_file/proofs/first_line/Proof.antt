@@ -3,10 +3,10 @@ use Rattle.std.proofs.Common.{◌≡◌, ◌-◌, ◌≤◌, length, arith, leng
 use Rattle.y4m_file.proofs.first_line.Statement.{statement}
 use Rattle.y4m_file.proofs.first_line.Tie as tie
 
-abbrev invariant-loop : tie.invariant-loop
+abbrev invariant-loop : tie.invariant-loop-i
 invariant-loop file room₀ byte₀ i₀ room byte i = (i ≤ length room₀) × (length room ≡ length room₀)
 
-abbrev decreases-loop : tie.decreases-loop
+abbrev decreases-loop : tie.decreases-loop-i
 decreases-loop file room₀ byte₀ i₀ room byte i = length room₀ - i
 
 pub first_line_spec : {M : Type 1} → statement M

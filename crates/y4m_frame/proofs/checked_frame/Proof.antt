@@ -6,28 +6,28 @@ use Rattle.y4m_frame.proofs.Answers.{at_line, at_short, at_sample, at_read}
 use Rattle.y4m_frame.proofs.checked_frame.Statement.{statement}
 use Rattle.y4m_frame.proofs.checked_frame.Tie as tie
 
-returns : tie.Need-returns
-returns c = let a = c.before.before.before.before.args in
-    at_line a.s.now a.at a.luma a.chroma _ c.before.before.line_ok.ensures c.before.if1.true _ c.line-place.ensures
+returns : tie.Need-returns-then-not-line_ok
+returns c = let a = c.args in
+    at_line a.s.now a.at a.luma a.chroma _ c.line_ok.ensures c.if-not-line_ok.true-raw _ c.line_place.ensures
 
-returns-2 : tie.Need-returns-2
-returns-2 c = let a = c.before.before.before.before.args in at_short a.s.now a.at a.luma a.chroma _ c.before.before.line_ok.ensures c.before.if1.false (omega arith)
+returns-2 : tie.Need-returns-then-s-at
+returns-2 c = let a = c.args in at_short a.s.now a.at a.luma a.chroma _ c.line_ok.ensures c.if-not-line_ok.false-raw (omega arith)
 
-returns-3 : tie.Need-returns-3
-returns-3 c = let a = c.before.before.before.before.before.args in
-    at_short a.s.now a.at a.luma a.chroma _ c.before.before.before.line_ok.ensures c.before.before.if1.false (omega arith)
+returns-3 : tie.Need-returns-then-s-at-2
+returns-3 c = let a = c.args in
+    at_short a.s.now a.at a.luma a.chroma _ c.line_ok.ensures c.if-not-line_ok.false-raw (omega arith)
 
-returns-4 : tie.Need-returns-4
+returns-4 : tie.Need-returns-then-not-planes_ok
 returns-4 c =
-    let a = c.before.before.before.before.before.before.before.args in
-    at_sample a.s.now a.at a.luma a.chroma _ c.before.before.before.before.before.line_ok.ensures
-    c.before.before.before.before.if1.false (omega arith) _ c.before.planes-ok.ensures c.if4.true
+    let a = c.args in
+    at_sample a.s.now a.at a.luma a.chroma _ c.line_ok.ensures
+    c.if-not-line_ok.false-raw (omega arith) _ c.planes_ok.ensures c.if-not-planes_ok.true-raw
 
-returns-5 : tie.Need-returns-5
+returns-5 : tie.Need-returns
 returns-5 c =
-    let a = c.before.before.before.before.before.before.before.args in
-    at_read a.s.now a.at a.luma a.chroma _ c.before.before.before.before.before.line_ok.ensures c.before.before.before.before.if1.false
-    (omega arith) _ c.before.planes-ok.ensures c.if4.false _ (omega arith)
+    let a = c.args in
+    at_read a.s.now a.at a.luma a.chroma _ c.line_ok.ensures c.if-not-line_ok.false-raw
+    (omega arith) _ c.planes_ok.ensures c.if-not-planes_ok.false-raw _ (omega arith)
 
 pub checked_frame_spec : {M : Type 1} → statement M
 checked_frame_spec =

@@ -15,7 +15,7 @@ unfolding planes_ok
 all s at luma chroma a b d p q r = rw (p, q, r)
 
 returns : tie.Need-returns
-returns c = all _ _ _ _ _ _ _ c.before.before.plane_ok.ensures c.before.plane-ok2.ensures c.plane-ok3.ensures
+returns c = all _ _ _ _ _ _ _ c.plane_ok.ensures c.plane_ok-2.ensures c.plane_ok-3.ensures
 
 pub planes_ok_spec : {M : Type 1} → statement M
 planes_ok_spec =

@@ -8,37 +8,37 @@ use Rattle.y4m_frame.proofs.read_frame.Statement.{statement}
 use Rattle.y4m_frame.proofs.read_frame.Tie as tie
 
 -- where the checks found nothing
-found : (c : tie.After-next) → let a = c.before.before.before.before.before.before.before.args in
+found : (c : tie.In-Read-2) → let a = c.args in
     Readable a.s.now a.at (length a.y.now) (length a.u.now) (length a.v.now) a.w a.h
-found c = let a = c.before.before.before.before.before.before.before.args in readable a.s.now a.at a.w a.h _ _ _ _ (sym c.before.before.checked.ensures ∙ c.next.given.1)
+found c = let a = c.args in readable a.s.now a.at a.w a.h _ _ _ _ (sym c.checked.ensures ∙ c.in-Read.is)
 
-add_luma : tie.Need-overflow-add-luma
+add_luma : tie.Need-overflow_add-luma
 add_luma c = omega (arith, (found c.before).inside)
 
-add_first : tie.Need-overflow-add-first
+add_first : tie.Need-overflow_add-first
 add_first c = omega (arith, (found c.before).inside)
 
-add_second : tie.Need-overflow-add-second
+add_second : tie.Need-overflow_add-second
 add_second c = omega (arith, (found c.before).inside)
 
-read_plane_requires : tie.Need-read-plane-requires
+read_plane_requires : tie.Need-read_plane-requires
 read_plane_requires c κs = omega (arith, (found c.before.before).inside)
 
-read_plane_requires_2 : tie.Need-read-plane-requires-2
+read_plane_requires_2 : tie.Need-read_plane-requires-in-Read
 read_plane_requires_2 c κs = omega (arith, (found c.before.before.before.before.before.before).inside)
 
-read_plane_requires_3 : tie.Need-read-plane-requires-3
+read_plane_requires_3 : tie.Need-read_plane-requires-in-Read-2
 read_plane_requires_3 c κs = let f = found c.before.before.before.before.before.before.before.before.before.before in omega (arith, f.inside, f.u_long, f.v_long)
 
-returns : tie.Need-returns
-returns c = read_refused _ _ c.before.before.before.checked.ensures _ _ c.before.r.given.1
+returns : tie.Need-returns-in-Refused
+returns c = read_refused _ _ c.checked.ensures _ _ c.in-Refused.is
 
-returns-2 : tie.Need-returns-2
+returns-2 : tie.Need-returns-in-Read
 returns-2 c =
-    read_done _ _ c.before.before.before.before.before.before.before.before.before.before.before.before.before.before.before.checked.ensures _ _ _ _
-    c.before.before.before.before.before.before.before.before.before.before.before.before.before.next.given.1
-    c.before.before.before.before.before.before.before.before.before.before.read-plane.ensures
-    c.before.before.before.before.before.before.read-plane2.ensures c.before.before.read-plane3.ensures
+    read_done _ _ c.checked.ensures _ _ _ _
+    c.in-Read.is
+    c.read_plane.ensures
+    c.read_plane-in-Read.ensures c.read_plane-in-Read-2.ensures
 
 pub read_frame_spec : {M : Type 1} → statement M
 read_frame_spec =

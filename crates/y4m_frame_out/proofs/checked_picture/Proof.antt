@@ -49,46 +49,46 @@ module _ (c : Format) (w h : ℕ) (y u v : List ℕ) (out : ℕ) (s : Bool) (e :
         unfolding check_of
         at_done t = goes_on s (size_ok w h) _ _ _ e ps (goes_on l _ _ _ _ f pl (goes_on k _ _ _ _ g pk (goes_on _ _ _ _ _ planes t refl)))
 
-returns : tie.Need-returns
-returns c = let a = c.before.before.before.before.before.args in at_size a.format a.w a.h a.y.now a.u.now a.v.now a.out _ c.before.Size-ok.ensures c.if1.true
+returns : tie.Need-returns-then-not-size_ok
+returns c = let a = c.args in at_size a.format a.w a.h a.y.now a.u.now a.v.now a.out _ c.size_ok.ensures c.if-not-size_ok.true-raw
 
-lengths_ok_requires : tie.Need-lengths-ok-requires
+lengths_ok_requires : tie.Need-lengths_ok-requires
 lengths_ok_requires c κs =
-    let z = sized c.before.before.before.before.before.args.w c.before.before.before.before.before.args.h (sym c.before.Size-ok.ensures ∙ not-false _ c.if1.false) in
+    let z = sized c.args.w c.args.h (sym c.size_ok.ensures ∙ c.if-not-size_ok.false) in
     (z.wide, z.high)
 
-returns-2 : tie.Need-returns-2
+returns-2 : tie.Need-returns-then-not-lengths_ok
 returns-2 c =
-    let a = c.before.before.before.before.before.before.before.args in
-    at_length a.format a.w a.h a.y.now a.u.now a.v.now a.out _ c.before.before.before.Size-ok.ensures
-    c.before.before.if1.false _ c.before.lengths-ok.ensures c.if2.true
+    let a = c.args in
+    at_length a.format a.w a.h a.y.now a.u.now a.v.now a.out _ c.size_ok.ensures
+    c.if-not-size_ok.false-raw _ c.lengths_ok.ensures c.if-not-lengths_ok.true-raw
 
-returns-3 : tie.Need-returns-3
+returns-3 : tie.Need-returns-then-not-colour_ok
 returns-3 c =
-    let a = c.before.before.before.before.before.before.before.before.before.args in
-    at_colour a.format a.w a.h a.y.now a.u.now a.v.now a.out _ c.before.before.before.before.before.Size-ok.ensures
-    c.before.before.before.before.if1.false _ c.before.before.before.lengths-ok.ensures c.before.before.if2.false
-    _ c.before.colour-ok.ensures c.if3.true
+    let a = c.args in
+    at_colour a.format a.w a.h a.y.now a.u.now a.v.now a.out _ c.size_ok.ensures
+    c.if-not-size_ok.false-raw _ c.lengths_ok.ensures c.if-not-lengths_ok.false-raw
+    _ c.colour_ok.ensures c.if-not-colour_ok.true-raw
 
-returns-4 : tie.Need-returns-4
+returns-4 : tie.Need-returns-then-not-samples_ok
 returns-4 c =
-    let a = c.before.before.before.before.before.before.before.before.before.before.before.before.before.args in
+    let a = c.args in
     at_sample a.format a.w a.h a.y.now a.u.now a.v.now a.out _
-    c.before.before.before.before.before.before.before.before.before.Size-ok.ensures
-    c.before.before.before.before.before.before.before.before.if1.false _
-    c.before.before.before.before.before.before.before.lengths-ok.ensures c.before.before.before.before.before.before.if2.false
-    _ c.before.before.before.before.before.colour-ok.ensures c.before.before.before.before.if3.false _ _ _ c.before.before.before.samples-ok.ensures
-    c.before.before.samples-ok2.ensures c.before.samples-ok3.ensures c.if4.true
+    c.size_ok.ensures
+    c.if-not-size_ok.false-raw _
+    c.lengths_ok.ensures c.if-not-lengths_ok.false-raw
+    _ c.colour_ok.ensures c.if-not-colour_ok.false-raw _ _ _ c.samples_ok.ensures
+    c.samples_ok-2.ensures c.samples_ok-3.ensures c.if-not-samples_ok.true-raw
 
-returns-5 : tie.Need-returns-5
+returns-5 : tie.Need-returns
 returns-5 c =
-    let a = c.before.before.before.before.before.before.before.before.before.before.before.before.before.args in
+    let a = c.args in
     at_done a.format a.w a.h a.y.now a.u.now a.v.now a.out _
-    c.before.before.before.before.before.before.before.before.before.Size-ok.ensures
-    c.before.before.before.before.before.before.before.before.if1.false _
-    c.before.before.before.before.before.before.before.lengths-ok.ensures c.before.before.before.before.before.before.if2.false
-    _ c.before.before.before.before.before.colour-ok.ensures c.before.before.before.before.if3.false _ _ _ c.before.before.before.samples-ok.ensures
-    c.before.before.samples-ok2.ensures c.before.samples-ok3.ensures c.if4.false
+    c.size_ok.ensures
+    c.if-not-size_ok.false-raw _
+    c.lengths_ok.ensures c.if-not-lengths_ok.false-raw
+    _ c.colour_ok.ensures c.if-not-colour_ok.false-raw _ _ _ c.samples_ok.ensures
+    c.samples_ok-2.ensures c.samples_ok-3.ensures c.if-not-samples_ok.false-raw
 
 pub checked_picture_spec : {M : Type 1} → statement M
 checked_picture_spec =

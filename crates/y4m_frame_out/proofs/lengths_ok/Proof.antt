@@ -20,11 +20,11 @@ lengths c w h y u v out n e = rw e
 luma : (c : tie.Start) → c.args.w * c.args.h ≤ 16777216
 luma c = area c.args.w c.args.h c.requires.0 c.requires.1
 
-chroma : (c : tie.After-chroma-length) → c.chroma-length.result ≤ 4194304
-chroma c = let s = c.before in small_chroma s.args.format s.args.w s.args.h _ s.requires.0 s.requires.1 c.chroma-length.ensures
+chroma : (c : tie.After-chroma_length-chroma) → c.chroma_length-chroma.result ≤ 4194304
+chroma c = small_chroma c.args.format c.args.w c.args.h _ c.requires.0 c.requires.1 c.chroma_length-chroma.ensures
 
 returns : tie.Need-returns
-returns c = let a = c.before.args in lengths a.format a.w a.h a.y a.u a.v a.out _ c.chroma-length.ensures
+returns c = let a = c.args in lengths a.format a.w a.h a.y a.u a.v a.out _ c.chroma_length-chroma.ensures
 
 pub lengths_ok_spec : {M : Type 1} → statement M
 lengths_ok_spec =

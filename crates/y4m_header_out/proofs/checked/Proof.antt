@@ -30,26 +30,24 @@ module _ (c : Format) (w h f g a b n : ℕ) (s : Bool) (e : s ≡ size_ok w h) w
       at_done : not k ≡ false → Done ≡ check_of c w h f g a b n
       at_done t = goes_on s (size_ok w h) _ _ _ e sized (past_refusal _ _ _ _ (eq-eqb n 256 long) (goes_on k _ _ _ _ o t refl))
 
-returns : tie.Need-returns
-returns c = let a = c.before.before.args in at_size a.format a.w a.h a.f a.g a.a a.b a.out _ c.before.Size-ok.ensures c.if1.true
+returns : tie.Need-returns-then-not-size_ok
+returns c = let a = c.args in at_size a.format a.w a.h a.f a.g a.a a.b a.out _ c.size_ok.ensures c.if-not-size_ok.true-raw
 
-returns-2 : tie.Need-returns-2
-returns-2 c = let a = c.before.before.before.args in
-    at_length a.format a.w a.h a.f a.g a.a a.b a.out _ c.before.before.Size-ok.ensures c.before.if1.false c.if2.true
+returns-2 : tie.Need-returns-then-out-ne256
+returns-2 c = let a = c.args in
+    at_length a.format a.w a.h a.f a.g a.a a.b a.out _ c.size_ok.ensures c.if-not-size_ok.false-raw c.if-out-ne256.true
 
-returns-3 : tie.Need-returns-3
+returns-3 : tie.Need-returns-then-not-numbers_ok
 returns-3 c =
-    let s = c.before.before.before in
-    let a = s.before.before.args in
-    at_numbers a.format a.w a.h a.f a.g a.a a.b a.out _ s.before.Size-ok.ensures s.if1.false
-    c.before.before.if2.false _ c.before.numbers-ok.ensures c.if3.true
+    let a = c.args in
+    at_numbers a.format a.w a.h a.f a.g a.a a.b a.out _ c.size_ok.ensures c.if-not-size_ok.false-raw
+    c.if-out-ne256.false _ c.numbers_ok.ensures c.if-not-numbers_ok.true-raw
 
-returns-4 : tie.Need-returns-4
+returns-4 : tie.Need-returns
 returns-4 c =
-    let s = c.before.before.before in
-    let a = s.before.before.args in
-    at_done a.format a.w a.h a.f a.g a.a a.b a.out _ s.before.Size-ok.ensures s.if1.false
-    c.before.before.if2.false _ c.before.numbers-ok.ensures c.if3.false
+    let a = c.args in
+    at_done a.format a.w a.h a.f a.g a.a a.b a.out _ c.size_ok.ensures c.if-not-size_ok.false-raw
+    c.if-out-ne256.false _ c.numbers_ok.ensures c.if-not-numbers_ok.false-raw
 
 pub checked_spec : {M : Type 1} → statement M
 checked_spec = tie.close (tie.spec (λ c κs. search rules) returns returns-2 (λ c κs. search rules) returns-3 returns-4)

@@ -19,13 +19,12 @@ module _ (c : Format) (f g a b : ℕ) where
   unfolding numbers_ok
   colour p q r s e ef eg ea eb = rw (e, ef, eg, ea, eb)
 
-returns : tie.Need-returns
-returns c = grey _ _ _ _ _ c.enum_told.given.1
+returns : tie.Need-returns-in-Grey
+returns c = grey _ _ _ _ _ c.in-Grey.is
 
-returns-2 : tie.Need-returns-2
+returns-2 : tie.Need-returns-in-Colour
 returns-2 c =
-    let d = c.before.before.before in
-    colour _ _ _ _ _ _ _ _ _ d.before.enum-told2.given.1 d.in_range_lem.ensures c.before.before.in-range2.ensures c.before.in-range3.ensures c.in-range4.ensures
+    colour _ _ _ _ _ _ _ _ _ c.in-Colour.is c.in_range.ensures c.in_range-in-Colour.ensures c.in_range-in-Colour-2.ensures c.in_range-in-Colour-3.ensures
 
 pub numbers_ok_spec : {M : Type 1} → statement M
 numbers_ok_spec =

@@ -86,33 +86,31 @@ module _ (f : Format) (w n k : ℕ) (e : k ≡ in_format f (4 * n)) (y u v words
         marks = end_drop n words words₁ lw ∙ b.marks ∙ ap (λ (m : Maps). done_from (top * w) m.words) maps_left;
       }
 
-abbrev start : tie.After-passes-by → tie.Start
+abbrev start : tie.After-passes_by → tie.Start
 start d = d.before.before.before.before.before.before.before.before.before.before.before.before.before.before.before.before
 
 -- no map of edge rows is lent
 no_rows : (w : ℕ) (words : List ℕ) (motion refs : List ℤ) → RowsLent w words motion refs []
 no_rows w words motion refs k l = absurd (not-suc-le-zero l)
 
-passes_by_requires : tie.Need-passes-by-requires
+passes_by_requires : tie.Need-passes_by-requires
 passes_by_requires c κs =
-    let s = c.before.before.before.before.before.before.before.before.before.before.before.before.before.before.before in
-    let a = s.args in
-    let k = c.before.before.before.before.before.before.before.before.in-format in (
+    let a = c.args in
+    let k = c.in_format-chroma in (
       lent_picture a.format (a.w / 4) (a.skip * (a.w / 4)) k.result k.ensures a.y.now a.u.now a.v.now a.words.now
-          a.motion.now a.refs.now a.keep.now a.entries.now (a.top + a.h / 4) s.requires.0.0,
-      s.requires.0.1,
+          a.motion.now a.refs.now a.keep.now a.entries.now (a.top + a.h / 4) c.requires.0.0,
+      c.requires.0.1,
       no_rows _ _ _ _,
     )
 
 returns : tie.Need-returns
 returns c =
-    let d = c.before.before.before.before.before.before.before.before in
-    let s = start d in
+    let s = start c.before.before.before.before.before.before.before.before in
     let a = s.args in
     let n = a.skip * (a.w / 4) in
-    let k = d.before.before.before.before.before.before.before.before.before.in-format in
-    let b = d.passes-by in
-    let r = s.pre.1 in (
+    let k = c.in_format-chroma in
+    let b = c.passes_by in
+    let r = s.requires.1 in (
       take_put (16 * n) (length a.y.now - 16 * n) a.y.now b.new.1.1.1.1.1.0 r.0,
       front_at k.ensures a.u.now b.new.1.1.1.1.1.1.0 r.1,
       front_at k.ensures a.v.now b.new.1.1.1.1.1.1.1.0 r.2,
@@ -174,39 +172,35 @@ band_passes_spec =
     (λ c. fits_4 (few c.before.before.before.before.before.before.before))
     (λ c. fits_2 (few c.before.before.before.before.before.before.before))
     (λ c. bytes_2 (few c.before.before.before.before.before.before.before))
-    (λ c. c.before.before.before.before.before.before.before.requires.1.0)
-    (λ c. c.before.before.before.before.before.before.before.requires.1.0)
+    (λ c. c.requires.1.0)
+    (λ c. c.requires.1.0)
     (λ c. le_refl _)
-    (λ c. let s = c.before.before.before.before.before.before.before.before in colour_2 (few s) s.args.format c.before.in-format.ensures)
-    (λ c. before_end c.before.in-format.ensures c.before.before.before.before.before.before.before.before.requires.1.1)
-    (λ c. before_end c.before.in-format.ensures c.before.before.before.before.before.before.before.before.requires.1.1)
+    (λ c. colour_2 (few c.before.before.before.before.before.before.before.before) c.args.format c.in_format-chroma.ensures)
+    (λ c. before_end c.in_format-chroma.ensures c.requires.1.1)
+    (λ c. before_end c.in_format-chroma.ensures c.requires.1.1)
     (λ c. le_refl _)
-    (λ c. let s = c.before.before.before.before.before.before.before.before.before in colour_2 (few s) s.args.format c.before.before.in-format.ensures)
-    (λ c. before_end c.before.before.in-format.ensures c.before.before.before.before.before.before.before.before.before.requires.1.2)
-    (λ c. before_end c.before.before.in-format.ensures c.before.before.before.before.before.before.before.before.before.requires.1.2)
+    (λ c. colour_2 (few c.before.before.before.before.before.before.before.before.before) c.args.format c.in_format-chroma.ensures)
+    (λ c. before_end c.in_format-chroma.ensures c.requires.1.2)
+    (λ c. before_end c.in_format-chroma.ensures c.requires.1.2)
     (λ c. le_refl _)
     (λ c. bytes_4 (few c.before.before.before.before.before.before.before.before.before.before))
-    (λ c. c.before.before.before.before.before.before.before.before.before.before.requires.1.3)
-    (λ c. c.before.before.before.before.before.before.before.before.before.before.requires.1.3)
+    (λ c. c.requires.1.3)
+    (λ c. c.requires.1.3)
     (λ c. le_refl _)
     (λ c. motion_2 (few c.before.before.before.before.before.before.before.before.before.before.before))
-    (λ c. c.before.before.before.before.before.before.before.before.before.before.before.requires.1.4)
-    (λ c. c.before.before.before.before.before.before.before.before.before.before.before.requires.1.4)
+    (λ c. c.requires.1.4)
+    (λ c. c.requires.1.4)
     (λ c. le_refl _)
-    (λ c. c.before.before.before.before.before.before.before.before.before.before.before.before.requires.1.5)
-    (λ c. c.before.before.before.before.before.before.before.before.before.before.before.before.requires.1.5)
+    (λ c. c.requires.1.5)
+    (λ c. c.requires.1.5)
     (λ c. le_refl _)
-    (λ c. c.before.before.before.before.before.before.before.before.before.before.before.before.before.requires.1.6)
-    (λ c. c.before.before.before.before.before.before.before.before.before.before.before.before.before.requires.1.6)
+    (λ c. c.requires.1.6)
+    (λ c. c.requires.1.6)
     (λ c. le_refl _)
     (λ c. refl)
     passes_by_requires
-    (λ c. let d = c.before.before.before.before.before.before.before.before in
-    kept_long _ (start d).args.y.now d.passes-by.new.1.1.1.1.1.0 d.passes-by.auto.1.1.1.1.1.0)
-    (λ c. let d = c.before.before.before.before.before.before.before.before in
-    kept_long _ (start d).args.u.now d.passes-by.new.1.1.1.1.1.1.0 d.passes-by.auto.1.1.1.1.1.1.0)
-    (λ c. let d = c.before.before.before.before.before.before.before.before in
-    kept_long _ (start d).args.v.now d.passes-by.new.1.1.1.1.1.1.1.0 d.passes-by.auto.1.1.1.1.1.1.1.0)
-    (λ c. let d = c.before.before.before.before.before.before.before.before in
-    kept_long _ (start d).args.words.now d.passes-by.new.1.1.1.1.1.1.1.1.0 d.passes-by.auto.1.1.1.1.1.1.1.1.0)
+    (λ c. kept_long _ (start c.before.before.before.before.before.before.before.before).args.y.now c.passes_by.new.1.1.1.1.1.0 c.passes_by.auto.y)
+    (λ c. kept_long _ (start c.before.before.before.before.before.before.before.before).args.u.now c.passes_by.new.1.1.1.1.1.1.0 c.passes_by.auto.u)
+    (λ c. kept_long _ (start c.before.before.before.before.before.before.before.before).args.v.now c.passes_by.new.1.1.1.1.1.1.1.0 c.passes_by.auto.v)
+    (λ c. kept_long _ (start c.before.before.before.before.before.before.before.before).args.words.now c.passes_by.new.1.1.1.1.1.1.1.1.0 c.passes_by.auto.words)
     returns)

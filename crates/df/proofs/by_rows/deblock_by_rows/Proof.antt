@@ -36,32 +36,31 @@ of s =
       rows = a.rows.now;
     }
 
-returns : tie.Need-returns
-returns c = by_refused _ _ _ c.before.before.before.checked-by-rows.ensures c.before.r.given.1
+returns : tie.Need-returns-in-Refused
+returns c = by_refused _ _ _ c.checked_by_rows.ensures c.in-Refused.is
 
 -- the checks found nothing
-fine : (c : tie.After-enum-told) → check (of c.before.before.before.before.before.before.before.before.before.before.before.before.before.before.before) ≡ Done
+fine : (c : tie.In_default) → check (of c.before.before.before.before.before.before.before.before.before.before) ≡ Done
 unfolding of
-fine c = sym c.before.before.checked-by-rows.ensures ∙ c.enum_told.given.1
+fine c = sym c.checked_by_rows.ensures ∙ c.in_default.is
 
-passes_by_requires : tie.Need-passes-by-requires
+passes_by_requires : tie.Need-passes_by-n-requires
 unfolding of
 passes_by_requires c κs =
-    let i = of c.before.before.before.before.before.before.before.before.before.before.before.before.before.before.before.before.before.before.before.before.before.before in
+    let i = of c.before.before.before.before.before.before.before.before.before.before.before.before.before.before.before.before.before in
     let e = fine c.before.before.before.before.before.before.before in
     let f = picture_fine (checked i) e in
-    let t = ap length c.before.before.before.before.before.before.entries_by.ensures ∙ entries_long _ _ _ _ _ _ in
+    let t = ap length c.entries_by-table.ensures ∙ entries_long _ _ _ _ _ _ in
     (lent_zero (lent_picture i.given f _ t), accepted i.given f, rows_fine (checked i) e)
 
-returns-2 : tie.Need-returns-2
+returns-2 : tie.Need-returns
 unfolding of
 returns-2 c =
-    let passed = c.before.before.before.before.before.before.before.before.before.before.before.before.before.before.before.before.before in
-    let i = of passed.before.before.before.before.before.before.before.before.before.before.before.before.before.before.before in
-    let e = fine passed in
+    let i = of c.before.before.before.before.before.before.before.before.before.before.before.before.before.before.before.before.before.before.before.before.before.before.before.before.before.before.before in
+    let e = fine c.before.before.before.before.before.before.before.before.before.before.before.before.before.before.before.before.before in
     deblock_done i.given (picture_fine (checked i) e) _ _ _ _ _ _ _
-    c.before.before.before.before.before.before.before.before.before.before.before.before.before.before.before.before.entries_by.ensures
-    (both_zero _ _ _ c.before.before.before.before.before.before.before.before.before.passes-by.ensures)
+    c.entries_by-table.ensures
+    (both_zero _ _ _ c.passes_by-n.ensures)
     c.done.ensures
     ∙ same_outcome i e
 
@@ -80,8 +79,8 @@ deblock_by_rows_spec =
     (λ c κs. tt)
     passes_by_requires
     (λ c κs. tt)
-    (λ c. c.before.before.before.before.before.before.before.before.before.passes-by.auto.1.1.1.1.1.0)
-    (λ c. c.before.before.before.before.before.before.before.before.before.passes-by.auto.1.1.1.1.1.1.0)
-    (λ c. c.before.before.before.before.before.before.before.before.before.passes-by.auto.1.1.1.1.1.1.1.0)
-    (λ c. c.before.before.before.before.before.before.before.before.before.passes-by.auto.1.1.1.1.1.1.1.1.0)
+    (λ c. c.passes_by-n.auto.y)
+    (λ c. c.passes_by-n.auto.u)
+    (λ c. c.passes_by-n.auto.v)
+    (λ c. c.passes_by-n.auto.words)
     returns-2)

@@ -18,13 +18,13 @@ use Rattle.df.proofs.Turns.{Roots, roots_none, roots_more, roots_frame, roots_al
 use Rattle.df.proofs.pass.deblock_pass.Statement.{statement}
 use Rattle.df.proofs.pass.deblock_pass.Tie as tie
 
-abbrev invariant-loop : tie.invariant-loop
+abbrev invariant-loop : tie.invariant-loop-i
 invariant-loop format pass halved w h top y₀ u₀ v₀ words splits motion refs keep rows entries columns horizontal roots list₀ places₀ marks₀ count₀ i₀ y u v list places marks count i =
     (i ≤ roots) × (length y ≡ length y₀) × (length u ≡ length u₀) × (length v ≡ length v₀) × (length list ≡ 512) × (length places ≡ 256) × (length marks ≡ 256)
     × Roots (record { words = words; over = record { motion = motion; refs = refs; keep = keep } }) entries (pass_of pass) halved top splits (w / 4) (h / 4) i
     (record { y = y₀; u = u₀; v = v₀ }) (record { y = y; u = u; v = v }) count
 
-abbrev decreases-loop : tie.decreases-loop
+abbrev decreases-loop : tie.decreases-loop-i
 decreases-loop format pass halved w h top y₀ u₀ v₀ words splits motion refs keep rows entries columns horizontal roots list₀ places₀ marks₀ count₀ i₀ y u v list places marks count i = roots - i
 
 -- what decides
@@ -53,122 +53,106 @@ pairs_fit l e = omega arith
 all_fit : {n k : ℕ} → n ≤ 256 → k ≡ 256 → n ≤ k
 all_fit l e = omega arith
 
-root_count_requires : tie.Need-root-count-requires invariant-loop decreases-loop
+root_count_requires : tie.Need-root_count-roots-requires invariant-loop decreases-loop
 root_count_requires c κs = let z = size c.before.before.before.before.before.before.before.before in (z.wide, z.high)
 
-loop_holds : tie.Need-loop-init invariant-loop decreases-loop
+loop_holds : tie.Need-loop-i-init invariant-loop decreases-loop
 loop_holds c =
-    (omega arith, refl, refl, refl, refl, refl, refl, roots_none _ _ (pass_of c.before.before.before.before.before.before.before.before.before.args.pass) _ _ _ _ _ _)
+    (omega arith, refl, refl, refl, refl, refl, refl, roots_none _ _ (pass_of c.args.pass) _ _ _ _ _ _)
 
-root_edges_requires : tie.Need-root-edges-requires invariant-loop decreases-loop
+root_edges_requires : tie.Need-root_edges-n-requires invariant-loop decreases-loop
 root_edges_requires c κs = (
-  c.before.before.before.before.before.before.before.before.before.before.before.before.requires.1,
-  subst (λ (n : ℕ). c.before.before.loop.i < n) c.before.before.before.root-count.ensures.0 c.before.loop-test.true,
-  c.before.before.loop.invariant.4,
-  c.before.before.before.before.before.before.before.before.before.before.before.before.requires.0.high,
+  c.requires.1,
+  subst (λ (n : ℕ). c.loop-i.i < n) c.root_count-roots.ensures.0 c.loop-i-test.true,
+  c.loop-i.invariant.4,
+  c.requires.0.high,
 )
 
 -- the units of a root's edges lie in the maps
-knowns : (c : tie.After-plan-edges invariant-loop decreases-loop) → let turn = c.before.before.before.before.before in
-    let a = turn.before.before.before.before.before.before.before.before.before.before.before.before.before.args in
-    let l = turn.before.before.before.loop in
+knowns : (c : tie.After-plan_edges invariant-loop decreases-loop) → let a = c.args in
+    let l = c.loop-i in
     Knowns (pass_of a.pass) (a.w / 4) a.words.now (record { motion = a.motion.now; refs = a.refs.now; keep = a.keep.now }) a.rows.now
-    turn.root-edges.new.1.1.1.1.1.1.1.0 turn.root-edges.result l.places l.marks
+    c.root_edges-n.new.1.1.1.1.1.1.1.0 c.root_edges-n.result l.places l.marks
 knowns c =
-    let turn = c.before.before.before.before.before in
-    let s = turn.before.before.before.before.before.before.before.before.before.before.before.before.before in
-    let r = turn.root-edges.ensures in
-    let l = turn.before.before.before.loop in
+    let r = c.root_edges-n.ensures in
+    let l = c.loop-i in
     record {
-      wide = s.requires.0.wide;
+      wide = c.requires.0.wide;
       long = pairs_fit r.few r.long;
       fits = all_fit r.few l.invariant.5;
       fits_marks = all_fit r.few l.invariant.6;
-      right = s.requires.2;
-      edges = λ k g. edge_known (pass_of s.args.pass) _ _ s.requires.0 (r.units k g);
+      right = c.requires.2;
+      edges = λ k g. edge_known (pass_of c.args.pass) _ _ c.requires.0 (r.units k g);
     }
 
 -- so its plan is the one by the maps
-plan_of : (c : tie.After-plan-edges invariant-loop decreases-loop) → let turn = c.before.before.before.before.before in
-    let s = turn.before.before.before.before.before.before.before.before.before.before.before.before.before in
-    Planned (maps s) (pass_of s.args.pass) (s.args.w / 4) turn.root-edges.new.1.1.1.1.1.1.1.0 turn.root-edges.result
-    c.plan-edges.new.1.1.1.1.1.1.1.1.1.0 c.plan-edges.new.1.1.1.1.1.1.1.1.1.1.0
-plan_of c = plan_known _ _ _ _ _ (knowns c) c.before.before.before.before.before.before.before.before.before.before.is-horizontal.ensures c.plan-edges.ensures
+plan_of : (c : tie.After-plan_edges invariant-loop decreases-loop) → Planned (maps c.before.before.before.before.before.before.before.before.before.before.before.before.before.before.before.before.before.before) (pass_of c.args.pass) (c.args.w / 4) c.root_edges-n.new.1.1.1.1.1.1.1.0 c.root_edges-n.result
+    c.plan_edges.new.1.1.1.1.1.1.1.1.1.0 c.plan_edges.new.1.1.1.1.1.1.1.1.1.1.0
+plan_of c = plan_known _ _ _ _ _ (knowns c) c.is_horizontal-horizontal.ensures c.plan_edges.ensures
 
 -- the picture, at a turn
-current : (c : tie.At-loop invariant-loop decreases-loop) → let a = c.before.before.before.before.before.before.before.before.before.before.args in
+current : (c : tie.At-loop-i invariant-loop decreases-loop) → let a = c.args in
     LentPlanes a.format (a.w / 4) (a.top + a.h / 4) (record { motion = a.motion.now; refs = a.refs.now; keep = a.keep.now }) a.entries.now
-    (record { y = c.loop.y; u = c.loop.u; v = c.loop.v }) a.words.now
-current c = let s = c.before.before.before.before.before.before.before.before.before.before in
-    roots_frame (maps s) _ (pass_of s.args.pass) _ _ _ _ _ c.loop.i _ _ _ c.loop.invariant.7 s.requires.0
+    (record { y = c.loop-i.y; u = c.loop-i.u; v = c.loop-i.v }) a.words.now
+current c = roots_frame (maps c.before.before.before.before.before.before.before.before.before.before) _ (pass_of c.args.pass) _ _ _ _ _ c.loop-i.i _ _ _ c.loop-i.invariant.7 c.requires.0
 
 -- a root's plan has the room that it had before the turn
-places_long : (c : tie.After-plan-edges invariant-loop decreases-loop) → length c.plan-edges.new.1.1.1.1.1.1.1.1.1.0 ≡ 256
-places_long c = c.plan-edges.auto.1.1.1.1.1.1.1.1.1.0 ∙ c.before.before.before.before.before.before.before.before.loop.invariant.5
+places_long : (c : tie.After-plan_edges invariant-loop decreases-loop) → length c.plan_edges.new.1.1.1.1.1.1.1.1.1.0 ≡ 256
+places_long c = c.plan_edges.auto.places ∙ c.loop-i.invariant.5
 
-marks_long : (c : tie.After-plan-edges invariant-loop decreases-loop) → length c.plan-edges.new.1.1.1.1.1.1.1.1.1.1.0 ≡ 256
-marks_long c = c.plan-edges.auto.1.1.1.1.1.1.1.1.1.1.0 ∙ c.before.before.before.before.before.before.before.before.loop.invariant.6
+marks_long : (c : tie.After-plan_edges invariant-loop decreases-loop) → length c.plan_edges.new.1.1.1.1.1.1.1.1.1.1.0 ≡ 256
+marks_long c = c.plan_edges.auto.marks ∙ c.loop-i.invariant.6
 
-add_count : tie.Need-overflow-add-count invariant-loop decreases-loop
+add_count : tie.Need-overflow_add-count invariant-loop decreases-loop
 add_count c =
-    let after = c.before.before.before.before.before.before.before.before.before.before.before.before in
-    let turn = after.before.before.before.before.before.before.before.before.before.before.before.before in
-    let l = turn.before.before.before.loop in
-    count_fits turn.before.before.before.before.root-count.ensures.1 l.invariant.0 l.invariant.7.few turn.root-edges.ensures.few
+    let l = c.loop-i in
+    count_fits c.root_count-roots.ensures.1 l.invariant.0 l.invariant.7.few c.root_edges-n.ensures.few
 
-add_i : tie.Need-overflow-add-i invariant-loop decreases-loop
+add_i : tie.Need-overflow_step-i invariant-loop decreases-loop
 add_i c =
-    let after = c.before.before.before.before.before.before.before.before.before.before.before.before in
-    let turn = after.before.before.before.before.before.before.before.before.before.before.before.before.before.before in
-    next_fits turn.before.before.root-count.ensures.1 turn.loop-test.true
+    next_fits c.root_count-roots.ensures.1 c.loop-i-test.true
 
-loop_less : tie.Need-loop-smaller invariant-loop decreases-loop
+loop_less : tie.Need-loop-i-smaller invariant-loop decreases-loop
 loop_less c =
-    let after = c.before.before.before.before.before.before.before.before.before.before.before.before in
-    let turn = after.before.before.before.before.before.before.before.before.before.before.before.before.before.before in
-    one_less turn.loop-test.true
+    one_less c.loop-i-test.true
 
-loop_again : tie.Need-loop-preserved invariant-loop decreases-loop
+loop_again : tie.Need-loop-i-preserved invariant-loop decreases-loop
 loop_again c =
-    let turn = c.before.before.before.before.before.before.before.before.before.before.before.before in
-    let top = turn.before.before.before.before.before.before.before.before.before.before.before.before.before.before.before in
-    let s = top.before.before.before.before.before.before.before.before.before.before in
-    let l = turn.before.before.before.before.before.before.before.before.before.before.before.before.before.before.before.loop in
-    let ky = turn.filter-luma.auto in
-    let k = c.before.before.before.before.filter-chroma.auto in
-    let r = turn.before.before.before.before.before.before.before.before.before.before.before.before.root-edges.ensures in
-    let p = plan_of turn.before.before.before.before.before.before.before in
-    let f = c.before.before.before.before.filter-chroma.ensures in
-    let d = pass_of s.args.pass in
-    let high = s.args.top + s.args.h / 4 in
-    let now = current top in
+    let l = c.loop-i in
+    let ky = c.filter_luma.auto in
+    let k = c.filter_chroma.auto in
+    let r = c.root_edges-n.ensures in
+    let p = plan_of c.before.before.before.before.before.before.before.before.before.before.before.before.before.before.before.before.before.before.before in
+    let f = c.filter_chroma.ensures in
+    let d = pass_of c.args.pass in
+    let high = c.args.top + c.args.h / 4 in
+    let now = current c.before.before.before.before.before.before.before.before.before.before.before.before.before.before.before.before.before.before.before.before.before.before.before.before.before.before.before in
     let alike = (u_plane now).long ∙ sym (v_plane now).long in (
-      one_more turn.before.before.before.before.before.before.before.before.before.before.before.before.before.before.loop-test.true,
+      one_more c.loop-i-test.true,
       ky.1.1.0 ∙ l.invariant.1,
       k.1.1.1.0 ∙ l.invariant.2,
       k.1.1.1.1.0 ∙ l.invariant.3,
       r.long,
-      places_long turn.before.before.before.before.before.before.before,
-      marks_long turn.before.before.before.before.before.before.before,
-      roots_more _ _ (pass_of s.args.pass) _ _ _ _ _ l.i _ _ _ _ _ _ _ _ _ _ r.few r.same s.requires.0.marks p l.invariant.7
-          (luma_by_plan _ s.requires.0.long_entries d _ high _ _ _ _ r.few r.units _ _ (luma_plane now) turn.filter-luma.ensures)
-          (u_by_plan _ s.requires.0.long_entries d _ high _ _ _ _ r.few r.units _ _ _ _ _ alike (u_plane now) f.0)
-          (v_by_plan _ s.requires.0.long_entries d _ high _ _ _ _ r.few r.units _ _ _ _ _ alike (v_plane now) f.1),
+      places_long c.before.before.before.before.before.before.before.before.before.before.before.before.before.before.before.before.before.before.before,
+      marks_long c.before.before.before.before.before.before.before.before.before.before.before.before.before.before.before.before.before.before.before,
+      roots_more _ _ (pass_of c.args.pass) _ _ _ _ _ l.i _ _ _ _ _ _ _ _ _ _ r.few r.same c.requires.0.marks p l.invariant.7
+          (luma_by_plan _ c.requires.0.long_entries d _ high _ _ _ _ r.few r.units _ _ (luma_plane now) c.filter_luma.ensures)
+          (u_by_plan _ c.requires.0.long_entries d _ high _ _ _ _ r.few r.units _ _ _ _ _ alike (u_plane now) f.0)
+          (v_by_plan _ c.requires.0.long_entries d _ high _ _ _ _ r.few r.units _ _ _ _ _ alike (v_plane now) f.1),
     )
 
 returns : tie.Need-returns invariant-loop decreases-loop
 returns c =
-    let s = c.before.before.before.before.before.before.before.before.before.before.before in
-    let l = c.before.loop in
-    roots_all _ _ (pass_of s.args.pass) _ _ _ _ _ l.i _ _ _ (omega (arith, l.invariant.0, c.loop-test.false, roots_units (size s), c.before.before.root-count.ensures.0)) l.invariant.7
+    let l = c.loop-i in
+    roots_all _ _ (pass_of c.args.pass) _ _ _ _ _ l.i _ _ _ (omega (arith, l.invariant.0, c.loop-i-test.false, roots_units (size c.before.before.before.before.before.before.before.before.before.before.before), c.root_count-roots.ensures.0)) l.invariant.7
 
 pub deblock_pass_spec : {M : Type 1} → statement M
 deblock_pass_spec =
     tie.close
     (tie.spec invariant-loop decreases-loop (λ c κs. search rules) root_count_requires loop_holds
-    (λ c. sym c.before.before.loop.invariant.4)
+    (λ c. sym c.loop-i.invariant.4)
     root_edges_requires
-    (λ c. sym c.before.before.root-edges.ensures.long)
-    (λ c. sym c.before.before.before.before.before.before.loop.invariant.5)
-    (λ c. sym c.before.before.before.before.before.before.before.loop.invariant.6)
-    (λ c κs. search rules) (λ c κs. tt) (λ c κs. tt) add_count add_i loop_less loop_again (λ c. c.before.loop.invariant.1) (λ c. c.before.loop.invariant.2) (λ c. c.before.loop.invariant.3) returns)
+    (λ c. sym c.root_edges-n.ensures.long)
+    (λ c. sym c.loop-i.invariant.5)
+    (λ c. sym c.loop-i.invariant.6)
+    (λ c κs. search rules) (λ c κs. tt) (λ c κs. tt) add_count add_i loop_less loop_again (λ c. c.loop-i.invariant.1) (λ c. c.loop-i.invariant.2) (λ c. c.loop-i.invariant.3) returns)

@@ -8,14 +8,14 @@ use Rattle.split.proofs.Roots.{few_roots}
 use Rattle.df.proofs.pass.root_count.Statement.{statement}
 use Rattle.df.proofs.pass.root_count.Tie as tie
 
-module _ (c : tie.After-roots-along2) where
+module _ (c : tie.After-roots_along-2) where
   abbrev s : tie.Start
   s = c.before.before
 
-  same : c.before.roots-along.result * c.roots-along2.result ≡ root_count s.args.w s.args.h
-  same = ap₂ ◌*◌ c.before.roots-along.ensures c.roots-along2.ensures
+  same : c.roots_along.result * c.roots_along-2.result ≡ root_count s.args.w s.args.h
+  same = ap₂ ◌*◌ c.roots_along.ensures c.roots_along-2.ensures
 
-mul_result : tie.Need-overflow-mul-result
+mul_result : tie.Need-overflow_mul-result
 mul_result c = let p = (s c).requires in omega (arith, same c, few_roots _ _ p.0 p.1)
 
 returns : tie.Need-returns

@@ -18,48 +18,44 @@ count s = sample_count s.args.block.component s.args.block.side
 few : (s : tie.Start) → count s ≤ 4096
 few s = samples_few s.args.block.component _ _ _ _ _ s.requires.0.0.block
 
-counted : (c : tie.After-in-component) → c.in-component.result * c.in-component.result ≡ count c.before.before.before.before.before.before
-counted c = rw c.in-component.ensures
+counted : (c : tie.After-in_component-n) → c.in_component-n.result * c.in_component-n.result ≡ count c.before.before.before.before.before.before
+counted c = rw c.in_component-n.ensures
 
 -- whether it is coded
-uncoded : (c : tie.Then1) → c.before.before.before.before.before.before.before.args.coded ≡ false
-uncoded c = not-true _ c.if1.true
+uncoded : (c : tie.Then-not-coded) → c.args.coded ≡ false
+uncoded c = c.if-not-coded.true
 
-coded : (c : tie.Else1) → c.before.before.before.before.before.before.before.args.coded ≡ true
-coded c = not-false _ c.if1.false
+coded : (c : tie.Else-not-coded) → c.args.coded ≡ true
+coded c = c.if-not-coded.false
 
 -- where it is, they are left in the list
-left : (c : tie.Else1) → c.before.before.before.before.before.before.before.args.at + count c.before.before.before.before.before.before.before ≤ length
-    c.before.before.before.before.before.before.before.args.residual.now
-left c = rw (coded c) at c.before.before.before.before.before.before.before.requires.0.2
+left : (c : tie.Else-not-coded) → c.args.at + count c.before.before.before.before.before.before.before ≤ length
+    c.args.residual.now
+left c = rw (coded c) at c.requires.0.2
 
-draw_uncoded_requires : tie.Need-draw-uncoded-requires
-draw_uncoded_requires c κs = let s = c.before.before.before.before.before.before.before.before.before.before in
-    ((s.requires.0.0, s.requires.0.1, counted c.before.before.before.before), s.requires.1)
+draw_uncoded_requires : tie.Need-draw_uncoded-requires
+draw_uncoded_requires c κs = ((c.requires.0.0, c.requires.0.1, counted c.before.before.before.before), c.requires.1)
 
-returns : tie.Need-returns
+returns : tie.Need-returns-then-not-coded
 returns c = (
-  c.before.before.before.before.before.before.draw-uncoded.ensures
+  c.draw_uncoded.ensures
       ∙ rw (uncoded c.before.before.before.before.before.before.before.before.before.before) (plane_uncoded _ _ _ _ _),
   rw (uncoded c.before.before.before.before.before.before.before.before.before.before) (omega arith),
 )
 
 draw_requires : tie.Need-draw-requires
 draw_requires c κs =
-    let s = c.before.before.before.before.before.before.before.before.before.before.before in
-    ((s.requires.0.0, s.requires.0.1, simp (length-take, length-drop) (omega (arith, counted c.before.before.before.before.before, left c.before.before.before.before))), s.requires.1)
+    ((c.requires.0.0, c.requires.0.1, simp (length-take, length-drop) (omega (arith, counted c.before.before.before.before.before, left c.before.before.before.before))), c.requires.1)
 
-returns-2 : tie.Need-returns-2
+returns-2 : tie.Need-returns
 returns-2 c =
-    let s = c.before.before.before.before.before.before.before.before.before.before.before.before.before.before.before.before.before.before in
-    let m = c.before.before.before.before.before.before.before.before.before.before.before.before in
-    let e : s.args.at + m.in-component.result * m.in-component.result - s.args.at ≡ count s = omega (arith, counted m) in (
-      c.before.before.before.before.before.before.draw.ensures
+    let e : c.args.at + c.in_component-n.result * c.in_component-n.result - c.args.at ≡ count s = omega (arith, counted c.before.before.before.before.before.before.before.before.before.before.before.before) in (
+      c.draw.ensures
           ∙ rw (e, coded c.before.before.before.before.before.before.before.before.before.before.before),
-      rw (coded c.before.before.before.before.before.before.before.before.before.before.before) (ap (λ (n : ℕ). s.args.at + n) (counted m)),
+      rw (coded c.before.before.before.before.before.before.before.before.before.before.before) (ap (λ (n : ℕ). c.args.at + n) (counted c.before.before.before.before.before.before.before.before.before.before.before.before)),
     )
 
-mul_long : tie.Need-overflow-mul-long
+mul_long : tie.Need-overflow_mul-long
 mul_long c = omega (arith, counted c, few c.before.before.before.before.before.before)
 
 pub component_spec : {M : Type 1} → statement M

@@ -10,43 +10,41 @@ use Rattle.laws.proofs.Whole.{Rows, rows_none, rows_more, rows_all_lem, whole_bl
 use Rattle.driver.proofs.component.copy_block.Statement.{statement}
 use Rattle.driver.proofs.component.copy_block.Tie as tie
 
-abbrev invariant-loop : tie.invariant-loop
+abbrev invariant-loop : tie.invariant-loop-r
 invariant-loop w x y n lent pred₀ r₀ pred r = (r ≤ n) × Rows 0 n 0 0 n (λ (r c : ℕ). get_or lent ((y + r) * w + x + c) 0) pred₀ pred r
 
-abbrev decreases-loop : tie.decreases-loop
+abbrev decreases-loop : tie.decreases-loop-r
 decreases-loop w x y n lent pred₀ r₀ pred r = n - r
 
 -- in a turn: the row lies in the plane, and in the block
-in_plane_lem : (c : tie.In-loop invariant-loop decreases-loop) → let a = c.before.before.before.before.args in (a.y + c.before.loop.r) * a.w + a.w ≤ length a.lent.now
+in_plane_lem : (c : tie.In-loop-r invariant-loop decreases-loop) → let a = c.args in (a.y + c.loop-r.r) * a.w + a.w ≤ length a.lent.now
 in_plane_lem c =
-    let s = c.before.before.before.before in
-    row_below _ _ (s.args.y + s.args.n) _ (omega arith) s.requires.down
+    row_below _ _ (c.args.y + c.args.n) _ (omega arith) c.requires.down
 
-in_block : (c : tie.In-loop invariant-loop decreases-loop) → let a = c.before.before.before.before.args in c.before.loop.r * a.n + a.n ≤ a.n * a.n
-in_block c = row_below _ _ _ _ c.loop-test.true (le_of_eq refl)
+in_block : (c : tie.In-loop-r invariant-loop decreases-loop) → let a = c.args in c.loop-r.r * a.n + a.n ≤ a.n * a.n
+in_block c = row_below _ _ _ _ c.loop-r-test.true (le_of_eq refl)
 
-loop_holds : tie.Need-loop-init invariant-loop decreases-loop
+loop_holds : tie.Need-loop-r-init invariant-loop decreases-loop
 loop_holds c = (omega arith, rows_none _ _ _ _ _ _ _)
 
-copy_row_requires : tie.Need-copy-row-requires invariant-loop decreases-loop
+copy_row_requires : tie.Need-copy_row-requires invariant-loop decreases-loop
 copy_row_requires c κs =
     let plane = in_plane_lem c.before in
     let block = in_block c.before in
     (omega arith, omega arith)
 
-loop_again : tie.Need-loop-preserved invariant-loop decreases-loop
+loop_again : tie.Need-loop-r-preserved invariant-loop decreases-loop
 loop_again c =
-    let h = c.before.before.before.before.before.loop in
-    (search rules, rows_more _ _ _ _ _ _ _ _ _ h.r _ _ (omega arith) (omega arith) (omega arith) (λ j p. refl) c.before.before.copy-row.ensures h.invariant.1)
+    let h = c.loop-r in
+    (search rules, rows_more _ _ _ _ _ _ _ _ _ h.r _ _ (omega arith) (omega arith) (omega arith) (λ j p. refl) c.copy_row.ensures h.invariant.1)
 
 returns : tie.Need-returns invariant-loop decreases-loop
 returns c =
-    let s = c.before.before.before.before in
-    rows_all_lem _ _ _ _ _ _ _ _ c.before.loop.r _ (omega arith) c.before.loop.invariant.1 ∙ whole_block 0 _ _ _ _ (omega (arith, s.requires.some)) s.requires.room
+    rows_all_lem _ _ _ _ _ _ _ _ c.loop-r.r _ (omega arith) c.loop-r.invariant.1 ∙ whole_block 0 _ _ _ _ (omega (arith, c.requires.some)) c.requires.room
 
 pub copy_block_spec : {M : Type 1} → statement M
 copy_block_spec =
     tie.close
     (tie.spec invariant-loop decreases-loop loop_holds (λ c. omega (arith, in_block c.before)) (λ c. omega arith) (λ c. omega (arith, in_plane_lem c.before))
     (λ c. omega (arith, in_plane_lem c.before)) copy_row_requires
-    (λ c. search rules) (λ c. search rules) loop_again (λ c. c.before.loop.invariant.1.long) returns)
+    (λ c. search rules) (λ c. search rules) loop_again (λ c. c.loop-r.invariant.1.long) returns)

@@ -5,20 +5,19 @@ use Rattle.driver.proofs.Copies.{copied}
 use Rattle.driver.proofs.component.copy_lent.Statement.{statement}
 use Rattle.driver.proofs.component.copy_lent.Tie as tie
 
-copy_block_requires : tie.Need-copy-block-requires
+copy_block_requires : tie.Need-copy_block-requires
 copy_block_requires c κs =
-    let s = c.before.before.before.before.before.before.before in
-    rw (c.before.before.before.before.in-component.ensures, c.before.before.before.in-component2.ensures, c.before.before.in-component3.ensures, c.before.in-component4.ensures)
-    (copied s.args.block.component _ _ _ _ _ _ _ s.requires.0.size s.requires.0.block s.requires.1.long s.requires.2)
+    rw (c.in_component-wide.ensures, c.in_component-column.ensures, c.in_component-row.ensures, c.in_component-n.ensures)
+    (copied c.args.block.component _ _ _ _ _ _ _ c.requires.0.size c.requires.0.block c.requires.1.long c.requires.2)
 
 returns : tie.Need-returns
 returns c =
-    c.before.before.copy-block.ensures
+    c.copy_block.ensures
     ∙ rw (
-      c.before.before.before.before.before.before.before.in-component.ensures,
-      c.before.before.before.before.before.before.in-component2.ensures,
-      c.before.before.before.before.before.in-component3.ensures,
-      c.before.before.before.before.in-component4.ensures,
+      c.in_component-wide.ensures,
+      c.in_component-column.ensures,
+      c.in_component-row.ensures,
+      c.in_component-n.ensures,
     )
 
 pub copy_lent_spec : {M : Type 1} → statement M

@@ -8,25 +8,25 @@ use Rattle.laws.proofs.Planes.{Rowed, rowed_none, rowed_more, rowed_all}
 use Rattle.driver.proofs.component.copy_row.Statement.{statement}
 use Rattle.driver.proofs.component.copy_row.Tie as tie
 
-abbrev invariant-loop : tie.invariant-loop
+abbrev invariant-loop : tie.invariant-loop-j
 invariant-loop pred₀ at lent from n j₀ pred j = (j ≤ n) × Rowed 0 at (λ (j : ℕ). get_or lent (from + j) 0) pred₀ pred j
 
-abbrev decreases-loop : tie.decreases-loop
+abbrev decreases-loop : tie.decreases-loop-j
 decreases-loop pred₀ at lent from n j₀ pred j = n - j
 
-loop_holds : tie.Need-loop-init invariant-loop decreases-loop
+loop_holds : tie.Need-loop-j-init invariant-loop decreases-loop
 loop_holds c = (omega arith, rowed_none _ _ _ _)
 
-loop_again : tie.Need-loop-preserved invariant-loop decreases-loop
+loop_again : tie.Need-loop-j-preserved invariant-loop decreases-loop
 loop_again c =
-    let h = c.before.before.loop in
+    let h = c.loop-j in
     (search rules, rowed_more _ _ _ _ _ h.j _ (omega arith) refl h.invariant.1)
 
-same_length : tie.Need-same-length invariant-loop decreases-loop
-same_length c = c.before.loop.invariant.1.long
+same_length : tie.Need-shape_of-to invariant-loop decreases-loop
+same_length c = c.loop-j.invariant.1.long
 
 returns : tie.Need-returns invariant-loop decreases-loop
-returns c = rowed_all _ _ _ _ _ _ c.before.loop.j (omega arith) c.before.loop.invariant.1
+returns c = rowed_all _ _ _ _ _ _ c.loop-j.j (omega arith) c.loop-j.invariant.1
 
 pub copy_row_spec : {M : Type 1} → statement M
 copy_row_spec =

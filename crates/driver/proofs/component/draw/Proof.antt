@@ -7,14 +7,13 @@ use Rattle.driver.proofs.component.draw.Statement.{statement}
 use Rattle.driver.proofs.component.draw.Tie as tie
 
 -- the room holds any block's prediction
-fits : tie.Need-slice-bounds-pred-end
-fits c = let s = c.before.before.before.before.before in omega (arith, s.requires.0.2, s.requires.1.1, samples_few s.args.block.component _ _ _ _ _ s.requires.0.0.block)
+fits : tie.Need-slice_bounds-pred-end
+fits c = omega (arith, c.requires.0.2, c.requires.1.1, samples_few c.args.block.component _ _ _ _ _ c.requires.0.0.block)
 
 returns : tie.Need-returns
 returns c =
-    let s = c.before.before.before.before.before.before.before.before.before.before.before.before.before.before.before.before.before.before.before.before.before in
-    drawn_from _ s.requires.0.0 _ s.requires.0.1 s.args.kind _ _ _ _ _ s.requires.0.2
-    c.before.before.before.before.before.before.before.before.before.before.before.prediction.ensures c.before.before.before.before.recon-plane.ensures
+    drawn_from _ c.requires.0.0 _ c.requires.0.1 c.args.kind _ _ _ _ _ c.requires.0.2
+    c.prediction.ensures c.recon_plane.ensures
 
 pub draw_spec : {M : Type 1} → statement M
 draw_spec =

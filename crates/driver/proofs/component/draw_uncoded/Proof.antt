@@ -12,28 +12,26 @@ use Rattle.driver.proofs.component.draw_uncoded.Statement.{statement}
 use Rattle.driver.proofs.component.draw_uncoded.Tie as tie
 
 -- the room holds any block's prediction
-fits : tie.Need-slice-bounds-pred-end
-fits c = let s = c.before.before.before.before.before in omega (arith, s.requires.0.2, s.requires.1.1, samples_few s.args.block.component _ _ _ _ _ s.requires.0.0.block)
+fits : tie.Need-slice_bounds-pred-end
+fits c = omega (arith, c.requires.0.2, c.requires.1.1, samples_few c.args.block.component _ _ _ _ _ c.requires.0.0.block)
 
 prediction_requires : tie.Need-prediction-requires
 prediction_requires c κs =
-    let s = c.before.before.before.before.before.before.before.before.before in
-    (s.requires.0.0, s.requires.0.1, simp length-take (omega (arith, s.requires.0.2, s.requires.1.1, samples_few s.args.block.component _ _ _ _ _ s.requires.0.0.block)), s.requires.1.0)
+    (c.requires.0.0, c.requires.0.1, simp length-take (omega (arith, c.requires.0.2, c.requires.1.1, samples_few c.args.block.component _ _ _ _ _ c.requires.0.0.block)), c.requires.1.0)
 
 lay_requires : tie.Need-lay-requires
 lay_requires c κs =
-    let s = c.before.before.before.before.before.before.before.before.before.before.before.before.before.before.before.before in (
-      record { size = s.requires.0.0.size; block = s.requires.0.0.block },
-      s.requires.0.0.plane_long,
-      ap length c.before.before.before.before.before.before.prediction.ensures ∙ prediction_long _ _ s.args.kind,
+    (
+      record { size = c.requires.0.0.size; block = c.requires.0.0.block },
+      c.requires.0.0.plane_long,
+      ap length c.prediction.ensures ∙ prediction_long _ _ c.args.kind,
     )
 
 returns : tie.Need-returns
 unfolding plane_of
 returns c =
-    let s = c.before.before.before.before.before.before.before.before.before.before.before.before.before.before.before.before.before.before.before.before.before in
-    c.before.before.before.before.lay.ensures ∙ ap (λ (p : List ℕ). laid_of s.args.block p s.args.plane.now)
-    c.before.before.before.before.before.before.before.before.before.before.before.prediction.ensures
+    c.lay.ensures ∙ ap (λ (p : List ℕ). laid_of c.args.block p c.args.plane.now)
+    c.prediction.ensures
 
 pub draw_uncoded_spec : {M : Type 1} → statement M
 draw_uncoded_spec =

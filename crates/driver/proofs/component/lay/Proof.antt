@@ -5,20 +5,19 @@ use Rattle.driver.proofs.Copies.{copied}
 use Rattle.driver.proofs.component.lay.Statement.{statement}
 use Rattle.driver.proofs.component.lay.Tie as tie
 
-lay_rows_requires : tie.Need-lay-rows-requires
+lay_rows_requires : tie.Need-lay_rows-requires
 lay_rows_requires c κs =
-    let s = c.before.before.before.before.before.before.before in
-    rw (c.before.before.before.before.in-component.ensures, c.before.before.before.in-component2.ensures, c.before.before.in-component3.ensures, c.before.in-component4.ensures)
-    (copied s.args.block.component _ _ _ _ _ _ _ s.requires.0.size s.requires.0.block s.requires.1 s.requires.2)
+    rw (c.in_component-wide.ensures, c.in_component-column.ensures, c.in_component-row.ensures, c.in_component-n.ensures)
+    (copied c.args.block.component _ _ _ _ _ _ _ c.requires.0.size c.requires.0.block c.requires.1 c.requires.2)
 
 returns : tie.Need-returns
 returns c =
-    c.before.before.lay-rows.ensures
+    c.lay_rows.ensures
     ∙ rw (
-      c.before.before.before.before.before.before.before.in-component.ensures,
-      c.before.before.before.before.before.before.in-component2.ensures,
-      c.before.before.before.before.before.in-component3.ensures,
-      c.before.before.before.before.in-component4.ensures,
+      c.in_component-wide.ensures,
+      c.in_component-column.ensures,
+      c.in_component-row.ensures,
+      c.in_component-n.ensures,
     )
 
 pub lay_spec : {M : Type 1} → statement M

@@ -10,22 +10,19 @@ use Rattle.driver.proofs.component.predict.Statement.{statement}
 use Rattle.driver.proofs.component.predict.Tie as tie
 
 -- the side in the component is small
-short : (c : tie.After-in-component) → c.in-component.result ≤ 64
+short : (c : tie.After-in_component-n) → c.in_component-n.result ≤ 64
 short c =
-    let s = c.before.before.before.before.before in
-    rw c.in-component.ensures (side_short s.args.block.component _ _ _ _ _ s.requires.0.block)
+    rw c.in_component-n.ensures (side_short c.args.block.component _ _ _ _ _ c.requires.0.block)
 
-fits : tie.Need-slice-bounds-run-end
-fits c = omega (arith, short c, c.before.before.before.before.before.requires.3)
+fits : tie.Need-slice_bounds-run-end
+fits c = omega (arith, short c, c.requires.3)
 
 returns : tie.Need-returns
 returns c =
-    let s = c.before.before.before.before.before.before.before.before.before.before.before.before.before.before.before.before.before in
-    let m = c.before.before.before.before.before.before.before.before.before.before.before.before in
-    predicted_from _ s.requires.0 _ _ s.requires.1 m.in-component.ensures _ _ _ _ _ _
-    (simp length-take (omega (arith, s.requires.3, short m, m.in-component.ensures))) s.requires.2
-    c.before.before.before.before.before.before.before.before.before.get-nbr.ensures c.before.before.before.before.ipred-b.ensures
-    ∙ rw m.in-component.ensures
+    predicted_from _ c.requires.0 _ _ c.requires.1 c.in_component-n.ensures _ _ _ _ _ _
+    (simp length-take (omega (arith, c.requires.3, short c.before.before.before.before.before.before.before.before.before.before.before.before.before, c.in_component-n.ensures))) c.requires.2
+    c.get_nbr.ensures c.ipred_b.ensures
+    ∙ rw c.in_component-n.ensures
 
 pub predict_spec : {M : Type 1} → statement M
 predict_spec =

@@ -6,20 +6,19 @@ use Rattle.driver_rules.specs.Steps.{prediction_of}
 use Rattle.driver.proofs.component.prediction.Statement.{statement}
 use Rattle.driver.proofs.component.prediction.Tie as tie
 
-copy_lent_requires : tie.Need-copy-lent-requires
+copy_lent_requires : tie.Need-copy_lent-requires
 copy_lent_requires c κs =
-    let s = c.before.before.before.before.before.before.before in
-    (record { size = s.requires.0.size; block = s.requires.0.block }, s.requires.1, s.requires.2)
+    (record { size = c.requires.0.size; block = c.requires.0.block }, c.requires.1, c.requires.2)
 
-returns : tie.Need-returns
+returns : tie.Need-returns-then-kind-le4
 unfolding prediction_of
-returns c = rw (le-leb c.before.before.before.before.before.before.before.before.before.before.before.before.before.args.kind 4
-    (omega (arith, c.before.before.before.before.before.before.before.if1.true))) c.before.before.before.before.predict.ensures
+returns c = rw (le-leb c.args.kind 4
+    (omega (arith, c.if-kind-le4.true))) c.predict.ensures
 
-returns-2 : tie.Need-returns-2
+returns-2 : tie.Need-returns
 unfolding prediction_of
-returns-2 c = rw (lt-leb c.before.before.before.before.before.before.before.before.before.before.args.kind 4
-    (omega (arith, c.before.before.before.before.if1.false))) c.before.before.copy-lent.ensures
+returns-2 c = rw (lt-leb c.args.kind 4
+    (omega (arith, c.if-kind-le4.false))) c.copy_lent.ensures
 
 pub prediction_spec : {M : Type 1} → statement M
 prediction_spec =

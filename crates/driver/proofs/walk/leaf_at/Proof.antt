@@ -8,13 +8,13 @@ use Rattle.driver.proofs.walk.leaf_at.Statement.{statement}
 use Rattle.driver.proofs.walk.leaf_at.Tie as tie
 
 -- the leaf's number
-few : (c : tie.After-shared-slice-known) → get_or c.before.args.leaves.now c.before.args.j 0 ≤ 65535
-few c = omega (arith, c.shared-slice-known.given c.before.args.j)
+few : (c : tie.After-shared_slice_known-1) → get_or c.args.leaves.now c.args.j 0 ≤ 65535
+few c = omega (arith, c.shared_slice_known-1.given c.args.j)
 
 returns : tie.Need-returns
 returns c =
-    let a = c.before.before.before.args in
-    let h = c.before.before.before.requires.0 in
+    let a = c.args in
+    let h = c.requires.0 in
     let x = a.root.x.0 in
     let y = a.root.y.0 in
     (sym (from_0 x y a.leaves.now a.j h), sym (from_1 x y a.leaves.now a.j h), sym (from_2 x y a.leaves.now a.j h))
@@ -22,7 +22,7 @@ returns c =
 pub leaf_at_spec : {M : Type 1} → statement M
 leaf_at_spec =
     tie.close
-    (tie.spec (λ c. omega (arith, c.requires.1, c.requires.0)) (λ c. omega (arith, c.before.requires.1, c.before.requires.0)) (λ c. omega (arith, few c))
-    (λ c. omega (arith, few c)) (λ c. omega (arith, few c.before, c.before.before.requires.2)) (λ c. omega (arith, few c.before))
-    (λ c. omega (arith, few c.before.before, c.before.before.before.requires.3)) (λ c. omega (arith, few c.before.before))
+    (tie.spec (λ c. omega (arith, c.requires.1, c.requires.0)) (λ c. omega (arith, c.requires.1, c.requires.0)) (λ c. omega (arith, few c))
+    (λ c. omega (arith, few c)) (λ c. omega (arith, few c.before, c.requires.2)) (λ c. omega (arith, few c.before))
+    (λ c. omega (arith, few c.before.before, c.requires.3)) (λ c. omega (arith, few c.before.before))
     returns)

@@ -10,33 +10,32 @@ use Rattle.driver.proofs.walk.leaf_planes.Statement.{statement}
 use Rattle.driver.proofs.walk.leaf_planes.Tie as tie
 
 -- the states before U and V, after Y, after its bit, and the call's start
-abbrev coloured : tie.After-slice-known6 → tie.After-leaf-colour
+abbrev coloured : tie.After-slice_known-6-1 → tie.After-leaf_colour
 coloured c = c.before.before.before.before
 
-abbrev drawn : tie.After-leaf-colour-arg4 → tie.After-component
+abbrev drawn : tie.After-leaf_colour-arg-4-1 → tie.After-component-end
 drawn c = c.before.before.before.before.before.before
 
-abbrev coded : tie.After-component-arg3 → tie.After-coded-y
+abbrev coded : tie.After-component-arg-3-1 → tie.After-coded_y
 coded c = c.before.before.before
 
-abbrev start : tie.After-coded-y → tie.Start
+abbrev start : tie.After-coded_y → tie.Start
 start c = c.before.before.before.before.before.before.before.before.before.before
 
 -- where Y ends
-first_end : (c : tie.After-component) → let a = c.before.before.before.before.before.before.before.before.before.before.before.before.before.before.args in
-    c.component.result ≡ start_u a.at a.«record».mask a.leaf.side
-first_end c = c.component.ensures.1 ∙ rw c.before.before.before.before.coded-y.ensures
+first_end : (c : tie.After-component-end) → let a = c.args in
+    c.component-end.result ≡ start_u a.at a.«record».mask a.leaf.side
+first_end c = c.component-end.ensures.1 ∙ rw c.coded_y.ensures
 
-component_requires : tie.Need-component-requires
+component_requires : tie.Need-component-end-requires
 component_requires c κs =
-    let s = c.before.before.before.before.before.before.before.before.before.before.before.before.before in
-    ((s.requires.0.y_asked, s.requires.0.y_lent, rw c.before.before.before.coded-y.ensures (omega (arith, s.requires.1))), (search rules, search rules))
+    ((c.requires.0.y_asked, c.requires.0.y_lent, rw c.coded_y.ensures (omega (arith, c.requires.1))), (search rules, search rules))
 
-leaf_colour_requires : tie.Need-leaf-colour-requires
+leaf_colour_requires : tie.Need-leaf_colour-requires
 leaf_colour_requires c κs =
     let d = drawn c in
     let s = start (coded d.before) in
-    (colour_asked s.pre.0.colour, rw (first_end d) s.pre.1)
+    (colour_asked s.requires.0.colour, rw (first_end d) s.requires.1)
 
 returns : tie.Need-returns
 returns c =
@@ -45,7 +44,7 @@ returns c =
     let e = coded d.before in
     let a = (start e).args in
     planes_drawn (given_of a.w a.h a.format a.constrained [] a.residual.now a.pred_y.now a.pred_u.now a.pred_v.now) a.leaf a.«record».kind
-    a.«record».mask a.at a.words.now a.u.now a.v.now a.y.now e.coded-y.ensures d.component.ensures k.leaf-colour.ensures
+    a.«record».mask a.at a.words.now a.u.now a.v.now a.y.now e.coded_y.ensures d.component-end.ensures k.leaf_colour.ensures
 
 pub leaf_planes_spec : {M : Type 1} → statement M
 leaf_planes_spec =

@@ -10,42 +10,39 @@ use Rattle.driver.proofs.walk.pack_root.Statement.{statement}
 use Rattle.driver.proofs.walk.pack_root.Tie as tie
 
 -- the states after the root's leaves were listed, and the call's start
-abbrev listed_at : tie.After-n → tie.After-root-leaves
-listed_at c = c.before.before.before.before
+abbrev listed_at : tie.In-Done-2 → tie.After-root_leaves
+listed_at c = c.before.before.before
 
-abbrev start : tie.After-root-leaves → tie.Start
+abbrev start : tie.After-root_leaves → tie.Start
 start c = c.before.before.before.before.before.before
 
 pack_requires : tie.Need-pack-requires
 pack_requires c κs =
-    let k = c.before.before.before in
-    let e = listed_at k in
+    let e = listed_at c in
     let s = start e in
-    let a = s.pre.0 in
-    let r = listed (root_told _ _ _ a.size a.long a.walked s.args.i s.pre.1 _ _ _ (simp length-take (omega (arith, s.pre.2))) e.root-leaves.ensures _ k.n.given.1) in
-    (sides r.blocks, s.pre.3)
+    let a = s.requires.0 in
+    let r = listed (root_told _ _ _ a.size a.long a.walked s.args.i s.requires.1 _ _ _ (simp length-take (omega (arith, s.requires.2))) e.root_leaves.ensures _ c.in-Done.is) in
+    (sides r.blocks, s.requires.3)
 
 -- the walk was accepted, so the root is not refused
-returns : tie.Need-returns
+returns : tie.Need-returns-in_default
 returns c =
-    let e = c.before.before.before.before.before.before in
-    let s = start e in
-    let a = s.pre.0 in
-    absurd (root_met _ _ _ a.size a.long a.walked s.args.i s.pre.1 _ _ _ (simp length-take (omega (arith, s.pre.2)))
-    e.root-leaves.ensures _ c.before.before.enum_told.given.1)
+    let s = start c.before.before.before.before.before in
+    let a = s.requires.0 in
+    absurd (root_met _ _ _ a.size a.long a.walked s.args.i s.requires.1 _ _ _ (simp length-take (omega (arith, s.requires.2)))
+    c.root_leaves.ensures _ c.in_default.is)
 
-returns-2 : tie.Need-returns-2
+returns-2 : tie.Need-returns
 returns-2 c =
-    let p = c.before.before.before.before.pack.ensures in
-    let k = c.before.before.before.before.before.before.before.before in
-    let e = listed_at k in
+    let p = c.pack.ensures in
+    let e = listed_at c in
     let s = start e in
-    let a = s.pre.0 in
-    let r = listed (root_told _ _ _ a.size a.long a.walked s.args.i s.pre.1 _ _ _ (simp length-take (omega (arith, s.pre.2))) e.root-leaves.ensures _ k.n.given.1) in
-    (listed_packed a s.pre.1 r p, p.long)
+    let a = s.requires.0 in
+    let r = listed (root_told _ _ _ a.size a.long a.walked s.args.i s.requires.1 _ _ _ (simp length-take (omega (arith, s.requires.2))) e.root_leaves.ensures _ c.in-Done.is) in
+    (listed_packed a s.requires.1 r p, p.long)
 
-fits : tie.Need-slice-bounds-list-end
-fits c = omega (arith, c.before.before.before.requires.2)
+fits : tie.Need-slice_bounds-list-end
+fits c = omega (arith, c.requires.2)
 
 pub pack_root_spec : {M : Type 1} → statement M
 pack_root_spec =

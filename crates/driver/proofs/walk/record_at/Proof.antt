@@ -9,9 +9,8 @@ use Rattle.driver.proofs.walk.record_at.Tie as tie
 
 returns : tie.Need-returns
 returns c =
-    let s = c.before.before.before.before in
-    let first : 4 * s.args.k ≡ 4 * s.args.k + 0 = omega arith in
-    (ap (λ (i : ℕ). get_or s.args.leaves.now i 0) first, refl, refl, refl)
+    let first : 4 * c.args.k ≡ 4 * c.args.k + 0 = omega arith in
+    (ap (λ (i : ℕ). get_or c.args.leaves.now i 0) first, refl, refl, refl)
 
 pub record_at_spec : {M : Type 1} → statement M
 record_at_spec =

@@ -6,12 +6,8 @@ use Rattle.driver.proofs.walk.tell.Tie as tie
 
 returns : tie.Need-returns
 returns c =
-    let told = c.before.before.before.before.before.before in
-    let m = told.before.before.before.before in
-    let y = m.before.before.before in
-    let s = y.before.before.before.before.before in
-    told_leaf s.args.w s.args.leaf _ _ _ y.before.pel2scu.ensures y.pel2scu2.ensures m.before.word_of.ensures m.Mode-of.ensures s.requires
-    told.tell-units.ensures
+    told_leaf c.args.w c.args.leaf _ _ _ c.pel2scu-x.ensures c.pel2scu-y.ensures c.word_of-word.ensures c.mode_of-mode.ensures c.requires
+    c.tell_units.ensures
 
 pub tell_spec : {M : Type 1} → statement M
 tell_spec =

@@ -10,23 +10,23 @@ use Rattle.driver_rules.specs.Records.{byte_at, bytes_ok}
 use Rattle.driver_check.proofs.check.bytes_ok.Statement.{statement}
 use Rattle.driver_check.proofs.check.bytes_ok.Tie as tie
 
-abbrev invariant-loop : tie.invariant-loop
+abbrev invariant-loop : tie.invariant-loop-k
 invariant-loop leaves n b m ok₀ k₀ ok k = (k ≤ n) × (ok ≡ all_below (λ (j : ℕ). leb (byte_at leaves j b) m) k)
 
-abbrev decreases-loop : tie.decreases-loop
+abbrev decreases-loop : tie.decreases-loop-k
 decreases-loop leaves n b m ok₀ k₀ ok k = n - k
 
-loop_holds : tie.Need-loop-init invariant-loop decreases-loop
+loop_holds : tie.Need-loop-k-init invariant-loop decreases-loop
 loop_holds c = (omega arith, sym (scan_none _))
 
-loop_again : tie.Need-loop-preserved invariant-loop decreases-loop
-loop_again c = (omega arith, rw c.before.before.loop.invariant.1 (sym (scan_step _ _)))
+loop_again : tie.Need-loop-k-preserved invariant-loop decreases-loop
+loop_again c = (omega arith, rw c.loop-k.invariant.1 (sym (scan_step _ _)))
 
 returns : tie.Need-returns invariant-loop decreases-loop
 unfolding bytes_ok
 returns c =
-    let e : c.before.loop.k ≡ c.before.before.args.n = omega arith in
-    c.before.loop.invariant.1 ∙ rw e
+    let e : c.loop-k.k ≡ c.args.n = omega arith in
+    c.loop-k.invariant.1 ∙ rw e
 
 pub bytes_ok_spec : {M : Type 1} → statement M
 bytes_ok_spec =

@@ -16,53 +16,53 @@ use Rattle.driver_rules.proofs.Checks.{read_told, walk_answer}
 use Rattle.driver_check.proofs.check.checked_leaves.Statement.{statement}
 use Rattle.driver_check.proofs.check.checked_leaves.Tie as tie
 
-size : (c : tie.Else1) → size_ok c.before.before.before.before.before.before.before.args.w c.before.before.before.before.before.before.before.args.h ≡ true
-size c = sym c.before.Size-ok.ensures ∙ not-false _ c.if1.false
+size : (c : tie.Else-not-size_ok) → size_ok c.args.w c.args.h ≡ true
+size c = sym c.size_ok.ensures ∙ c.if-not-size_ok.false
 
 -- the walk's answer
-walked : (c : tie.After-check) → let a = c.before.before.before.before.before.before.before.before.before.before.before.before.args in
+walked : (c : tie.After-check) → let a = c.args in
     c.check.result ≡ (picture_walk a.splits.now (a.w / 4) (a.h / 4)).answer
 walked c =
-    let read = read_told _ _ _ _ _ _ _ (sym c.before.before.before.before.read_ok.ensures ∙ not-false _ c.before.before.before.if2.false) in
+    let read = read_told _ _ _ _ _ _ _ (sym c.read_ok.ensures ∙ c.if-not-read_ok.false) in
     check_is _ _ c.check.ensures ∙ walk_answer _ _ _ (size c.before.before.before.before.before) read.splits_long
 
-returns : tie.Need-returns
+returns : tie.Need-returns-then-not-size_ok
 unfolding check_of
-returns c = stops _ _ _ _ c.before.Size-ok.ensures c.if1.true
+returns c = stops _ _ _ _ c.size_ok.ensures c.if-not-size_ok.true-raw
 
-returns-2 : tie.Need-returns-2
+returns-2 : tie.Need-returns-then-not-read_ok
 unfolding check_of
 returns-2 c =
-    goes_on _ _ _ _ _ c.before.before.before.Size-ok.ensures c.before.before.if1.false
-    (stops _ _ _ _ c.before.read_ok.ensures c.if2.true)
+    goes_on _ _ _ _ _ c.size_ok.ensures c.if-not-size_ok.false-raw
+    (stops _ _ _ _ c.read_ok.ensures c.if-not-read_ok.true-raw)
 
-returns-3 : tie.Need-returns-3
+returns-3 : tie.Need-returns-then-not-written_ok
 unfolding check_of
 returns-3 c =
-    goes_on _ _ _ _ _ c.before.before.before.before.before.Size-ok.ensures c.before.before.before.before.if1.false
-    (goes_on _ _ _ _ _ c.before.before.before.read_ok.ensures c.before.before.if2.false
-    (stops _ _ _ _ c.before.written-ok.ensures c.if3.true))
+    goes_on _ _ _ _ _ c.size_ok.ensures c.if-not-size_ok.false-raw
+    (goes_on _ _ _ _ _ c.read_ok.ensures c.if-not-read_ok.false-raw
+    (stops _ _ _ _ c.written_ok.ensures c.if-not-written_ok.true-raw))
 
-data-checked-requires : tie.Need-data-checked-requires
+data-checked-requires : tie.Need-data_checked-requires
 data-checked-requires c κs =
-    let read = read_told _ _ _ _ _ _ _ (sym c.before.before.before.before.before.before.read_ok.ensures ∙ not-false _ c.before.before.before.before.before.if2.false) in
-    record { size = size c.before.before.before.before.before.before.before; long = read.splits_long; walked = sym (walked c.before.before) ∙ c.enum_told.given.1 }
+    let read = read_told _ _ _ _ _ _ _ (sym c.read_ok.ensures ∙ c.if-not-read_ok.false) in
+    record { size = size c.before.before.before.before.before.before; long = read.splits_long; walked = sym (walked c.before) ∙ c.in-Done.is }
 
-returns-4 : tie.Need-returns-4
+returns-4 : tie.Need-returns-in-Refused
 unfolding check_of
 returns-4 c =
-    goes_on _ _ _ _ _ c.before.before.before.before.before.before.before.before.before.Size-ok.ensures c.before.before.before.before.before.before.before.before.if1.false
-    (goes_on _ _ _ _ _ c.before.before.before.before.before.before.before.read_ok.ensures c.before.before.before.before.before.before.if2.false
-    (goes_on _ _ _ _ _ c.before.before.before.before.before.written-ok.ensures c.before.before.before.before.if3.false
-    (on_refusal Refused _ c.before.before.before.check.result _ _ (walked c.before.before.before) c.before.r.given.1)))
+    goes_on _ _ _ _ _ c.size_ok.ensures c.if-not-size_ok.false-raw
+    (goes_on _ _ _ _ _ c.read_ok.ensures c.if-not-read_ok.false-raw
+    (goes_on _ _ _ _ _ c.written_ok.ensures c.if-not-written_ok.false-raw
+    (on_refusal Refused _ c.check.result _ _ (walked c.before) c.in-Refused.is)))
 
-returns-5 : tie.Need-returns-5
+returns-5 : tie.Need-returns-in-Done
 unfolding check_of
 returns-5 c =
-    goes_on _ _ _ _ _ c.before.before.before.before.before.before.before.before.before.Size-ok.ensures c.before.before.before.before.before.before.before.before.if1.false
-    (goes_on _ _ _ _ _ c.before.before.before.before.before.before.before.read_ok.ensures c.before.before.before.before.before.before.if2.false
-    (goes_on _ _ _ _ _ c.before.before.before.before.before.written-ok.ensures c.before.before.before.before.if3.false
-    (on_done Refused _ c.before.before.before.check.result _ _ (walked c.before.before.before) c.before.enum_told.given.1 c.data-checked.ensures)))
+    goes_on _ _ _ _ _ c.size_ok.ensures c.if-not-size_ok.false-raw
+    (goes_on _ _ _ _ _ c.read_ok.ensures c.if-not-read_ok.false-raw
+    (goes_on _ _ _ _ _ c.written_ok.ensures c.if-not-written_ok.false-raw
+    (on_done Refused _ c.check.result _ _ (walked c.before.before) c.in-Done.is c.data_checked.ensures)))
 
 pub checked_leaves_spec : {M : Type 1} → statement M
 checked_leaves_spec =

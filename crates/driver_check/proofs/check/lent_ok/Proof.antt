@@ -6,7 +6,7 @@ use Rattle.driver_check.proofs.check.lent_ok.Tie as tie
 
 returns : tie.Need-returns
 unfolding lent_ok
-returns c = rw (c.before.before.samples-ok.ensures, c.before.samples-ok2.ensures, c.samples-ok3.ensures)
+returns c = rw (c.samples_ok.ensures, c.samples_ok-2.ensures, c.samples_ok-3.ensures)
 
 pub lent_ok_spec : {M : Type 1} → statement M
 lent_ok_spec = tie.close (tie.spec (λ c κs. search rules) (λ c κs. search rules) (λ c κs. search rules) returns)

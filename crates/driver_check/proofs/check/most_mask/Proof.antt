@@ -4,11 +4,11 @@ use borrow.Author.Rules.{rules}
 use Rattle.driver_check.proofs.check.most_mask.Statement.{statement}
 use Rattle.driver_check.proofs.check.most_mask.Tie as tie
 
-returns : tie.Need-returns
-returns c = rw c.enum_told.given.1 refl
+returns : tie.Need-returns-in-Grey
+returns c = rw c.in-Grey.is refl
 
-returns-2 : tie.Need-returns-2
-returns-2 c = rw c.enum-told2.given.1 refl
+returns-2 : tie.Need-returns-in-Colour
+returns-2 c = rw c.in-Colour.is refl
 
 pub most_mask_spec : {M : Type 1} → statement M
 most_mask_spec = tie.close (tie.spec (λ c. search rules) (λ c. search rules) returns returns-2)

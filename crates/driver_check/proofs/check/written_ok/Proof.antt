@@ -15,7 +15,7 @@ units s = mul-le-mul {n₂ = 1024} {m₂ = 1024} (omega (arith, s.requires.wide)
 
 returns : tie.Need-returns
 unfolding written_ok
-returns c = rw c.colour-length.ensures
+returns c = rw c.colour_length-chroma.ensures
 
 pub written_ok_spec : {M : Type 1} → statement M
 written_ok_spec =

@@ -6,24 +6,24 @@ use Rattle.driver_check.proofs.records.leaf_end.Statement.{statement}
 use Rattle.driver_check.proofs.records.leaf_end.Tie as tie
 
 -- of Y alone
-returns : tie.Need-returns
+returns : tie.Need-returns-then-mask-le1
 returns c =
-    let e = mask_of_y c.before.before.before.args.mask c.if1.true in (
-      rw (e.0, e.1, c.before.residual-count.ensures.0, c.before.before.coded-y.ensures) (omega arith),
-      omega (arith, c.before.residual-count.ensures.1),
+    let e = mask_of_y c.args.mask c.if-mask-le1.true in (
+      rw (e.0, e.1, c.residual_count-y.ensures.0, c.coded_y.ensures) (omega arith),
+      omega (arith, c.residual_count-y.ensures.1),
     )
 
-returns-2 : tie.Need-returns-2
+returns-2 : tie.Need-returns
 returns-2 c = (
   rw (
-    c.before.before.before.before.before.residual-count.ensures.0,
-    c.before.before.residual-count2.ensures.0,
-    c.residual-count3.ensures.0,
-    c.before.before.before.before.before.before.coded-y.ensures,
-    c.before.before.before.coded-u.ensures,
-    c.before.coded-v.ensures,
+    c.residual_count-y.ensures.0,
+    c.residual_count-u.ensures.0,
+    c.residual_count-v.ensures.0,
+    c.coded_y.ensures,
+    c.coded_u.ensures,
+    c.coded_v.ensures,
   ),
-  omega (arith, c.before.before.before.before.before.residual-count.ensures.1, c.before.before.residual-count2.ensures.1, c.residual-count3.ensures.1),
+  omega (arith, c.residual_count-y.ensures.1, c.residual_count-u.ensures.1, c.residual_count-v.ensures.1),
 )
 
 pub leaf_end_spec : {M : Type 1} → statement M

@@ -7,11 +7,10 @@ use lib.ListN.{length, get_or-eq_default}
 use Rattle.driver_check.proofs.records.mask_at.Statement.{statement}
 use Rattle.driver_check.proofs.records.mask_at.Tie as tie
 
-returns-2 : tie.Need-returns-2
+returns-2 : tie.Need-returns
 returns-2 c =
-    let s = c.before in
-    let out : length s.args.leaves.now ≤ 4 * s.args.k + 2 = omega (arith, c.if1.false) in
-    sym (get_or-eq_default s.args.leaves.now 0 out)
+    let out : length c.args.leaves.now ≤ 4 * c.args.k + 2 = omega (arith, c.if-i-leaves.false) in
+    sym (get_or-eq_default c.args.leaves.now 0 out)
 
 pub mask_at_spec : {M : Type 1} → statement M
 mask_at_spec =

@@ -7,14 +7,13 @@ use Rattle.nbr.proofs.Sides.{scaled_le}
 use Rattle.driver_check.proofs.records.residual_count.Statement.{statement}
 use Rattle.driver_check.proofs.records.residual_count.Tie as tie
 
-few : (c : tie.After-in-component) → c.in-component.result * c.in-component.result ≤ 4096
+few : (c : tie.After-in_component-n) → c.in_component-n.result * c.in_component-n.result ≤ 4096
 few c =
-    let s = c.before in
-    rw c.in-component.ensures
-    (let n = scaled_le s.args.part s.args.side 64 s.requires in mul-le-mul {n₂ = 64} {m₂ = 64} n n)
+    rw c.in_component-n.ensures
+    (let n = scaled_le c.args.part c.args.side 64 c.requires in mul-le-mul {n₂ = 64} {m₂ = 64} n n)
 
-returns : tie.Need-returns
-returns c = (rw (c.if1.true, c.before.in-component.ensures), few c.before)
+returns : tie.Need-returns-then-coded
+returns c = (rw (c.if-coded.true, c.in_component-n.ensures), few c.before)
 
 pub residual_count_spec : {M : Type 1} → statement M
 residual_count_spec =

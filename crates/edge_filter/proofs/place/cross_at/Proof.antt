@@ -14,10 +14,10 @@ few horizontal h k e = rw e k
 
 returns : tie.Need-returns
 returns c =
-    let d = pass_of c.before.before.before.args.pass in
-    let x = c.before.before.number_at.ensures in
-    let y = c.before.number-at2.ensures in
-    (c.cross-of.ensures ∙ (λ k. cross_of d (edge (x.0 k) (y.0 k))), few d x.1 y.1 c.cross-of.ensures)
+    let d = pass_of c.args.pass in
+    let x = c.number_at.ensures in
+    let y = c.number_at-2.ensures in
+    (c.cross_of.ensures ∙ (λ k. cross_of d (edge (x.0 k) (y.0 k))), few d x.1 y.1 c.cross_of.ensures)
 
 pub cross_at_spec : {M : Type 1} → statement M
 cross_at_spec =

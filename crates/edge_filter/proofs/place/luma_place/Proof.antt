@@ -8,13 +8,13 @@ use Rattle.edge_filter.proofs.place.luma_place.Statement.{statement}
 use Rattle.edge_filter.proofs.place.luma_place.Tie as tie
 
 place_requires : tie.Need-place-requires
-place_requires c κs = (omega (arith, c.before.before.requires.0), omega (arith, c.before.cross_at.ensures.1), omega (arith, c.along_at.ensures.1))
+place_requires c κs = (omega (arith, c.requires.0), omega (arith, c.cross_at.ensures.1), omega (arith, c.along_at.ensures.1))
 
 returns : tie.Need-returns
 returns c =
-    let a = c.before.before.before.args in
-    let x = c.before.before.cross_at.ensures.0 in
-    let z = c.before.along_at.ensures.0 in
+    let a = c.args in
+    let x = c.cross_at.ensures.0 in
+    let z = c.along_at.ensures.0 in
     c.place.ensures ∙ (λ k. lines_place (pass_of a.pass) (4 * a.columns) (x k) (z k))
 
 pub luma_place_spec : {M : Type 1} → statement M

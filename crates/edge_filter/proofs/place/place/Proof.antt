@@ -24,26 +24,26 @@ low_fits k l = omega arith
 two_less : {m n : ℕ} → m ≤ 65535 → n ≡ m - 2 → n ≤ 65535
 two_less l e = omega arith
 
-at_small : (c : tie.After-two-before) → c.before.before.before.args.along * c.before.step-along.result ≤ 268496895
-at_small c = along_small c.before.before.before.requires.2 c.before.step-along.ensures.1 c.before.before.before.requires.0
+at_small : (c : tie.After-two_before) → c.args.along * c.step_along-next.result ≤ 268496895
+at_small c = along_small c.requires.2 c.step_along-next.ensures.1 c.requires.0
 
-before_small : (c : tie.After-two-before) → c.two-before.result * c.before.before.step-across.result ≤ 268496895
-before_small c = along_small (two_less c.before.before.before.requires.1 c.two-before.ensures) c.before.before.step-across.ensures.1 c.before.before.before.requires.0
+before_small : (c : tie.After-two_before) → c.two_before.result * c.step_across-step.result ≤ 268496895
+before_small c = along_small (two_less c.requires.1 c.two_before.ensures) c.step_across-step.ensures.1 c.requires.0
 
-mul_at : tie.Need-overflow-mul-at
-mul_at c = fits (along_small c.before.before.requires.2 c.step-along.ensures.1 c.before.before.requires.0)
+mul_at : tie.Need-overflow_mul-at
+mul_at c = fits (along_small c.requires.2 c.step_along-next.ensures.1 c.requires.0)
 
-mul_at_2 : tie.Need-overflow-mul-at-2
+mul_at_2 : tie.Need-overflow_mul-at-2
 mul_at_2 c = fits (before_small c)
 
-add_at : tie.Need-overflow-add-at
+add_at : tie.Need-overflow_add-at
 add_at c = sum_fits (at_small c) (before_small c)
 
-cast_t11 : tie.Need-overflow-cast-t11
+cast_t11 : tie.Need-overflow_cast-result
 cast_t11 c = low_fits (at_small c) (before_small c)
 
 returns : tie.Need-returns
-returns c = cc (c.before.step-along.ensures.0, c.before.before.step-across.ensures.0, c.two-before.ensures)
+returns c = cc (c.step_along-next.ensures.0, c.step_across-step.ensures.0, c.two_before.ensures)
 
 pub place_spec : {M : Type 1} → statement M
 place_spec =

@@ -3,10 +3,10 @@ use Rattle.std.proofs.Common.{◌-◌, rules}
 use Rattle.map_file.proofs.bytes.torn_in.Statement.{statement}
 use Rattle.map_file.proofs.bytes.torn_in.Tie as tie
 
-abbrev invariant-loop : tie.invariant-loop
+abbrev invariant-loop : tie.invariant-loop-i
 invariant-loop map start list n i₀ i = Unit {0}
 
-abbrev decreases-loop : tie.decreases-loop
+abbrev decreases-loop : tie.decreases-loop-i
 decreases-loop map start list n i₀ i = n - i
 
 pub torn_in_spec : {M : Type 1} → statement M

@@ -3,10 +3,10 @@ use Rattle.std.proofs.Common.{◌-◌, rules}
 use Rattle.map_file.proofs.digits.before.Statement.{statement}
 use Rattle.map_file.proofs.digits.before.Tie as tie
 
-abbrev invariant-loop : tie.invariant-loop
+abbrev invariant-loop : tie.invariant-loop-n
 invariant-loop w h src from to root n₀ n = Unit {0}
 
-abbrev decreases-loop : tie.decreases-loop
+abbrev decreases-loop : tie.decreases-loop-n
 decreases-loop w h src from to root n₀ n = 85 - n
 
 pub before_spec : {M : Type 1} → statement M

@@ -3,10 +3,10 @@ use Rattle.std.proofs.Common.{◌≡◌, ◌-◌, length, rules}
 use Rattle.map_file.proofs.digits.copy.Statement.{statement}
 use Rattle.map_file.proofs.digits.copy.Tie as tie
 
-abbrev invariant-loop : tie.invariant-loop
+abbrev invariant-loop : tie.invariant-loop-i
 invariant-loop src from n bits₀ i₀ bits i = length bits ≡ length bits₀
 
-abbrev decreases-loop : tie.decreases-loop
+abbrev decreases-loop : tie.decreases-loop-i
 decreases-loop src from n bits₀ i₀ bits i = n - i
 
 pub copy_spec : {M : Type 1} → statement M

@@ -3,10 +3,10 @@ use Rattle.std.proofs.Common.{◌-◌, rules}
 use Rattle.map_file.proofs.digits.set_behind.Statement.{statement}
 use Rattle.map_file.proofs.digits.set_behind.Tie as tie
 
-abbrev invariant-loop : tie.invariant-loop
+abbrev invariant-loop : tie.invariant-loop-i
 invariant-loop src from at₀ i₀ at i = Unit {0}
 
-abbrev decreases-loop : tie.decreases-loop
+abbrev decreases-loop : tie.decreases-loop-i
 decreases-loop src from at₀ i₀ at i = 8 - i
 
 pub set_behind_spec : {M : Type 1} → statement M

@@ -5,10 +5,10 @@ use borrow.Author.Rules.{rules}
 use Rattle.mendmap.proofs.list.print.Statement.{statement}
 use Rattle.mendmap.proofs.list.print.Tie as tie
 
-abbrev invariant-loop : tie.invariant-loop
+abbrev invariant-loop : tie.invariant-loop-i
 invariant-loop across list count from₀ i₀ t6 from i = from ≤ length list
 
-abbrev decreases-loop : tie.decreases-loop
+abbrev decreases-loop : tie.decreases-loop-i
 decreases-loop across list count from₀ i₀ t6 from i = count - i
 
 pub print_spec : {M : Type 1} → statement M

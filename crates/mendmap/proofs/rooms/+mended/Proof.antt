@@ -48,7 +48,7 @@ pub +mended-spec : {M : Type 1} → statement M
     (λ c κs. search rules)
     (λ c. search rules)
     (λ c. search rules)
-    (λ c κs. let s = c.before.before.before in (omega (arith, sym (ap (λ (b : Bool). pick b 0 1) c.if2.false) ∙ s.requires.0), tt))
+    (λ c κs. (omega (arith, sym (ap (λ (b : Bool). pick b 0 1) c.if-large.false) ∙ c.requires.0), tt))
     (λ c. search rules)
     (λ c κs. search rules)
     (λ c. search rules)

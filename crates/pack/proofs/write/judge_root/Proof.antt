@@ -15,56 +15,56 @@ use Rattle.pack.proofs.Writing.{judge_more, judge_wrong}
 use Rattle.pack.proofs.write.judge_root.Statement.{statement}
 use Rattle.pack.proofs.write.judge_root.Tie as tie
 
-abbrev invariant-loop : tie.invariant-loop
+abbrev invariant-loop : tie.invariant-loop-j
 invariant-loop bytes list n j₀ j = (j ≤ n) × (judge bytes (marks_in list j) ≡ Done)
 
-abbrev decreases-loop : tie.decreases-loop
+abbrev decreases-loop : tie.decreases-loop-j
 decreases-loop bytes list n j₀ j = n - j
 
-in_list : (c : tie.In-loop invariant-loop decreases-loop) → c.before.loop.j < length c.before.before.before.before.args.list.now
-in_list c = omega (arith, c.loop-test.true, c.before.before.before.before.requires.1)
+in_list : (c : tie.In-loop-j invariant-loop decreases-loop) → c.loop-j.j < length c.args.list.now
+in_list c = omega (arith, c.loop-j-test.true, c.requires.1)
 
 -- its place lies among the root's bytes
-place_in_lem : (c : tie.After-mark-place invariant-loop decreases-loop) → c.mark-place.result < length c.before.before.before.before.before.before.args.bytes.now
+place_in_lem : (c : tie.After-mark_place-place invariant-loop decreases-loop) → c.mark_place-place.result < length c.args.bytes.now
 place_in_lem c =
-    let p = c.before.before.before.before.before.before.requires.2 c.before.before.before.loop.j c.before.before.loop-test.true in
-    let e : c.mark-place.result ≡ get_or c.before.before.before.before.before.before.args.list.now c.before.before.before.loop.j 0 / 2 = c.mark-place.ensures in
-    omega (arith, c.before.before.before.before.before.before.requires.0)
+    let p = c.requires.2 c.loop-j.j c.loop-j-test.true in
+    let e : c.mark_place-place.result ≡ get_or c.args.list.now c.loop-j.j 0 / 2 = c.mark_place-place.ensures in
+    omega (arith, c.requires.0)
 
 -- the byte that stands there
-stands : (c : tie.After-mark-place invariant-loop decreases-loop) → let a = c.before.before.before.before.before.before.args in
-    get_or a.bytes.now c.mark-place.result 0 ≡ get_or a.bytes.now (mark_from (get_or a.list.now c.before.before.before.loop.j 0)).place 0
-stands c = ap (λ (p : ℕ). get_or c.before.before.before.before.before.before.args.bytes.now p 0) c.mark-place.ensures
+stands : (c : tie.After-mark_place-place invariant-loop decreases-loop) → let a = c.args in
+    get_or a.bytes.now c.mark_place-place.result 0 ≡ get_or a.bytes.now (mark_from (get_or a.list.now c.loop-j.j 0)).place 0
+stands c = ap (λ (p : ℕ). get_or c.args.bytes.now p 0) c.mark_place-place.ensures
 
-wrong_there : (c : tie.Then1 invariant-loop decreases-loop) → let a = c.before.before.before.before.before.before.before.before.before.before.args in
+wrong_there : (c : tie.Then-byte-mark_byte invariant-loop decreases-loop) → let a = c.args in
     judge a.bytes.now (marks_in a.list.now a.n) ≡ Refused
-    (wrong (get_or a.bytes.now (mark_from (get_or a.list.now c.before.before.before.before.before.before.before.loop.j 0)).place 0))
+    (wrong (get_or a.bytes.now (mark_from (get_or a.list.now c.loop-j.j 0)).place 0))
 wrong_there c =
-    judge_wrong _ _ _ c.before.before.before.before.before.before.before.loop.invariant.1 _ c.before.before.before.before.before.before.loop-test.true
-    c.before.before.before.before.before.before.before.before.before.before.requires.1
-    (λ e. c.if1.true (stands c.before.before.before.before ∙ e ∙ sym c.before.mark-byte.ensures))
+    judge_wrong _ _ _ c.loop-j.invariant.1 _ c.loop-j-test.true
+    c.requires.1
+    (λ e. c.if-byte-mark_byte.true (stands c.before.before.before.before ∙ e ∙ sym c.mark_byte.ensures))
 
-returns : tie.Need-returns invariant-loop decreases-loop
-returns c = sym (wrong_there c.before ∙ ap Refused (bad _ (subst (λ (b : ℕ). 1 < b) (stands c.before.before.before.before.before) c.if2.true))) where
+returns : tie.Need-returns-then-byte-gt1 invariant-loop decreases-loop
+returns c = sym (wrong_there c.before ∙ ap Refused (bad _ (subst (λ (b : ℕ). 1 < b) (stands c.before.before.before.before.before) c.if-byte-gt1.true))) where
   bad : (b : ℕ) → 1 < b → wrong b ≡ Split
   bad b l = rw (lt-ltb 1 b l)
 
-returns-2 : tie.Need-returns-2 invariant-loop decreases-loop
-returns-2 c = sym (wrong_there c.before ∙ ap Refused (past _ (subst (λ (b : ℕ). b ≤ 1) (stands c.before.before.before.before.before) c.if2.false))) where
+returns-2 : tie.Need-returns-then-byte-mark_byte invariant-loop decreases-loop
+returns-2 c = sym (wrong_there c.before ∙ ap Refused (past _ (subst (λ (b : ℕ). b ≤ 1) (stands c.before.before.before.before.before) c.if-byte-gt1.false))) where
   past : (b : ℕ) → b ≤ 1 → wrong b ≡ Leaf
   past b l = rw (le-ltb 1 b l)
 
-loop_again : tie.Need-loop-preserved invariant-loop decreases-loop
+loop_again : tie.Need-loop-j-preserved invariant-loop decreases-loop
 loop_again c = (
-  omega (arith, c.before.before.before.before.before.before.loop-test.true),
-  judge_more _ _ _ c.before.before.before.before.before.before.before.loop.invariant.1 (in_list c.before.before.before.before.before.before)
-      (sym (stands c.before.before.before.before) ∙ c.if1.false ∙ c.before.mark-byte.ensures),
+  omega (arith, c.loop-j-test.true),
+  judge_more _ _ _ c.loop-j.invariant.1 (in_list c.before.before.before.before.before.before)
+      (sym (stands c.before.before.before.before) ∙ c.if-byte-mark_byte.false ∙ c.mark_byte.ensures),
 )
 
-returns-3 : tie.Need-returns-3 invariant-loop decreases-loop
+returns-3 : tie.Need-returns invariant-loop decreases-loop
 returns-3 c =
-    let e = le_antisymm c.before.loop.invariant.0 c.loop-test.false in
-    sym (ap (λ (k : ℕ). judge c.before.before.before.before.args.bytes.now (marks_in c.before.before.before.before.args.list.now k)) (sym e) ∙ c.before.loop.invariant.1)
+    let e = le_antisymm c.loop-j.invariant.0 c.loop-j-test.false in
+    sym (ap (λ (k : ℕ). judge c.args.bytes.now (marks_in c.args.list.now k)) (sym e) ∙ c.loop-j.invariant.1)
 
 pub judge_root_spec : {M : Type 1} → statement M
 judge_root_spec =

@@ -19,77 +19,77 @@ use Rattle.pack.proofs.Writing.{few_of, count_units, more_long}
 use Rattle.pack.proofs.write.map_digits.Statement.{statement}
 use Rattle.pack.proofs.write.map_digits.Tie as tie
 
-abbrev invariant-loop : tie.invariant-loop
+abbrev invariant-loop : tie.invariant-loop-i
 invariant-loop w h splits roots list₀ digits₀ i₀ list digits i =
     (i ≤ roots)
     × (digits ≡ length (digits_of splits (w / 4) (h / 4) i))
     × ((in_turn (root_walk splits (w / 4) (h / 4)) i).answer ≡ Done)
     × (length list ≡ 85)
 
-abbrev decreases-loop : tie.decreases-loop
+abbrev decreases-loop : tie.decreases-loop-i
 decreases-loop w h splits roots list₀ digits₀ i₀ list digits i = roots - i
 
 -- the number of roots, in samples and in units
-all : (c : tie.After-root-count invariant-loop decreases-loop) → c.root-count.result ≡ roots (c.before.before.args.w / 4) (c.before.before.args.h / 4)
-all c = count_units _ _ _ c.before.before.requires.size c.root-count.ensures
+all : (c : tie.After-root_count-roots invariant-loop decreases-loop) → c.root_count-roots.result ≡ roots (c.args.w / 4) (c.args.h / 4)
+all c = count_units _ _ _ c.requires.size c.root_count-roots.ensures
 
-all_samples : (c : tie.After-root-count invariant-loop decreases-loop) → c.root-count.result ≡ root_count c.before.before.args.w c.before.before.args.h
-all_samples c = roots_told _ _ _ c.before.before.requires.size c.root-count.ensures
+all_samples : (c : tie.After-root_count-roots invariant-loop decreases-loop) → c.root_count-roots.result ≡ root_count c.args.w c.args.h
+all_samples c = roots_told _ _ _ c.requires.size c.root_count-roots.ensures
 
-few : (c : tie.After-root-count invariant-loop decreases-loop) → c.root-count.result ≤ 4096
-few c = omega (arith, all_samples c, few_of _ _ c.before.before.requires.size)
+few : (c : tie.After-root_count-roots invariant-loop decreases-loop) → c.root_count-roots.result ≤ 4096
+few c = omega (arith, all_samples c, few_of _ _ c.requires.size)
 
-loop_holds : tie.Need-loop-init invariant-loop decreases-loop
+loop_holds : tie.Need-loop-i-init invariant-loop decreases-loop
 unfolding joined
 loop_holds c = (zero-le, refl, ap (λ (v : Walk). v.answer) (turn_none _), refl)
 
-inside : (c : tie.In-loop invariant-loop decreases-loop) → c.before.loop.i < root_count c.before.before.before.before.args.w c.before.before.before.before.args.h
-inside c = omega (arith, c.loop-test.true, all_samples c.before.before)
+inside : (c : tie.In-loop-i invariant-loop decreases-loop) → c.loop-i.i < root_count c.args.w c.args.h
+inside c = omega (arith, c.loop-i-test.true, all_samples c.before.before)
 
-inside_units : (c : tie.In-loop invariant-loop decreases-loop) → c.before.loop.i < roots (c.before.before.before.before.args.w / 4) (c.before.before.before.before.args.h / 4)
-inside_units c = omega (arith, c.loop-test.true, all c.before.before)
+inside_units : (c : tie.In-loop-i invariant-loop decreases-loop) → c.loop-i.i < roots (c.args.w / 4) (c.args.h / 4)
+inside_units c = omega (arith, c.loop-i-test.true, all c.before.before)
 
-returns : tie.Need-returns invariant-loop decreases-loop
+returns : tie.Need-returns-in-Refused invariant-loop decreases-loop
 returns c =
-    let v = c.before.before.before.before.before.before.before.loop.invariant in
+    let v = c.loop-i.invariant in
     ap (counted _)
-    (sym (turn_refused _ _ _ _ (inside_units c.before.before.before.before.before.before) v.2
-    (counted_refused _ _ _ (sym c.before.r.given.1 ∙ c.before.before.before.before.root-digits.ensures))))
+    (sym (turn_refused _ _ _ _ (inside_units c.before.before.before.before) v.2
+    (counted_refused _ _ _ (sym c.in-Refused.is ∙ c.root_digits.ensures))))
 
-next : (c : tie.After-n invariant-loop decreases-loop) → let a = c.before.before.before.before.before.before.before.before.before.args in
-    let i = c.before.before.before.before.before.before.loop.i in
+next : (c : tie.In-Done-2 invariant-loop decreases-loop) → let a = c.args in
+    let i = c.loop-i.i in
     ((root_walk a.splits.now (a.w / 4) (a.h / 4) i).answer ≡ Done)
-    × (c.before.before.before.before.before.before.loop.digits + c.n.given.0.0 ≡ length (digits_of a.splits.now (a.w / 4) (a.h / 4) (i + 1)))
+    × (c.loop-i.digits + c.in-Done.n ≡ length (digits_of a.splits.now (a.w / 4) (a.h / 4) (i + 1)))
 next c =
-    let v = c.before.before.before.before.before.before.loop.invariant in
-    let k = counted_done _ _ (root_walk c.before.before.before.before.before.before.before.before.before.args.splits.now
-    (c.before.before.before.before.before.before.before.before.before.args.w / 4) (c.before.before.before.before.before.before.before.before.before.args.h / 4)
-    c.before.before.before.before.before.before.loop.i).answer (sym c.n.given.1 ∙ c.before.before.before.root-digits.ensures) in
-    (k.0, ap₂ ◌+◌ v.1 k.1 ∙ sym (more_long _ _ _ _ (inside_units c.before.before.before.before.before)))
+    let v = c.loop-i.invariant in
+    let k = counted_done _ _ (root_walk c.args.splits.now
+    (c.args.w / 4) (c.args.h / 4)
+    c.loop-i.i).answer (sym c.in-Done.is ∙ c.root_digits.ensures) in
+    (k.0, ap₂ ◌+◌ v.1 k.1 ∙ sym (more_long _ _ _ _ (inside_units c.before.before.before.before)))
 
-add_digits : tie.Need-overflow-add-digits invariant-loop decreases-loop
+add_digits : tie.Need-overflow_add-digits invariant-loop decreases-loop
 add_digits c =
-    let a = c.before.before.before.before.before.before.before.before.before.before.args in
-    let f = few_digits a.splits.now (a.w / 4) (a.h / 4) (c.before.before.before.before.before.before.before.loop.i + 1) in
-    omega (arith, (next c.before).1, f, c.before.before.before.before.before.before.loop-test.true, few c.before.before.before.before.before.before.before.before)
+    let a = c.args in
+    let f = few_digits a.splits.now (a.w / 4) (a.h / 4) (c.loop-i.i + 1) in
+    omega (arith, (next c.before).1, f, c.loop-i-test.true, few c.before.before.before.before.before.before)
 
-loop_again : tie.Need-loop-preserved invariant-loop decreases-loop
+loop_again : tie.Need-loop-i-preserved invariant-loop decreases-loop
 loop_again c =
     let k = next c.before in
-    let v = c.before.before.before.before.before.before.before.loop.invariant in
-    let l = c.before.before.before.before.root-digits.auto.1.1.1.1.0 ∙ v.3 in
-    (omega (arith, c.before.before.before.before.before.before.loop-test.true), k.1, turn_done _ _ v.2 k.0, l)
+    let v = c.loop-i.invariant in
+    let l = c.root_digits.auto.list ∙ v.3 in
+    (omega (arith, c.loop-i-test.true), k.1, turn_done _ _ v.2 k.0, l)
 
-returns-2 : tie.Need-returns-2 invariant-loop decreases-loop
+returns-2 : tie.Need-returns invariant-loop decreases-loop
 returns-2 c =
-    let a = c.before.before.before.before.args in
-    let v = c.before.loop.invariant in
-    let e = le_antisymm v.0 c.loop-test.false ∙ all c.before.before in
+    let a = c.args in
+    let v = c.loop-i.invariant in
+    let e = le_antisymm v.0 c.loop-i-test.false ∙ all c.before.before in
     sym (ap₂ counted (sym (v.1 ∙ ap (λ (n : ℕ). length (digits_of a.splits.now (a.w / 4) (a.h / 4) n)) e))
     (ap (λ (n : ℕ). (in_turn (root_walk a.splits.now (a.w / 4) (a.h / 4)) n).answer) (sym e) ∙ v.2))
 
-root_digits_requires : tie.Need-root-digits-requires invariant-loop decreases-loop
-root_digits_requires c κs = (c.before.before.before.before.before.requires, inside c.before, c.before.before.loop.invariant.3)
+root_digits_requires : tie.Need-root_digits-requires invariant-loop decreases-loop
+root_digits_requires c κs = (c.requires, inside c.before, c.loop-i.invariant.3)
 
 pub map_digits_spec : {M : Type 1} → statement M
 map_digits_spec =

@@ -18,7 +18,7 @@ use Rattle.pack.proofs.Writing.{few_of, count_units, more_long, put_next}
 use Rattle.pack.proofs.write.put_digits.Statement.{statement}
 use Rattle.pack.proofs.write.put_digits.Tie as tie
 
-abbrev invariant-loop : tie.invariant-loop
+abbrev invariant-loop : tie.invariant-loop-i
 invariant-loop w h splits buf₀ at roots list₀ used₀ i₀ buf list used i =
     (i ≤ roots)
     × (length buf ≡ length buf₀)
@@ -26,39 +26,39 @@ invariant-loop w h splits buf₀ at roots list₀ used₀ i₀ buf list used i =
     × (buf ≡ with_bits buf₀ at (digit_at (picture_digits splits (w / 4) (h / 4))) used)
     × (length list ≡ 85)
 
-abbrev decreases-loop : tie.decreases-loop
+abbrev decreases-loop : tie.decreases-loop-i
 decreases-loop w h splits buf₀ at roots list₀ used₀ i₀ buf list used i = roots - i
 
 -- the number of roots, in samples and in units
-all : (c : tie.After-root-count invariant-loop decreases-loop) → c.root-count.result ≡ roots (c.before.before.before.args.w / 4) (c.before.before.before.args.h / 4)
-all c = count_units _ _ _ c.before.before.before.requires.0.size c.root-count.ensures
+all : (c : tie.After-root_count-roots invariant-loop decreases-loop) → c.root_count-roots.result ≡ roots (c.args.w / 4) (c.args.h / 4)
+all c = count_units _ _ _ c.requires.0.size c.root_count-roots.ensures
 
-all_samples : (c : tie.After-root-count invariant-loop decreases-loop) → c.root-count.result ≡ root_count c.before.before.before.args.w c.before.before.before.args.h
-all_samples c = roots_told _ _ _ c.before.before.before.requires.0.size c.root-count.ensures
+all_samples : (c : tie.After-root_count-roots invariant-loop decreases-loop) → c.root_count-roots.result ≡ root_count c.args.w c.args.h
+all_samples c = roots_told _ _ _ c.requires.0.size c.root_count-roots.ensures
 
-inside : (c : tie.In-loop invariant-loop decreases-loop) → c.before.loop.i < root_count c.before.before.before.before.before.args.w c.before.before.before.before.before.args.h
-inside c = omega (arith, c.loop-test.true, all_samples c.before.before)
+inside : (c : tie.In-loop-i invariant-loop decreases-loop) → c.loop-i.i < root_count c.args.w c.args.h
+inside c = omega (arith, c.loop-i-test.true, all_samples c.before.before)
 
-inside_units : (c : tie.In-loop invariant-loop decreases-loop) → c.before.loop.i < roots (c.before.before.before.before.before.args.w / 4) (c.before.before.before.before.before.args.h / 4)
-inside_units c = omega (arith, c.loop-test.true, all c.before.before)
+inside_units : (c : tie.In-loop-i invariant-loop decreases-loop) → c.loop-i.i < roots (c.args.w / 4) (c.args.h / 4)
+inside_units c = omega (arith, c.loop-i-test.true, all c.before.before)
 
 -- the digits before root i are few
-near : (c : tie.In-loop invariant-loop decreases-loop) → c.before.before.before.before.before.args.at + c.before.loop.used ≤ 4611686018427736064
+near : (c : tie.In-loop-i invariant-loop decreases-loop) → c.args.at + c.loop-i.used ≤ 4611686018427736064
 near c =
-    let a = c.before.before.before.before.before.args in
-    let f = few_digits a.splits.now (a.w / 4) (a.h / 4) c.before.loop.i in
-    omega (arith, c.before.loop.invariant.2, f, inside c, few_of _ _ c.before.before.before.before.before.requires.0.size, c.before.before.before.before.before.requires.2)
+    let a = c.args in
+    let f = few_digits a.splits.now (a.w / 4) (a.h / 4) c.loop-i.i in
+    omega (arith, c.loop-i.invariant.2, f, inside c, few_of _ _ c.requires.0.size, c.requires.2)
 
-loop_holds : tie.Need-loop-init invariant-loop decreases-loop
+loop_holds : tie.Need-loop-i-init invariant-loop decreases-loop
 unfolding joined
 loop_holds c = (zero-le, refl, refl, sym (with_none _ _ _), refl)
 
-put_root_requires : tie.Need-put-root-requires invariant-loop decreases-loop
+put_root_requires : tie.Need-put_root-n-requires invariant-loop decreases-loop
 put_root_requires c κs = (
-  c.before.before.before.before.before.before.before.requires.0,
+  c.requires.0,
   inside c.before.before,
-  c.before.before.before.loop.invariant.4,
-  each_done _ _ c.before.before.before.before.before.before.before.requires.1 _ (inside_units c.before.before),
+  c.loop-i.invariant.4,
+  each_done _ _ c.requires.1 _ (inside_units c.before.before),
   near c.before.before,
 )
 
@@ -72,33 +72,33 @@ used_next c =
     c.before.before.before.before.loop.i) + n) c.put-root.ensures.0
     ∙ sym (more_long _ _ _ _ (inside_units c.before.before.before))
 
-add_used : tie.Need-overflow-add-used invariant-loop decreases-loop
+add_used : tie.Need-overflow_add-used invariant-loop decreases-loop
 add_used c =
-    let a = c.before.before.before.before.before.before.before.before.before.before.before.args in
-    let f = few_digits a.splits.now (a.w / 4) (a.h / 4) (c.before.before.before.before.before.before.before.loop.i + 1) in
-    let g = few_of _ _ c.before.before.before.before.before.before.before.before.before.before.before.requires.0.size in
+    let a = c.args in
+    let f = few_digits a.splits.now (a.w / 4) (a.h / 4) (c.loop-i.i + 1) in
+    let g = few_of _ _ c.requires.0.size in
     omega (arith, used_next c.before.before.before, f, inside c.before.before.before.before.before.before, g)
 
-loop_again : tie.Need-loop-preserved invariant-loop decreases-loop
+loop_again : tie.Need-loop-i-preserved invariant-loop decreases-loop
 loop_again c =
-    let v = c.before.before.before.before.before.before.before.loop.invariant in
-    let m = c.before.before.before.put-root in (
-      omega (arith, c.before.before.before.before.before.before.loop-test.true),
-      m.auto.1.1.1.1.1.0 ∙ v.1,
+    let v = c.loop-i.invariant in
+    let m = c.put_root-n in (
+      omega (arith, c.loop-i-test.true),
+      m.auto.buf ∙ v.1,
       used_next c.before.before.before,
       put_next _ _ _ _ (inside_units c.before.before.before.before.before.before) _ _ _ _ _ _ v.2 m.ensures.0 v.3 m.ensures.1,
-      m.auto.1.1.1.1.0 ∙ v.4,
+      m.auto.list ∙ v.4,
     )
 
 returns : tie.Need-returns invariant-loop decreases-loop
 returns c =
-    let a = c.before.before.before.before.before.args in
-    let v = c.before.loop.invariant in
-    let e = le_antisymm v.0 c.loop-test.false ∙ all c.before.before in
+    let a = c.args in
+    let v = c.loop-i.invariant in
+    let e = le_antisymm v.0 c.loop-i-test.false ∙ all c.before.before in
     v.3 ∙ ap (with_bits a.buf.now a.at (digit_at (picture_digits a.splits.now (a.w / 4) (a.h / 4))))
     (v.2 ∙ ap (λ (n : ℕ). length (digits_of a.splits.now (a.w / 4) (a.h / 4) n)) e)
 
-add_put_root : tie.Need-overflow-add-put-root invariant-loop decreases-loop
+add_put_root : tie.Need-overflow_add-at invariant-loop decreases-loop
 add_put_root c = omega (arith, near c.before.before)
 
 pub put_digits_spec : {M : Type 1} → statement M
@@ -116,5 +116,5 @@ put_digits_spec =
     (λ c. search rules)
     (λ c. search rules)
     loop_again
-    (λ c. c.before.loop.invariant.1)
+    (λ c. c.loop-i.invariant.1)
     returns)

@@ -17,32 +17,32 @@ use Rattle.pack.proofs.write.put_root.Statement.{statement}
 use Rattle.pack.proofs.write.put_root.Tie as tie
 
 -- what the call told: as many marks as the root has, and a list of them
-told : (c : tie.After-list-marks) → let a = c.before.before.before.before.before.args in
+told : (c : tie.After-list_marks) → let a = c.args in
     let l = own a.w a.h a.splits.now a.i in
-    (c.list-marks.result ≡ Counted (length l)) × Told l c.list-marks.new.1.1.1.1.0
-told c = let p = c.before.before.before.before.before.requires in list_told _ c.list-marks.result _ p.0.size p.0.bytes p.2 p.1 c.list-marks.ensures
+    (c.list_marks.result ≡ Counted (length l)) × Told l c.list_marks.new.1.1.1.1.0
+told c = let p = c.requires in list_told _ c.list_marks.result _ p.0.size p.0.bytes p.2 p.1 c.list_marks.ensures
 
-count : (c : tie.After-n) → let a = c.before.before.before.before.before.before.before.before.before.args in c.n.given.0.0 ≡ length (own a.w a.h a.splits.now a.i)
-count c = (counted_done _ _ Done (sym c.n.given.1 ∙ (told c.before.before.before.before).0)).1
+count : (c : tie.In-Done-2) → let a = c.args in c.in-Done.n ≡ length (own a.w a.h a.splits.now a.i)
+count c = (counted_done _ _ Done (sym c.in-Done.is ∙ (told c.before.before.before).0)).1
 
-put_list_requires : tie.Need-put-list-requires
+put_list_requires : tie.Need-put_list-requires
 put_list_requires c κs =
-    let n = count c.before.before.before in
-    let t = (told c.before.before.before.before.before.before.before).1 in
-    (omega (arith, n, t.few, t.long), omega (arith, n, t.few, c.before.before.before.before.before.before.before.before.before.before.before.before.requires.4))
+    let n = count c.before.before in
+    let t = (told c.before.before.before.before).1 in
+    (omega (arith, n, t.few, t.long), omega (arith, n, t.few, c.requires.4))
 
-returns : tie.Need-returns
-returns c = not_both _ _ _ (told c.before.before.before.before.before).0 c.before.r.given.1
+returns : tie.Need-returns-in-Refused
+returns c = not_both _ _ _ (told c.before.before.before).0 c.in-Refused.is
 
-returns-2 : tie.Need-returns-2
+returns-2 : tie.Need-returns-in-Done
 returns-2 c =
-    let a = c.before.before.before.before.before.before.before.before.before.before.before.before.before.before.before.args in
-    let d = c.before.before.before.before.before.before.before.before.before.before.before.before.before.before.before.requires.3 in
-    let n = count c.before.before.before.before.before.before in (
+    let a = c.args in
+    let d = c.requires.3 in
+    let n = count c.before.before.before.before.before in (
       n ∙ sym (own_long a.w a.h a.splits.now a.i d),
-      c.before.before.put-list.ensures
+      c.put_list.ensures
           ∙ with_same _ a.at _ _ _ (λ k l. own_bit a.w a.h a.splits.now a.i
-          (told c.before.before.before.before.before.before.before.before.before.before).1 d k (subst (λ (m : ℕ). k < m) n l)),
+          (told c.before.before.before.before.before.before.before).1 d k (subst (λ (m : ℕ). k < m) n l)),
     )
 
 pub put_root_spec : {M : Type 1} → statement M

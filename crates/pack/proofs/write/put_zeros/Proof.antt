@@ -10,24 +10,24 @@ use Rattle.bits.proofs.Laws.{length_bit, with_none, with_more}
 use Rattle.pack.proofs.write.put_zeros.Statement.{statement}
 use Rattle.pack.proofs.write.put_zeros.Tie as tie
 
-abbrev invariant-loop : tie.invariant-loop
+abbrev invariant-loop : tie.invariant-loop-at
 invariant-loop buf₀ from to at₀ buf at = (from ≤ at) × (at - from ≤ to - from) × (length buf ≡ length buf₀) × (buf ≡ with_bits buf₀ from (λ (i : ℕ). 0) (at - from))
 
-abbrev decreases-loop : tie.decreases-loop
+abbrev decreases-loop : tie.decreases-loop-at
 decreases-loop buf₀ from to at₀ buf at = to - at
 
-loop_holds : tie.Need-loop-init invariant-loop decreases-loop
+loop_holds : tie.Need-loop-at-init invariant-loop decreases-loop
 loop_holds c =
-    let z : c.before.args.from - c.before.args.from ≡ 0 = omega arith in
+    let z : c.args.from - c.args.from ≡ 0 = omega arith in
     (omega arith, omega arith, refl, sym (ap (with_bits _ _ (λ (i : ℕ). 0)) z ∙ with_none _ _ _))
 
-loop_again : tie.Need-loop-preserved invariant-loop decreases-loop
+loop_again : tie.Need-loop-at-preserved invariant-loop decreases-loop
 loop_again c =
-    let v = c.before.before.before.before.before.loop.invariant in
-    let e = c.before.before.put-bit.ensures in
-    let l = c.before.before.before.before.loop-test.true in
-    let a = c.before.before.before.before.before.before.before.args in
-    let at = c.before.before.before.before.before.loop.at in
+    let v = c.loop-at.invariant in
+    let e = c.put_bit.ensures in
+    let l = c.loop-at-test.true in
+    let a = c.args in
+    let at = c.loop-at.at in
     let q : at ≡ a.from + (at - a.from) = omega (arith, v.0) in
     let r : at + 1 - a.from ≡ at - a.from + 1 = omega (arith, v.0) in (
       omega (arith, v.0),
@@ -39,9 +39,9 @@ loop_again c =
 
 returns : tie.Need-returns invariant-loop decreases-loop
 returns c =
-    let a = c.before.before.before.args in
-    let v = c.before.loop.invariant in
-    let e : c.before.loop.at - a.from ≡ a.to - a.from = omega (arith, v.0, v.1, c.loop-test.false) in
+    let a = c.args in
+    let v = c.loop-at.invariant in
+    let e : c.loop-at.at - a.from ≡ a.to - a.from = omega (arith, v.0, v.1, c.loop-at-test.false) in
     v.3 ∙ ap (with_bits a.buf.now a.from (λ (i : ℕ). 0)) e
 
 pub put_zeros_spec : {M : Type 1} → statement M
@@ -55,5 +55,5 @@ put_zeros_spec =
     (λ c. search rules)
     (λ c. search rules)
     loop_again
-    (λ c. c.before.loop.invariant.2)
+    (λ c. c.loop-at.invariant.2)
     returns)

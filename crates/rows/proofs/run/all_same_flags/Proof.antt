@@ -9,22 +9,22 @@ use Rattle.rows_rules.specs.Runs.{flags_from}
 use Rattle.rows.proofs.run.all_same_flags.Statement.{statement}
 use Rattle.rows.proofs.run.all_same_flags.Tie as tie
 
-abbrev invariant-loop : tie.invariant-loop
+abbrev invariant-loop : tie.invariant-loop-j
 invariant-loop words at from n ok₀ j₀ ok j = (j ≤ n) × (ok ≡ flags_from words at from j)
 
-abbrev decreases-loop : tie.decreases-loop
+abbrev decreases-loop : tie.decreases-loop-j
 decreases-loop words at from n ok₀ j₀ ok j = n - j
 
-loop_holds : tie.Need-loop-init invariant-loop decreases-loop
+loop_holds : tie.Need-loop-j-init invariant-loop decreases-loop
 loop_holds c = (omega arith, sym (scan_none _))
 
-loop_again : tie.Need-loop-preserved invariant-loop decreases-loop
-loop_again c = (omega arith, rw (c.before.before.before.before.loop.invariant.1, c.same_flags.ensures) (sym (scan_step _ _)))
+loop_again : tie.Need-loop-j-preserved invariant-loop decreases-loop
+loop_again c = (omega arith, rw (c.loop-j.invariant.1, c.same_flags-ok.ensures) (sym (scan_step _ _)))
 
 returns : tie.Need-returns invariant-loop decreases-loop
 returns c =
-    let e : c.before.loop.j ≡ c.before.before.before.args.n = omega arith in
-    c.before.loop.invariant.1 ∙ rw e
+    let e : c.loop-j.j ≡ c.args.n = omega arith in
+    c.loop-j.invariant.1 ∙ rw e
 
 pub all_same_flags_spec : {M : Type 1} → statement M
 all_same_flags_spec =

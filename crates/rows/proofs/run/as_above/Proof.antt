@@ -6,40 +6,35 @@ use Rattle.rows_rules.proofs.Runs.{above_column, above_byte}
 use Rattle.rows.proofs.run.as_above.Statement.{statement}
 use Rattle.rows.proofs.run.as_above.Tie as tie
 
-sub_top : tie.Need-overflow-sub-top
-sub_top c = omega (arith, c.before.before.requires.2)
+sub_top : tie.Need-overflow_sub-top
+sub_top c = omega (arith, c.requires.2)
 
-sub_same_units : tie.Need-overflow-sub-same-units
+sub_same_units : tie.Need-overflow_sub-k
 sub_same_units c =
-    let s = c.before.before in
-    let a = s.args in
-    omega (arith, c.units-left.ensures.0, above_column a.columns a.x.0 a.k s.requires.1.column s.requires.2)
+    let a = c.args in
+    omega (arith, c.units_left-left.ensures.0, above_column a.columns a.x.0 a.k c.requires.1.column c.requires.2)
 
-sub_same_units_2 : tie.Need-overflow-sub-same-units-2
+sub_same_units_2 : tie.Need-overflow_sub-top-2
 sub_same_units_2 c =
-    let s = c.before.before in
-    let a = s.args in
-    omega (arith, c.units-left.ensures.0, above_column a.columns a.x.0 a.k s.requires.1.column s.requires.2)
+    let a = c.args in
+    omega (arith, c.units_left-left.ensures.0, above_column a.columns a.x.0 a.k c.requires.1.column c.requires.2)
 
-add_same_units : tie.Need-overflow-add-same-units
+add_same_units : tie.Need-overflow_add-n
 add_same_units c =
-    let s = c.before.before in
-    omega (arith, c.units-left.ensures.1, s.requires.0.few, s.requires.1.inside)
+    omega (arith, c.units_left-left.ensures.1, c.requires.0.few, c.requires.1.inside)
 
-same_units_requires : tie.Need-same-units-requires
+same_units_requires : tie.Need-same_units-requires
 same_units_requires c κs =
-    let s = c.before.before in
-    let a = s.args in
-    let h = above_column a.columns a.x.0 a.k s.requires.1.column s.requires.2 in
-    let l = c.units-left.ensures.0 in
-    (s.requires.0.few, s.requires.0.long_motion, s.requires.0.long_refs, omega (arith, l, h, s.requires.1.inside), omega (arith, l, h, s.requires.1.inside, s.requires.2))
+    let a = c.args in
+    let h = above_column a.columns a.x.0 a.k c.requires.1.column c.requires.2 in
+    let l = c.units_left-left.ensures.0 in
+    (c.requires.0.few, c.requires.0.long_motion, c.requires.0.long_refs, omega (arith, l, h, c.requires.1.inside), omega (arith, l, h, c.requires.1.inside, c.requires.2))
 
 returns : tie.Need-returns
 returns c e =
-    let u = c.before.units-left in
-    let s = c.before.before.before in
-    let a = s.args in
-    above_byte a.words.now a.motion.now a.refs.now a.columns a.x.0 a.k a.n u.result s.requires.0.some s.requires.1 s.requires.2 u.ensures.0 u.ensures.2
+    let u = c.units_left-left in
+    let a = c.args in
+    above_byte a.words.now a.motion.now a.refs.now a.columns a.x.0 a.k a.n u.result c.requires.0.some c.requires.1 c.requires.2 u.ensures.0 u.ensures.2
     (c.same_units.ensures e)
 
 pub as_above_spec : {M : Type 1} → statement M

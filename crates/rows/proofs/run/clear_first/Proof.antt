@@ -6,11 +6,11 @@ use borrow.Author.Tests.{eq-eqb, ne_eqb}
 use Rattle.rows.proofs.run.clear_first.Statement.{statement}
 use Rattle.rows.proofs.run.clear_first.Tie as tie
 
-returns : tie.Need-returns
-returns c = rw (ne_eqb _ _ c.if1.true)
+returns : tie.Need-returns-then-x-ne0
+returns c = rw (ne_eqb _ _ c.if-x-ne0.true)
 
-returns-2 : tie.Need-returns-2
-returns-2 c = rw (eq-eqb _ _ c.if1.false)
+returns-2 : tie.Need-returns
+returns-2 c = rw (eq-eqb _ _ c.if-x-ne0.false)
 
 pub clear_first_spec : {M : Type 1} → statement M
 clear_first_spec = tie.close (tie.spec returns (λ c. search rules) (λ c. search rules) returns-2)

@@ -11,78 +11,70 @@ use Rattle.rows_rules.proofs.Runs.{intra_byte, first_byte_lem}
 use Rattle.rows.proofs.run.put_run.Statement.{statement}
 use Rattle.rows.proofs.run.put_run.Tie as tie
 
-put_zeros_requires : tie.Need-put-zeros-requires
-put_zeros_requires c κs = c.before.before.before.before.before.before.requires.4
+put_zeros_requires : tie.Need-put_zeros-requires
+put_zeros_requires c κs = c.requires.4
 
-returns : tie.Need-returns
+returns : tie.Need-returns-then-all_intra
 returns c =
-    let z = c.before.before.put-zeros.ensures in
-    let branch = c.before.before.before.before in
-    let a = branch.before.before.before.before.before.args in (
+    let z = c.put_zeros.ensures in
+    let a = c.args in (
       (λ r. record {
         long = z.long;
         at = λ j h.
             z.at j h ∙ sym (intra_byte a.words.now a.motion.now a.refs.now a.columns (a.k + j)
-            (scan_at _ a.n j h (sym branch.before.all-intra.ensures ∙ branch.if1.true)));
+            (scan_at _ a.n j h (sym c.all_intra.ensures ∙ c.if-all_intra.true)));
       }),
       z.long,
     )
 
-put_first_requires : tie.Need-put-first-requires
-put_first_requires c κs = let p = c.before.before.before.before.before.before.before.requires in (p.2.inside, p.4)
+put_first_requires : tie.Need-put_first-requires
+put_first_requires c κs = let p = c.requires in (p.2.inside, p.4)
 
-returns-2 : tie.Need-returns-2
+returns-2 : tie.Need-returns-then-k-columns
 returns-2 c =
-    let z = c.before.before.put_first.ensures in
-    let branch = c.before.before.before.before in
-    let s = branch.before.before.before.before.before.before in
-    let a = s.args in
-    let w = s.requires.2 in
-    let column : a.k % a.columns ≡ a.k = mod-eq_of_lt branch.if2.true in (
+    let z = c.put_first.ensures in
+    let a = c.args in
+    let w = c.requires.2 in
+    let column : a.k % a.columns ≡ a.k = mod-eq_of_lt c.if-k-columns.true in (
       (λ r. record {
         long = z.long;
         at = λ j h.
-            first_byte_lem a.words.now a.motion.now a.refs.now a.columns s.requires.0 (a.k + j) _ (omega (arith, column, w.column, w.fits)) (omega (arith, w.inside)) (z.at j h);
+            first_byte_lem a.words.now a.motion.now a.refs.now a.columns c.requires.0 (a.k + j) _ (omega (arith, column, w.column, w.fits)) (omega (arith, w.inside)) (z.at j h);
       }),
       z.long,
     )
 
-as_above_requires : tie.Need-as-above-requires
-as_above_requires c κs = let p = c.before.before.before.before.before.before.requires in (p.0, p.2, omega (arith, c.if2.false))
+as_above_requires : tie.Need-as_above-requires
+as_above_requires c κs = let p = c.requires in (p.0, p.2, omega (arith, c.if-k-columns.false))
 
-put_as_above_requires : tie.Need-put-as-above-requires
+put_as_above_requires : tie.Need-put_as_above-requires
 put_as_above_requires c κs =
-    let low = c.before.before.before in
-    let p = low.before.before.before.before.before.before.requires in
-    (p.2.inside, omega (arith, p.1, p.2.inside, low.if2.false), p.0.few, omega (arith, p.0.few, p.1), p.4)
+    let p = c.requires in
+    (p.2.inside, omega (arith, p.1, p.2.inside, c.if-k-columns.false), p.0.few, omega (arith, p.0.few, p.1), p.4)
 
-returns-3 : tie.Need-returns-3
+returns-3 : tie.Need-returns-then-as_above
 returns-3 c =
-    let z = c.before.before.put-as-above.ensures in
-    let branch = c.before.before.before.before in
-    let low = branch.before.before in
-    let s = low.before.before.before.before.before.before in
-    let a = s.args in (
+    let z = c.put_as_above.ensures in
+    let a = c.args in (
       (λ r. record {
         long = z.long;
         at = λ j h.
-            z.at j h ∙ ap (λ (v : ℕ). v % 4 + 4 * self_row (get_or a.words.now (a.k + j) 0)) (r (a.k - a.columns + j) (omega (arith, low.if2.false, s.requires.2.fits, s.requires.2.column, h)))
-            ∙ sym (branch.before.as-above.ensures branch.if3.true j h);
+            z.at j h ∙ ap (λ (v : ℕ). v % 4 + 4 * self_row (get_or a.words.now (a.k + j) 0)) (r (a.k - a.columns + j) (omega (arith, c.if-k-columns.false, c.requires.2.fits, c.requires.2.column, h)))
+            ∙ sym (c.as_above.ensures c.if-as_above.true j h);
       }),
       z.long,
     )
 
-put_sides_requires : tie.Need-put-sides-requires
+put_sides_requires : tie.Need-put_sides-requires
 put_sides_requires c κs =
-    let low = c.before.before.before in
-    let p = low.before.before.before.before.before.before.requires in
-    (p.0, p.2, omega (arith, low.if2.false), p.3, p.4)
+    let p = c.requires in
+    (p.0, p.2, omega (arith, c.if-k-columns.false), p.3, p.4)
 
-returns-4 : tie.Need-returns-4
-returns-4 c = let z = c.before.before.put_sides.ensures in ((λ r. z), z.long)
+returns-4 : tie.Need-returns
+returns-4 c = let z = c.put_sides.ensures in ((λ r. z), z.long)
 
 pub put_run_spec : {M : Type 1} → statement M
 put_run_spec =
     tie.close
-    (tie.spec (λ c κs. c.before.before.before.requires.2.inside) put_zeros_requires (λ c. search rules) returns put_first_requires (λ c. search rules) returns-2 as_above_requires
+    (tie.spec (λ c κs. c.requires.2.inside) put_zeros_requires (λ c. search rules) returns put_first_requires (λ c. search rules) returns-2 as_above_requires
     put_as_above_requires (λ c. search rules) returns-3 put_sides_requires (λ c. search rules) returns-4)

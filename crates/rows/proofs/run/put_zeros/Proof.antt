@@ -6,23 +6,23 @@ use Rattle.laws.proofs.Fill.{Upto, upto_none, upto_more}
 use Rattle.rows.proofs.run.put_zeros.Statement.{statement}
 use Rattle.rows.proofs.run.put_zeros.Tie as tie
 
-abbrev invariant-loop : tie.invariant-loop
+abbrev invariant-loop : tie.invariant-loop-j
 invariant-loop n bytes₀ j₀ bytes j = Upto 0 (λ (i : ℕ). 0) bytes₀ bytes j × (j ≤ n)
 
-abbrev decreases-loop : tie.decreases-loop
+abbrev decreases-loop : tie.decreases-loop-j
 decreases-loop n bytes₀ j₀ bytes j = n - j
 
-loop_holds : tie.Need-loop-init invariant-loop decreases-loop
+loop_holds : tie.Need-loop-j-init invariant-loop decreases-loop
 loop_holds c = (upto_none _ _ _, omega arith)
 
-slice_write_bytes : tie.Need-slice-write-bytes invariant-loop decreases-loop
-slice_write_bytes c = omega (arith, c.before.loop.invariant.0.long)
+slice_write_bytes : tie.Need-bounds-bytes-j invariant-loop decreases-loop
+slice_write_bytes c = omega (arith, c.loop-j.invariant.0.long)
 
-loop_again : tie.Need-loop-preserved invariant-loop decreases-loop
-loop_again c = let l = c.before.loop in (upto_more _ _ _ _ l.j _ (omega arith) refl l.invariant.0, omega arith)
+loop_again : tie.Need-loop-j-preserved invariant-loop decreases-loop
+loop_again c = let l = c.loop-j in (upto_more _ _ _ _ l.j _ (omega arith) refl l.invariant.0, omega arith)
 
 returns : tie.Need-returns invariant-loop decreases-loop
-returns c = let l = c.before.loop in record { long = l.invariant.0.long; at = λ i h. l.invariant.0.below i (omega (arith, c.loop-test.false)) }
+returns c = let l = c.loop-j in record { long = l.invariant.0.long; at = λ i h. l.invariant.0.below i (omega (arith, c.loop-j-test.false)) }
 
 pub put_zeros_spec : {M : Type 1} → statement M
-put_zeros_spec = tie.close (tie.spec invariant-loop decreases-loop loop_holds slice_write_bytes (λ c. omega arith) (λ c. omega arith) loop_again (λ c. c.before.loop.invariant.0.long) returns)
+put_zeros_spec = tie.close (tie.spec invariant-loop decreases-loop loop_holds slice_write_bytes (λ c. omega arith) (λ c. omega arith) loop_again (λ c. c.loop-j.invariant.0.long) returns)

@@ -10,8 +10,8 @@ use Rattle.rows.proofs.run.run_right.Tie as tie
 
 returns : tie.Need-returns
 returns c r =
-    let a = c.before.before.before.before.before.before.before.args in
-    c.same_bytes.ensures ∙ scan_same _ _ a.n (λ j h. ap (eqb (get_or a.rows.now (a.k + j) 0)) ((c.before.before.before.put-run.ensures.0 r).at j h))
+    let a = c.args in
+    c.same_bytes.ensures ∙ scan_same _ _ a.n (λ j h. ap (eqb (get_or a.rows.now (a.k + j) 0)) ((c.put_run.ensures.0 r).at j h))
 
 pub run_right_spec : {M : Type 1} → statement M
 run_right_spec = tie.close (tie.spec (λ c. search rules) (λ c κs. search rules) (λ c. search rules) (λ c κs. search rules) returns)

@@ -8,22 +8,22 @@ use Rattle.rows_rules.specs.Runs.{bytes_from}
 use Rattle.rows.proofs.run.same_bytes.Statement.{statement}
 use Rattle.rows.proofs.run.same_bytes.Tie as tie
 
-abbrev invariant-loop : tie.invariant-loop
+abbrev invariant-loop : tie.invariant-loop-j
 invariant-loop bytes k n rows ok₀ j₀ ok j = (j ≤ n) × (ok ≡ bytes_from bytes k j rows)
 
-abbrev decreases-loop : tie.decreases-loop
+abbrev decreases-loop : tie.decreases-loop-j
 decreases-loop bytes k n rows ok₀ j₀ ok j = n - j
 
-loop_holds : tie.Need-loop-init invariant-loop decreases-loop
+loop_holds : tie.Need-loop-j-init invariant-loop decreases-loop
 loop_holds c = (omega arith, sym (scan_none _))
 
-loop_again : tie.Need-loop-preserved invariant-loop decreases-loop
-loop_again c = (omega arith, rw c.before.before.before.loop.invariant.1 (sym (scan_step _ _)))
+loop_again : tie.Need-loop-j-preserved invariant-loop decreases-loop
+loop_again c = (omega arith, rw c.loop-j.invariant.1 (sym (scan_step _ _)))
 
 returns : tie.Need-returns invariant-loop decreases-loop
 returns c =
-    let e : c.before.loop.j ≡ c.before.before.args.n = omega arith in
-    c.before.loop.invariant.1 ∙ rw e
+    let e : c.loop-j.j ≡ c.args.n = omega arith in
+    c.loop-j.invariant.1 ∙ rw e
 
 pub same_bytes_spec : {M : Type 1} → statement M
 same_bytes_spec =

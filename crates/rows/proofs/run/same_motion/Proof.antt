@@ -14,29 +14,29 @@ use Rattle.rows_rules.specs.Runs.{same_from}
 use Rattle.rows.proofs.run.same_motion.Statement.{statement}
 use Rattle.rows.proofs.run.same_motion.Tie as tie
 
-abbrev invariant-loop : tie.invariant-loop
+abbrev invariant-loop : tie.invariant-loop-j
 invariant-loop motion at from n ok₀ j₀ ok j = (j ≤ n) × (ok ≡ same_from motion at from j)
 
-abbrev decreases-loop : tie.decreases-loop
+abbrev decreases-loop : tie.decreases-loop-j
 decreases-loop motion at from n ok₀ j₀ ok j = n - j
 
-loop_holds : tie.Need-loop-init invariant-loop decreases-loop
+loop_holds : tie.Need-loop-j-init invariant-loop decreases-loop
 loop_holds c = (omega arith, sym (scan_none _))
 
 number : {z : ℤ} → mag z < 32768 → to_z w16 (of_z w16 z) ≡ z
 number {z} h = back w16 z (record { sfits = h })
 
-loop_again : tie.Need-loop-preserved invariant-loop decreases-loop
+loop_again : tie.Need-loop-j-preserved invariant-loop decreases-loop
 loop_again c = (
   omega arith,
-  rw (c.before.before.before.before.loop.invariant.1, c.same_number.ensures, number c.before.before.same-number-arg.given, number c.before.same-number-arg2.given)
+  rw (c.loop-j.invariant.1, c.same_number-ok.ensures, number c.same_number-arg-1.given, number c.same_number-arg-in-loop-j-1.given)
       (sym (scan_step _ _)),
 )
 
 returns : tie.Need-returns invariant-loop decreases-loop
 returns c =
-    let e : c.before.loop.j ≡ c.before.before.args.n = omega arith in
-    c.before.loop.invariant.1 ∙ rw e
+    let e : c.loop-j.j ≡ c.args.n = omega arith in
+    c.loop-j.invariant.1 ∙ rw e
 
 pub same_motion_spec : {M : Type 1} → statement M
 same_motion_spec =

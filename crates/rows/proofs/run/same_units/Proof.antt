@@ -8,18 +8,16 @@ use Rattle.rows_rules.specs.Runs.{units_from}
 use Rattle.rows.proofs.run.same_units.Statement.{statement}
 use Rattle.rows.proofs.run.same_units.Tie as tie
 
-returns : tie.Need-returns
+returns : tie.Need-returns-then-not-same_refs
 returns c e = absurd (let z : ◌≡◌ {A = ℕ} 0 1 = cc in omega arith)
 
-returns-2 : tie.Need-returns-2
+returns-2 : tie.Need-returns-then-not-same_motion
 returns-2 c e = absurd (let z : ◌≡◌ {A = ℕ} 0 1 = cc in omega arith)
 
-returns-3 : tie.Need-returns-3
+returns-3 : tie.Need-returns
 unfolding units_from
 returns-3 c e =
-    let second = c.before in
-    let first = second.before.before in
-    rw (sym first.before.same-refs.ensures ∙ not-false _ first.if1.false, sym second.before.same-motion.ensures ∙ not-false _ second.if2.false, sym c.all-same-flags.ensures ∙ e)
+    rw (sym c.same_refs.ensures ∙ c.if-not-same_refs.false, sym c.same_motion.ensures ∙ c.if-not-same_motion.false, sym c.all_same_flags.ensures ∙ e)
 
 pub same_units_spec : {M : Type 1} → statement M
 same_units_spec =

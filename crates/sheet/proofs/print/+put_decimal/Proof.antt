@@ -33,17 +33,14 @@ pub +put-decimal-spec : {M : Type 1} → statement M
     put-decimal.Post
     (λ c. search rules)
     (λ c. search rules)
-    (λ c. omega (arith, c.before.before.requires.1.1))
+    (λ c. omega (arith, c.requires.1.1))
     (λ c. search rules)
     (λ c. search rules)
-    (λ c. put_as (decimal_one _ c.if1.true) (put_byte _ _ _))
-    (λ c κs. let s = c.before.before.before in (omega (arith, s.requires.0), (omega (arith, s.requires.1.0), s.requires.1.1)))
+    (λ c. put_as (decimal_one _ c.if-n-lt10.true) (put_byte _ _ _))
+    (λ c κs. (omega (arith, c.requires.0), (omega (arith, c.requires.1.0), c.requires.1.1)))
     (λ c. search rules)
     (λ c. search rules)
-    (λ c. let d = c.before.before.put-decimal in let s = c.before.before.before.before.before.before in
-    omega (arith, d.ensures.count, d.auto.0, s.requires.1.1, decimal_three (s.args.n / 10) (omega (arith, s.requires.1.0))))
-    (λ c. let d = c.before.before.put-decimal in let s = c.before.before.before.before.before.before in
-    omega (arith, d.ensures.count, s.requires.1.1, decimal_three (s.args.n / 10) (omega (arith, s.requires.1.0))))
-    (λ c. simp length-set c.before.before.put-decimal.auto.0)
-    (λ c. let s = c.before.before.before.before.before.before in
-    put_as (decimal_more _ s.requires.1.0 (omega arith)) (put_then c.before.before.put-decimal.ensures (put_byte _ _ _)))
+    (λ c. let d = c.put_decimal-next in omega (arith, d.ensures.count, d.auto.out, c.requires.1.1, decimal_three (c.args.n / 10) (omega (arith, c.requires.1.0))))
+    (λ c. let d = c.put_decimal-next in omega (arith, d.ensures.count, c.requires.1.1, decimal_three (c.args.n / 10) (omega (arith, c.requires.1.0))))
+    (λ c. simp length-set c.put_decimal-next.auto.out)
+    (λ c. put_as (decimal_more _ c.requires.1.0 (omega arith)) (put_then c.put_decimal-next.ensures (put_byte _ _ _)))

@@ -4,14 +4,13 @@ use Rattle.sheet.proofs.Puts.{line_put, line_none}
 use Rattle.sheet.proofs.print.put_line.Statement.{statement}
 use Rattle.sheet.proofs.print.put_line.Tie as tie
 
-returns : tie.Need-returns
+returns : tie.Need-returns-then-number-eq12
 returns c =
-    let s = c.before.before.before.before.before.before.before.before.before.before.before in
-    line_put _ s.args.line c.before.before.before.before.before.before.before.before.before.if1.true
-    c.before.before.before.before.before.before.put-bytes.ensures c.before.before.put-decimal.ensures
+    line_put _ c.args.line c.if-number-eq12.true
+    c.put_bytes-next.ensures c.put_decimal.ensures
 
-returns-2 : tie.Need-returns-2
-returns-2 c = line_none _ _ _ _ c.if1.false
+returns-2 : tie.Need-returns
+returns-2 c = line_none _ _ _ _ c.if-number-eq12.false
 
 pub put_line_spec : {M : Type 1} → statement M
 put_line_spec = tie.close (tie.spec (λ c. search rules) (λ c κs. search rules) (λ c κs. search rules) (λ c. search rules) returns returns-2)

@@ -7,20 +7,17 @@ use Rattle.sheet.proofs.print.put_listing.Tie as tie
 
 returns : tie.Need-returns
 returns c =
-    let n = c.before.before.before.before.before.before.before in
-    let h = n.before.before.before.before.before in
-    let v = h.before.before.before.before in
-    let a = v.before.before.before.before.before.args in
+    let a = c.args in
     record {
-      put = listing_put a.vertical.now a.m a.horizontal.now a.n v.put-places.ensures.0 h.put-places2.ensures.0
-          n.put_count.ensures.0 c.before.before.put-count2.ensures.0;
+      put = listing_put a.vertical.now a.m a.horizontal.now a.n c.put_places-second.ensures.0 c.put_places-counts.ensures.0
+          c.put_count-last.ensures.0 c.put_count.ensures.0;
       fits = omega (
         arith,
-        v.put-places.ensures.1,
-        h.put-places2.ensures.1,
-        n.put_count.ensures.1,
-        c.before.before.put-count2.ensures.1,
-        v.before.before.before.before.before.requires.2,
+        c.put_places-second.ensures.1,
+        c.put_places-counts.ensures.1,
+        c.put_count-last.ensures.1,
+        c.put_count.ensures.1,
+        c.requires.2,
       );
     }
 

@@ -13,41 +13,36 @@ record Room (n k m : ℕ) : Type 0 where
   same : k ≡ m
   room : n ≤ k
 
-first : (c : tie.After-put-decimal) → Room (c.put-decimal.result + 5) (length c.put-decimal.new.0) (length c.before.before.before.args.out.now)
+first : (c : tie.After-put_decimal-second) → Room (c.put_decimal-second.result + 5) (length c.put_decimal-second.new.0) (length c.args.out.now)
 first c =
-    let s = c.before.before.before in
-    let e : length c.put-decimal.new.0 ≡ length s.args.out.now = c.put-decimal.auto.0 ∙ simp length-set in
-    record { same = e; room = omega (arith, c.put-decimal.ensures.count, decimal_three s.args.x s.requires.0, s.requires.2) }
+    let e : length c.put_decimal-second.new.0 ≡ length c.args.out.now = c.put_decimal-second.auto.out ∙ simp length-set in
+    record { same = e; room = omega (arith, c.put_decimal-second.ensures.count, decimal_three c.args.x c.requires.0, c.requires.2) }
 
-second : (c : tie.After-put-decimal2) → Room (c.put-decimal2.result + 1) (length c.put-decimal2.new.0) (length c.before.before.before.before.before.before.before.args.out.now)
+second : (c : tie.After-put_decimal-end) → Room (c.put_decimal-end.result + 1) (length c.put_decimal-end.new.0) (length c.args.out.now)
 second c =
-    let f = c.before.before.before.before in
-    let s = f.before.before.before in
-    let e : length c.put-decimal2.new.0 ≡ length s.args.out.now = c.put-decimal2.auto.0 ∙ simp length-set (first f).same in
+    let e : length c.put_decimal-end.new.0 ≡ length c.args.out.now = c.put_decimal-end.auto.out ∙ simp length-set (first c.before.before.before.before).same in
     record {
       same = e;
       room = omega (
         arith,
-        place_short s.args.letter s.args.x s.args.y s.args.out.now s.args.at
-            f.put-decimal.ensures c.put-decimal2.ensures s.requires.0 s.requires.1,
-        s.requires.2,
+        place_short c.args.letter c.args.x c.args.y c.args.out.now c.args.at
+            c.put_decimal-second.ensures c.put_decimal-end.ensures c.requires.0 c.requires.1,
+        c.requires.2,
       );
     }
 
-put_decimal_requires : tie.Need-put-decimal-requires
+put_decimal_requires : tie.Need-put_decimal-second-requires
 put_decimal_requires c κs = (omega arith, simp length-set (omega arith))
 
-put_decimal_requires_2 : tie.Need-put-decimal-requires-2
+put_decimal_requires_2 : tie.Need-put_decimal-end-requires
 put_decimal_requires_2 c κs = (omega arith, simp length-set (omega (arith, (first c.before.before.before).room)))
 
 returns : tie.Need-returns
 returns c =
-    let f = c.before.before.before.before.before.before in
-    let s = f.before.before.before in
-    let p = f.put-decimal.ensures in
-    let q = c.before.before.put-decimal2.ensures in (
-      place_put s.args.letter s.args.x s.args.y s.args.out.now s.args.at p q,
-      place_short s.args.letter s.args.x s.args.y s.args.out.now s.args.at p q s.requires.0 s.requires.1,
+    let p = c.put_decimal-second.ensures in
+    let q = c.put_decimal-end.ensures in (
+      place_put c.args.letter c.args.x c.args.y c.args.out.now c.args.at p q,
+      place_short c.args.letter c.args.x c.args.y c.args.out.now c.args.at p q c.requires.0 c.requires.1,
     )
 
 pub put_place_spec : {M : Type 1} → statement M

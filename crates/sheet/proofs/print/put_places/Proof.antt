@@ -10,41 +10,40 @@ use Rattle.sheet.proofs.Puts.{places_none, places_more}
 use Rattle.sheet.proofs.print.put_places.Statement.{statement}
 use Rattle.sheet.proofs.print.put_places.Tie as tie
 
-abbrev invariant-loop : tie.invariant-loop
+abbrev invariant-loop : tie.invariant-loop-i
 invariant-loop out₀ at letter numbers n i₀ next₀ out i next =
     (i ≤ n) × (length out ≡ length out₀) × (next ≤ at + 10 * i) × Put (places_text letter numbers i) out₀ at out next
 
-abbrev decreases-loop : tie.decreases-loop
+abbrev decreases-loop : tie.decreases-loop-i
 decreases-loop out₀ at letter numbers n i₀ next₀ out i next = n - i
 
-loop_holds : tie.Need-loop-init invariant-loop decreases-loop
+loop_holds : tie.Need-loop-i-init invariant-loop decreases-loop
 loop_holds c = (omega arith, refl, omega arith, places_none _ _ _ _)
 
-put_place_requires : tie.Need-put-place-requires invariant-loop decreases-loop
+put_place_requires : tie.Need-put_place-next-requires invariant-loop decreases-loop
 put_place_requires c κs =
-    let l = c.before.before.before.before.before.before.loop in
-    let s = c.before.before.before.before.before.before.before.before.before in (
-      omega (arith, c.before.before.before.wide.ensures, s.requires.0.small (2 * l.i) (omega arith)),
-      omega (arith, c.before.wide2.ensures, s.requires.0.small (2 * l.i + 1) (omega arith)),
-      omega (arith, l.invariant.1, l.invariant.2, s.requires.1),
+    let l = c.loop-i in
+    (
+      omega (arith, c.wide-x.ensures, c.requires.0.small (2 * l.i) (omega arith)),
+      omega (arith, c.wide-y.ensures, c.requires.0.small (2 * l.i + 1) (omega arith)),
+      omega (arith, l.invariant.1, l.invariant.2, c.requires.1),
     )
 
-loop_again : tie.Need-loop-preserved invariant-loop decreases-loop
+loop_again : tie.Need-loop-i-preserved invariant-loop decreases-loop
 loop_again c =
-    let l = c.before.before.before.before.before.before.before.before.before.loop in
-    let s = c.before.before.before.before.before.before.before.before.before.before.before.before in
-    let p = c.before.before.put-place in (
+    let l = c.loop-i in
+    let p = c.put_place-next in (
       omega arith,
-      p.auto.0 ∙ l.invariant.1,
+      p.auto.out ∙ l.invariant.1,
       omega (arith, p.ensures.1, l.invariant.2),
-      places_more s.args.letter s.args.numbers.now l.i _ _ c.before.before.before.before.before.before.wide.ensures
-          c.before.before.before.before.wide2.ensures l.invariant.3 p.ensures.0,
+      places_more c.args.letter c.args.numbers.now l.i _ _ c.wide-x.ensures
+          c.wide-y.ensures l.invariant.3 p.ensures.0,
     )
 
 returns : tie.Need-returns invariant-loop decreases-loop
 returns c =
-    let l = c.before.loop in
-    let s = c.before.before.before.before.args in
+    let l = c.loop-i in
+    let s = c.args in
     let e : l.i ≡ s.n = omega arith in
     (subst (λ (k : ℕ). Put (places_text s.letter s.numbers.now k) s.out.now s.at l.out l.next) e l.invariant.3, omega (arith, l.invariant.2))
 
@@ -68,5 +67,5 @@ put_places_spec =
     (λ c. omega arith)
     (λ c. omega arith)
     loop_again
-    (λ c. c.before.loop.invariant.1)
+    (λ c. c.loop-i.invariant.1)
     returns)

@@ -13,33 +13,28 @@ record Room (n k m : ℕ) : Type 0 where
   same : k ≡ m
   room : n ≤ k
 
-first : (c : tie.After-put-decimal) → Room (c.put-decimal.result + 20) (length c.put-decimal.new.0)
-    (length c.before.before.before.before.before.before.before.before.before.args.out.now)
+first : (c : tie.After-put_decimal-next) → Room (c.put_decimal-next.result + 20) (length c.put_decimal-next.new.0)
+    (length c.args.out.now)
 first c =
-    let d = c.put-decimal in
-    let b = c.before.before.before.before.put-bytes in
-    let s = c.before.before.before.before.before.before.before.before.before in
-    let n = c.before.before.before.before.before.before.before.refusal-number.result in
-    let e : length d.new.0 ≡ length s.args.out.now = d.auto.0 ∙ b.auto.0 in
-    record { same = e; room = omega (arith, d.ensures.count, b.ensures.count, decimal_four n (omega arith), s.requires.1) }
+    let d = c.put_decimal-next in
+    let b = c.put_bytes-digits in
+    let n = c.refusal_number-number.result in
+    let e : length d.new.0 ≡ length c.args.out.now = d.auto.out ∙ b.auto.out in
+    record { same = e; room = omega (arith, d.ensures.count, b.ensures.count, decimal_four n (omega arith), c.requires.1) }
 
-second : (c : tie.After-put-line) → Room (c.put-line.result + 1) (length c.put-line.new.0)
-    (length c.before.before.before.before.before.before.before.before.before.before.before.before.before.args.out.now)
+second : (c : tie.After-put_line-end) → Room (c.put_line-end.result + 1) (length c.put_line-end.new.0)
+    (length c.args.out.now)
 second c =
-    let f = c.before.before.before.before in
-    let s = f.before.before.before.before.before.before.before.before.before in
-    let n = f.before.before.before.before.before.before.before.refusal-number.result in
-    let e : length c.put-line.new.0 ≡ length s.args.out.now = c.put-line.auto.0 ∙ (first f).same in
-    record { same = e; room = omega (arith, c.put-line.ensures.count, (first f).room, (first f).same, line_length n s.args.line s.requires.0) }
+    let n = c.refusal_number-number.result in
+    let e : length c.put_line-end.new.0 ≡ length c.args.out.now = c.put_line-end.auto.out ∙ (first c.before.before.before.before).same in
+    record { same = e; room = omega (arith, c.put_line-end.ensures.count, (first c.before.before.before.before).room, (first c.before.before.before.before).same, line_length n c.args.line c.requires.0) }
 
 returns : tie.Need-returns
 returns c =
-    let b = c.before.before.before.before.before.before.before.before.before.before in
-    let s = b.before.before.before.before.before in
     let f = second c.before.before in
     record {
-      put = refused_put s.args.r s.args.line b.before.before.before.refusal-number.ensures b.put-bytes.ensures
-          c.before.before.before.before.before.before.put-decimal.ensures c.before.before.put-line.ensures;
+      put = refused_put c.args.r c.args.line c.refusal_number-number.ensures c.put_bytes-digits.ensures
+          c.put_decimal-next.ensures c.put_line-end.ensures;
       fits = omega (arith, f.room, f.same);
     }
 
@@ -52,7 +47,7 @@ put_refusal_spec =
     (λ c. search rules)
     (λ c κs. search rules)
     (λ c κs. search rules)
-    (λ c κs. let s = c.before.before.before.before.before.before.before.before.before.before.before.before in (s.requires.0, omega (arith, (first c.before.before.before).room)))
+    (λ c κs. (c.requires.0, omega (arith, (first c.before.before.before).room)))
     (λ c. omega (arith, (second c.before.before).room))
     (λ c. let f = second c.before.before in omega (arith, f.room, f.same))
     (λ c. simp length-set (second c.before.before).same)

@@ -9,15 +9,15 @@ use Rattle.laws.specs.Index.{pick}
 use Rattle.sheet.proofs.tree.as_sheet.Statement.{statement}
 use Rattle.sheet.proofs.tree.as_sheet.Tie as tie
 
-returns : tie.Need-returns
+returns : tie.Need-returns-then-refusal_number-eq16
 returns c =
-    let r = c.before.before.args.r in
-    sym (ap (λ (b : Bool). pick b Sheet r) (eq-eqb (number_of r) 16 (sym c.before.refusal-number.ensures ∙ c.if1.true)))
+    let r = c.args.r in
+    sym (ap (λ (b : Bool). pick b Sheet r) (eq-eqb (number_of r) 16 (sym c.refusal_number.ensures ∙ c.if-refusal_number-eq16.true)))
 
-returns-2 : tie.Need-returns-2
+returns-2 : tie.Need-returns
 returns-2 c =
-    let r = c.before.before.args.r in
-    sym (ap (λ (b : Bool). pick b Sheet r) (ne_eqb (number_of r) 16 (λ e. c.if1.false (c.before.refusal-number.ensures ∙ e))))
+    let r = c.args.r in
+    sym (ap (λ (b : Bool). pick b Sheet r) (ne_eqb (number_of r) 16 (λ e. c.if-refusal_number-eq16.false (c.refusal_number.ensures ∙ e))))
 
 pub as_sheet_spec : {M : Type 1} → statement M
 as_sheet_spec = tie.close (tie.spec (λ c κs. search rules) returns returns-2)

@@ -14,22 +14,22 @@ use Rattle.sheet.proofs.tree.put_digits.Tie as tie
 abbrev low : List ℕ → ℕ → ℕ
 low digits i = get_or digits i 0 % 2
 
-abbrev invariant-loop : tie.invariant-loop
+abbrev invariant-loop : tie.invariant-loop-i
 invariant-loop digits bits₀ i₀ bits i = (i ≤ length digits) × (length bits ≡ length bits₀) × (bits ≡ with_bits bits₀ 0 (low digits) i)
 
-abbrev decreases-loop : tie.decreases-loop
+abbrev decreases-loop : tie.decreases-loop-i
 decreases-loop digits bits₀ i₀ bits i = length digits - i
 
-loop_holds : tie.Need-loop-init invariant-loop decreases-loop
+loop_holds : tie.Need-loop-i-init invariant-loop decreases-loop
 loop_holds c = (omega arith, refl, sym (with_none _ _ _))
 
-loop_again : tie.Need-loop-preserved invariant-loop decreases-loop
+loop_again : tie.Need-loop-i-preserved invariant-loop decreases-loop
 loop_again c =
-    let v = c.before.before.before.before.before.before.loop.invariant in
-    let e = c.before.before.put-bit.ensures in
-    let a = c.before.before.before.before.before.before.before.before.before.args in
-    let i = c.before.before.before.before.before.before.loop.i in (
-      omega (arith, c.before.before.before.before.before.loop-test.true),
+    let v = c.loop-i.invariant in
+    let e = c.put_bit.ensures in
+    let a = c.args in
+    let i = c.loop-i.i in (
+      omega (arith, c.loop-i-test.true),
       ap length e ∙ length_bit _ _ _ ∙ v.1,
       e ∙ ap (λ (z : List ℕ). with_bit z i (low a.digits.now i)) v.2
           ∙ ap (λ (k : ℕ). with_bit (with_bits a.bits.now 0 (low a.digits.now) i) k (low a.digits.now i)) (sym (zero-add i))
@@ -38,9 +38,9 @@ loop_again c =
 
 returns : tie.Need-returns invariant-loop decreases-loop
 returns c =
-    let a = c.before.before.before.before.args in
-    let v = c.before.loop.invariant in
-    let e : c.before.loop.i ≡ length a.digits.now = omega (arith, v.0, c.loop-test.false) in
+    let a = c.args in
+    let v = c.loop-i.invariant in
+    let e : c.loop-i.i ≡ length a.digits.now = omega (arith, v.0, c.loop-i-test.false) in
     v.2 ∙ ap (with_bits a.bits.now 0 (low a.digits.now)) e
 
 pub put_digits_spec : {M : Type 1} → statement M
@@ -55,5 +55,5 @@ put_digits_spec =
     (λ c. search rules)
     (λ c. search rules)
     loop_again
-    (λ c. c.before.loop.invariant.1)
+    (λ c. c.loop-i.invariant.1)
     returns)

@@ -12,23 +12,20 @@ use Rattle.sheet.proofs.tree.take_picture.Statement.{statement}
 use Rattle.sheet.proofs.tree.take_picture.Tie as tie
 
 -- the bits are the digits' values
-values : (c : tie.After-put-digits) → let d = c.before.before.before.before.args.digits.now in bits_from c.put-digits.new.1.0 0 (length d - 0) ≡ values_of d
+values : (c : tie.After-put_digits) → let d = c.args.digits.now in bits_from c.put_digits.new.1.0 0 (length d - 0) ≡ values_of d
 values c =
-    let s = c.before.before.before.before in
-    ap (λ (b : List _). bits_from b 0 (length s.args.digits.now - 0)) c.put-digits.ensures ∙ values_bits s.args.digits.now s.requires.1 _ s.requires.2
+    ap (λ (b : List _). bits_from b 0 (length c.args.digits.now - 0)) c.put_digits.ensures ∙ values_bits c.args.digits.now c.requires.1 _ c.requires.2
 
-returns : tie.Need-returns
+returns : tie.Need-returns-in-Refused
 returns c =
-    let s = c.before.before.before.before.before.before.before.before.before.before.before.before.before.before in
-    picture_stopped s.args.w s.args.h s.args.digits.now _ s.args.map.now s.requires.0 s.requires.2 s.requires.3 _ _ _
-    c.before.before.before.before.before.before.take-map.ensures
-    (values c.before.before.before.before.before.before.before.before.before.before) _ _ c.before.before.answer.given.1 c.as-sheet.ensures
+    picture_stopped c.args.w c.args.h c.args.digits.now _ c.args.map.now c.requires.0 c.requires.2 c.requires.3 _ _ _
+    c.take_map-placed.ensures
+    (values c.before.before.before.before.before.before.before.before) _ _ c.in-Refused.is c.as_sheet.ensures
 
-returns-2 : tie.Need-returns-2
+returns-2 : tie.Need-returns-in-Done
 returns-2 c =
-    let s = c.before.before.before.before.before.before.before.before.before.before.before.before in
-    picture_met s.args.w s.args.h s.args.digits.now _ s.args.map.now s.requires.0 s.requires.2 s.requires.3 _ _ _
-    c.before.before.before.before.take-map.ensures (values c.before.before.before.before.before.before.before.before) c.enum_told.given.1
+    picture_met c.args.w c.args.h c.args.digits.now _ c.args.map.now c.requires.0 c.requires.2 c.requires.3 _ _ _
+    c.take_map-placed.ensures (values c.before.before.before.before.before.before.before) c.in-Done.is
 
 pub take_picture_spec : {M : Type 1} → statement M
 take_picture_spec =

@@ -13,48 +13,48 @@ use Rattle.unpack.proofs.Reading.{fill_more}
 use Rattle.unpack.proofs.read.fill_list.Statement.{statement}
 use Rattle.unpack.proofs.read.fill_list.Tie as tie
 
-abbrev invariant-loop : tie.invariant-loop
+abbrev invariant-loop : tie.invariant-loop-j
 invariant-loop map₀ list n j₀ map j = (j ≤ n) × (length map ≡ 1024) × (map ≡ put_all (marks_in list j) (replicate 1024 0))
 
-abbrev decreases-loop : tie.decreases-loop
+abbrev decreases-loop : tie.decreases-loop-j
 decreases-loop map₀ list n j₀ map j = n - j
 
-loop_holds : tie.Need-loop-init invariant-loop decreases-loop
+loop_holds : tie.Need-loop-j-init invariant-loop decreases-loop
 unfolding put_all run
 loop_holds c =
-    let p = c.before.before.before.before.before.before.requires.0 in
-    let m = c.before.before.clear in
-    (zero-le, m.auto.0 ∙ p, m.ensures ∙ ap (λ (n : ℕ). replicate n 0) p)
+    let p = c.requires.0 in
+    let m = c.clear in
+    (zero-le, m.auto.map ∙ p, m.ensures ∙ ap (λ (n : ℕ). replicate n 0) p)
 
-in_list : (c : tie.In-loop invariant-loop decreases-loop) → c.before.loop.j < length c.before.before.before.before.before.before.before.before.args.list.now
-in_list c = omega (arith, c.loop-test.true, c.before.before.before.before.before.before.before.before.requires.1)
+in_list : (c : tie.In-loop-j invariant-loop decreases-loop) → c.loop-j.j < length c.args.list.now
+in_list c = omega (arith, c.loop-j-test.true, c.requires.1)
 
-place_in_lem : (c : tie.After-mark-place invariant-loop decreases-loop) → c.mark-place.result < length c.before.before.before.loop.map
+place_in_lem : (c : tie.After-mark_place-place invariant-loop decreases-loop) → c.mark_place-place.result < length c.loop-j.map
 place_in_lem c =
-    let p = c.before.before.before.before.before.before.before.before.before.before.requires.2 c.before.before.before.loop.j c.before.before.loop-test.true in
-    let e : c.mark-place.result ≡ get_or c.before.before.before.before.before.before.before.before.before.before.args.list.now
-    c.before.before.before.loop.j 0 / 2 = c.mark-place.ensures in
-    omega (arith, c.before.before.before.loop.invariant.1)
+    let p = c.requires.2 c.loop-j.j c.loop-j-test.true in
+    let e : c.mark_place-place.result ≡ get_or c.args.list.now
+    c.loop-j.j 0 / 2 = c.mark_place-place.ensures in
+    omega (arith, c.loop-j.invariant.1)
 
-loop_again : tie.Need-loop-preserved invariant-loop decreases-loop
+loop_again : tie.Need-loop-j-preserved invariant-loop decreases-loop
 loop_again c =
-    let v = c.before.before.before.before.before.loop.invariant in (
-      omega (arith, c.before.before.before.before.loop-test.true),
+    let v = c.loop-j.invariant in (
+      omega (arith, c.loop-j-test.true),
       simp length-set v.1,
-      ap₂ (set c.before.before.before.before.before.loop.map) c.before.before.mark-place.ensures c.mark-byte.ensures
-          ∙ ap (λ (z : List ℕ). set z (mark_from (get_or c.before.before.before.before.before.before.before.before.before.before.before.before.args.list.now
-          c.before.before.before.before.before.loop.j 0)).place
-          (mark_from (get_or c.before.before.before.before.before.before.before.before.before.before.before.before.args.list.now
-          c.before.before.before.before.before.loop.j 0)).byte) v.2
-          ∙ fill_more c.before.before.before.before.before.before.before.before.before.before.before.before.args.list.now (replicate 1024 0)
-          c.before.before.before.before.before.loop.j (in_list c.before.before.before.before),
+      ap₂ (set c.loop-j.map) c.mark_place-place.ensures c.mark_byte.ensures
+          ∙ ap (λ (z : List ℕ). set z (mark_from (get_or c.args.list.now
+          c.loop-j.j 0)).place
+          (mark_from (get_or c.args.list.now
+          c.loop-j.j 0)).byte) v.2
+          ∙ fill_more c.args.list.now (replicate 1024 0)
+          c.loop-j.j (in_list c.before.before.before.before),
     )
 
 returns : tie.Need-returns invariant-loop decreases-loop
 returns c =
-    let v = c.before.loop.invariant in
-    let e = le_antisymm v.0 c.loop-test.false in
-    v.2 ∙ ap (λ (k : ℕ). put_all (marks_in c.before.before.before.before.before.before.before.before.args.list.now k) (replicate 1024 0)) e
+    let v = c.loop-j.invariant in
+    let e = le_antisymm v.0 c.loop-j-test.false in
+    v.2 ∙ ap (λ (k : ℕ). put_all (marks_in c.args.list.now k) (replicate 1024 0)) e
 
 pub fill_list_spec : {M : Type 1} → statement M
 fill_list_spec =
@@ -74,5 +74,5 @@ fill_list_spec =
     (λ c. search rules)
     (λ c. search rules)
     loop_again
-    (λ c. c.before.loop.invariant.1 ∙ sym c.before.before.before.before.before.before.before.before.requires.0)
+    (λ c. c.loop-j.invariant.1 ∙ sym c.requires.0)
     returns)

@@ -19,7 +19,7 @@ use Rattle.pack.proofs.Writing.{few_of, count_units}
 use Rattle.unpack.proofs.read.fill_map.Statement.{statement}
 use Rattle.unpack.proofs.read.fill_map.Tie as tie
 
-abbrev invariant-loop : tie.invariant-loop
+abbrev invariant-loop : tie.invariant-loop-i
 invariant-loop w h src from to map₀ count list₀ used₀ i₀ map list used i =
     (i ≤ count)
     × (length map ≡ length map₀)
@@ -27,82 +27,81 @@ invariant-loop w h src from to map₀ count list₀ used₀ i₀ map list used i
     × (take (1024 * i) map ≡ joined (root_map (w / 4) (h / 4) (bits (w / 4) (h / 4) src from to)) i)
     × (length list ≡ 85)
 
-abbrev decreases-loop : tie.decreases-loop
+abbrev decreases-loop : tie.decreases-loop-i
 decreases-loop w h src from to map₀ count list₀ used₀ i₀ map list used i = count - i
 
 -- the number of roots, in samples and in units
-all : (c : tie.After-root-count invariant-loop decreases-loop) → c.root-count.result ≡ roots (c.before.before.before.args.w / 4) (c.before.before.before.args.h / 4)
-all c = count_units _ _ _ c.before.before.before.requires.0.size c.root-count.ensures
+all : (c : tie.After-root_count-count invariant-loop decreases-loop) → c.root_count-count.result ≡ roots (c.args.w / 4) (c.args.h / 4)
+all c = count_units _ _ _ c.requires.0.size c.root_count-count.ensures
 
-all_samples : (c : tie.After-root-count invariant-loop decreases-loop) → c.root-count.result ≡ root_count c.before.before.before.args.w c.before.before.before.args.h
-all_samples c = roots_told _ _ _ c.before.before.before.requires.0.size c.root-count.ensures
+all_samples : (c : tie.After-root_count-count invariant-loop decreases-loop) → c.root_count-count.result ≡ root_count c.args.w c.args.h
+all_samples c = roots_told _ _ _ c.requires.0.size c.root_count-count.ensures
 
-inside : (c : tie.In-loop invariant-loop decreases-loop) → c.before.loop.i < root_count c.before.before.before.before.before.args.w c.before.before.before.before.before.args.h
-inside c = omega (arith, c.loop-test.true, all_samples c.before.before)
+inside : (c : tie.In-loop-i invariant-loop decreases-loop) → c.loop-i.i < root_count c.args.w c.args.h
+inside c = omega (arith, c.loop-i-test.true, all_samples c.before.before)
 
-inside_units : (c : tie.In-loop invariant-loop decreases-loop) → c.before.loop.i < roots (c.before.before.before.before.before.args.w / 4) (c.before.before.before.before.before.args.h / 4)
-inside_units c = omega (arith, c.loop-test.true, all c.before.before)
+inside_units : (c : tie.In-loop-i invariant-loop decreases-loop) → c.loop-i.i < roots (c.args.w / 4) (c.args.h / 4)
+inside_units c = omega (arith, c.loop-i-test.true, all c.before.before)
 
-few : (c : tie.In-loop invariant-loop decreases-loop) → c.before.loop.i < 4096
-few c = omega (arith, inside c, few_of _ _ c.before.before.before.before.before.requires.0.size)
+few : (c : tie.In-loop-i invariant-loop decreases-loop) → c.loop-i.i < 4096
+few c = omega (arith, inside c, few_of _ _ c.requires.0.size)
 
 -- root i's bytes lie in the map
-room : (c : tie.In-loop invariant-loop decreases-loop) → 1024 * c.before.loop.i + 1024 ≤ length c.before.loop.map
-room c = omega (arith, inside c, c.before.before.before.before.before.requires.0.bytes, c.before.loop.invariant.1)
+room : (c : tie.In-loop-i invariant-loop decreases-loop) → 1024 * c.loop-i.i + 1024 ≤ length c.loop-i.map
+room c = omega (arith, inside c, c.requires.0.bytes, c.loop-i.invariant.1)
 
 -- root i, by the bits that are left, is not refused
-abbrev here : tie.At-loop invariant-loop decreases-loop → Descent
-here c = let a = c.before.before.before.before.args in root_from (a.w / 4) (a.h / 4) a.src.now a.from a.to c.loop.i c.loop.used
+abbrev here : tie.At-loop-i invariant-loop decreases-loop → Descent
+here c = let a = c.args in root_from (a.w / 4) (a.h / 4) a.src.now a.from a.to c.loop-i.i c.loop-i.used
 
-goes : (c : tie.In-loop invariant-loop decreases-loop) → (here c.before).walk.answer ≡ Done
+goes : (c : tie.In-loop-i invariant-loop decreases-loop) → (here c.before).walk.answer ≡ Done
 goes c =
-    ap (λ (d : Descent). d.walk.answer) (sym (root_is _ _ _ _ _ c.before.loop.invariant.2))
-    ∙ every_root _ _ _ _ c.before.before.before.before.before.requires.3 _ (inside_units c)
+    ap (λ (d : Descent). d.walk.answer) (sym (root_is _ _ _ _ _ c.loop-i.invariant.2))
+    ∙ every_root _ _ _ _ c.requires.3 _ (inside_units c)
 
-loop_holds : tie.Need-loop-init invariant-loop decreases-loop
+loop_holds : tie.Need-loop-i-init invariant-loop decreases-loop
 unfolding joined
 loop_holds c = (zero-le, refl, at_none _ _ _ _ _, refl, refl)
 
-fill_root_requires : tie.Need-fill-root-requires invariant-loop decreases-loop
+fill_root_requires : tie.Need-fill_root-n-requires invariant-loop decreases-loop
 fill_root_requires c κs =
-    let i = c.before.before.before.loop.i in
+    let i = c.loop-i.i in
     let e : 1024 * i + 1024 - 1024 * i ≡ 1024 = omega arith in
-    let l = c.before.before in
-    let m = c.before.before.before.loop in
-    (c.before.before.before.before.before.before.before.requires.0.size, inside l, mid_len (1024 * i) (1024 * i + 1024) m.map (room l) ∙ e, m.invariant.4, goes l)
+    let m = c.loop-i in
+    (c.requires.0.size, inside c.before.before, mid_len (1024 * i) (1024 * i + 1024) m.map (room c.before.before) ∙ e, m.invariant.4, goes c.before.before)
 
-next : (c : tie.After-fill-root invariant-loop decreases-loop) → let a = c.before.before.before.before.before.before.before.before.args in
-    At (a.w / 4) (a.h / 4) a.src.now a.from a.to (c.before.before.before.before.loop.i + 1) (c.before.before.before.before.loop.used + c.fill-root.result)
-next c = at_more _ _ _ _ _ c.before.before.before.before.loop.invariant.2 (goes c.before.before.before) _ c.fill-root.ensures.0
+next : (c : tie.After-fill_root-n invariant-loop decreases-loop) → let a = c.args in
+    At (a.w / 4) (a.h / 4) a.src.now a.from a.to (c.loop-i.i + 1) (c.loop-i.used + c.fill_root-n.result)
+next c = at_more _ _ _ _ _ c.loop-i.invariant.2 (goes c.before.before.before) _ c.fill_root-n.ensures.0
 
-add_used : tie.Need-overflow-add-used invariant-loop decreases-loop
+add_used : tie.Need-overflow_add-used invariant-loop decreases-loop
 add_used c = omega (arith, at_few _ _ _ _ _ (next c.before.before.before), few c.before.before.before.before.before.before)
 
-loop_again : tie.Need-loop-preserved invariant-loop decreases-loop
+loop_again : tie.Need-loop-i-preserved invariant-loop decreases-loop
 loop_again c =
-    let v = c.before.before.before.before.before.before.before.loop.invariant in
-    let l = c.before.before.before.before.before.before.before.loop in
-    let m = c.before.before.before.fill-root in (
-      omega (arith, c.before.before.before.before.before.before.loop-test.true),
-      same_len_mid (1024 * l.i) (1024 * l.i + 1024 - 1024 * l.i) l.map m.new.1.1.1.1.1.1.1.0 m.auto.1.1.1.1.1.1.1.0 ∙ v.1,
+    let v = c.loop-i.invariant in
+    let l = c.loop-i in
+    let m = c.fill_root-n in (
+      omega (arith, c.loop-i-test.true),
+      same_len_mid (1024 * l.i) (1024 * l.i + 1024 - 1024 * l.i) l.map m.new.1.1.1.1.1.1.1.0 m.auto.map ∙ v.1,
       next c.before.before.before,
       map_more _ _ _ l.map m.new.1.1.1.1.1.1.1.0 l.i (1024 * l.i + 1024 - 1024 * l.i) (room c.before.before.before.before.before.before) v.3
           (m.ensures.1 ∙ ap (λ (d : Descent). put_all d.marks (replicate 1024 0)) (sym (root_is _ _ _ _ _ v.2))),
-      m.auto.1.1.1.1.1.1.0 ∙ v.4,
+      m.auto.list ∙ v.4,
     )
 
 returns : tie.Need-returns invariant-loop decreases-loop
 returns c =
-    let a = c.before.before.before.before.before.args in
-    let v = c.before.loop.invariant in
-    let e = le_antisymm v.0 c.loop-test.false ∙ all c.before.before in
-    let f = le_antisymm v.0 c.loop-test.false ∙ all_samples c.before.before in
-    let n : length c.before.loop.map ≡ 1024 * c.before.loop.i = omega (arith, v.1, c.before.before.before.before.before.requires.0.bytes, f) in
-    sym (take-length c.before.loop.map) ∙ ap (λ (k : ℕ). take k c.before.loop.map) n ∙ v.3
+    let a = c.args in
+    let v = c.loop-i.invariant in
+    let e = le_antisymm v.0 c.loop-i-test.false ∙ all c.before.before in
+    let f = le_antisymm v.0 c.loop-i-test.false ∙ all_samples c.before.before in
+    let n : length c.loop-i.map ≡ 1024 * c.loop-i.i = omega (arith, v.1, c.requires.0.bytes, f) in
+    sym (take-length c.loop-i.map) ∙ ap (λ (k : ℕ). take k c.loop-i.map) n ∙ v.3
     ∙ ap (joined (root_map (a.w / 4) (a.h / 4) (bits (a.w / 4) (a.h / 4) a.src.now a.from a.to))) e
 
-add_fill_root : tie.Need-overflow-add-fill-root invariant-loop decreases-loop
-add_fill_root c = let p = c.before.before.before.before.before.before.requires in omega (arith, at_few _ _ _ _ _ c.before.before.loop.invariant.2, few c.before, p.2, p.1)
+add_fill_root : tie.Need-overflow_add-from invariant-loop decreases-loop
+add_fill_root c = let p = c.requires in omega (arith, at_few _ _ _ _ _ c.loop-i.invariant.2, few c.before, p.2, p.1)
 
 pub fill_map_spec : {M : Type 1} → statement M
 fill_map_spec =
@@ -124,5 +123,5 @@ fill_map_spec =
     (λ c. search rules)
     (λ c. search rules)
     loop_again
-    (λ c. c.before.loop.invariant.1)
+    (λ c. c.loop-i.invariant.1)
     returns)

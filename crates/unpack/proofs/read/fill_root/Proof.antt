@@ -21,32 +21,32 @@ use Rattle.unpack.proofs.read.fill_root.Tie as tie
 abbrev own : tie.Start → Descent
 own c = let a = c.args in root_descent (a.w / 4) (a.h / 4) a.i (bits_from a.src.now a.from (a.to - a.from))
 
-told : (c : tie.After-take-marks) → let l = (own c.before.before.before.before.before).marks in (c.take-marks.result ≡ Counted (length l)) × Told l c.take-marks.new.1.1.1.1.1.1.0
+told : (c : tie.After-take_marks) → let l = (own c.before.before.before.before.before).marks in (c.take_marks.result ≡ Counted (length l)) × Told l c.take_marks.new.1.1.1.1.1.1.0
 told c =
-    let p = c.before.before.before.before.before.requires in
-    let t = take_told _ c.take-marks.result _ p.0 p.3 p.1 c.take-marks.ensures in
+    let p = c.requires in
+    let t = take_told _ c.take_marks.result _ p.0 p.3 p.1 c.take_marks.ensures in
     (t.0 ∙ ap (counted _) p.4, t.1 p.4)
 
-count : (c : tie.After-n) → c.n.given.0.0 ≡ length (own c.before.before.before.before.before.before.before.before.before).marks
-count c = (counted_done _ _ Done (sym c.n.given.1 ∙ (told c.before.before.before.before).0)).1
+count : (c : tie.In-Done-2) → c.in-Done.n ≡ length (own c.before.before.before.before.before.before.before.before).marks
+count c = (counted_done _ _ Done (sym c.in-Done.is ∙ (told c.before.before.before).0)).1
 
-fill_list_requires : tie.Need-fill-list-requires
+fill_list_requires : tie.Need-fill_list-requires
 fill_list_requires c κs =
-    let n = count c.before.before.before in
-    let t = (told c.before.before.before.before.before.before.before).1 in
-    (c.before.before.before.before.before.before.before.before.before.before.before.before.requires.2, omega (arith, n, t.few, t.long), λ j l. t.small j (subst (λ (k : ℕ). j < k) n l))
+    let n = count c.before.before in
+    let t = (told c.before.before.before.before).1 in
+    (c.requires.2, omega (arith, n, t.few, t.long), λ j l. t.small j (subst (λ (k : ℕ). j < k) n l))
 
-returns : tie.Need-returns
-returns c = not_both _ _ _ (told c.before.before.before.before.before).0 c.before.r.given.1
+returns : tie.Need-returns-in-Refused
+returns c = not_both _ _ _ (told c.before.before.before).0 c.in-Refused.is
 
-returns-2 : tie.Need-returns-2
+returns-2 : tie.Need-returns-in-Done
 returns-2 c =
-    let n = count c.before.before.before.before.before.before in
-    let t = (told c.before.before.before.before.before.before.before.before.before.before).1 in (
+    let n = count c.before.before.before.before.before in
+    let t = (told c.before.before.before.before.before.before.before).1 in (
       n,
-      c.before.before.fill-list.ensures
+      c.fill_list.ensures
           ∙ ap (λ (z : List Mark). put_all z (replicate 1024 0))
-          (ap (marks_in c.before.before.before.before.before.before.before.before.before.before.take-marks.new.1.1.1.1.1.1.0) n ∙ t.back),
+          (ap (marks_in c.take_marks.new.1.1.1.1.1.1.0) n ∙ t.back),
     )
 
 pub fill_root_spec : {M : Type 1} → statement M

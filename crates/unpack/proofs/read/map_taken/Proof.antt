@@ -18,67 +18,67 @@ use Rattle.pack.proofs.Writing.{few_of, count_units}
 use Rattle.unpack.proofs.read.map_taken.Statement.{statement}
 use Rattle.unpack.proofs.read.map_taken.Tie as tie
 
-abbrev invariant-loop : tie.invariant-loop
+abbrev invariant-loop : tie.invariant-loop-i
 invariant-loop w h src from to count list₀ used₀ i₀ list used i = (i ≤ count) × (length list ≡ 85) × At (w / 4) (h / 4) src from to i used
 
-abbrev decreases-loop : tie.decreases-loop
+abbrev decreases-loop : tie.decreases-loop-i
 decreases-loop w h src from to count list₀ used₀ i₀ list used i = count - i
 
 -- the number of roots, in samples and in units
-all : (c : tie.After-root-count invariant-loop decreases-loop) → c.root-count.result ≡ roots (c.before.before.args.w / 4) (c.before.before.args.h / 4)
-all c = count_units _ _ _ c.before.before.requires.0 c.root-count.ensures
+all : (c : tie.After-root_count-count invariant-loop decreases-loop) → c.root_count-count.result ≡ roots (c.args.w / 4) (c.args.h / 4)
+all c = count_units _ _ _ c.requires.0 c.root_count-count.ensures
 
-all_samples : (c : tie.After-root-count invariant-loop decreases-loop) → c.root-count.result ≡ root_count c.before.before.args.w c.before.before.args.h
-all_samples c = roots_told _ _ _ c.before.before.requires.0 c.root-count.ensures
+all_samples : (c : tie.After-root_count-count invariant-loop decreases-loop) → c.root_count-count.result ≡ root_count c.args.w c.args.h
+all_samples c = roots_told _ _ _ c.requires.0 c.root_count-count.ensures
 
-inside : (c : tie.In-loop invariant-loop decreases-loop) → c.before.loop.i < root_count c.before.before.before.before.args.w c.before.before.before.before.args.h
-inside c = omega (arith, c.loop-test.true, all_samples c.before.before)
+inside : (c : tie.In-loop-i invariant-loop decreases-loop) → c.loop-i.i < root_count c.args.w c.args.h
+inside c = omega (arith, c.loop-i-test.true, all_samples c.before.before)
 
-inside_units : (c : tie.In-loop invariant-loop decreases-loop) → c.before.loop.i < roots (c.before.before.before.before.args.w / 4) (c.before.before.before.before.args.h / 4)
-inside_units c = omega (arith, c.loop-test.true, all c.before.before)
+inside_units : (c : tie.In-loop-i invariant-loop decreases-loop) → c.loop-i.i < roots (c.args.w / 4) (c.args.h / 4)
+inside_units c = omega (arith, c.loop-i-test.true, all c.before.before)
 
 -- root i, by the bits that are left
-abbrev here : tie.At-loop invariant-loop decreases-loop → Descent
-here c = let a = c.before.before.before.args in root_from (a.w / 4) (a.h / 4) a.src.now a.from a.to c.loop.i c.loop.used
+abbrev here : tie.At-loop-i invariant-loop decreases-loop → Descent
+here c = let a = c.args in root_from (a.w / 4) (a.h / 4) a.src.now a.from a.to c.loop-i.i c.loop-i.used
 
-told : (c : tie.After-take-marks invariant-loop decreases-loop) → c.take-marks.result ≡ counted (length (here c.before.before.before).marks) (here c.before.before.before).walk.answer
-told c = (take_told _ c.take-marks.result _ c.before.before.before.before.before.before.requires.0
-    c.before.before.before.loop.invariant.1 (inside c.before.before) c.take-marks.ensures).0
+told : (c : tie.After-take_marks invariant-loop decreases-loop) → c.take_marks.result ≡ counted (length (here c.before.before.before).marks) (here c.before.before.before).walk.answer
+told c = (take_told _ c.take_marks.result _ c.requires.0
+    c.loop-i.invariant.1 (inside c.before.before) c.take_marks.ensures).0
 
-returns : tie.Need-returns invariant-loop decreases-loop
+returns : tie.Need-returns-in-Refused invariant-loop decreases-loop
 returns c =
     ap (counted _)
-    (sym (at_stop _ _ _ _ _ c.before.before.before.before.before.before.before.loop.invariant.2 _ _ (inside_units c.before.before.before.before.before.before)
-    (counted_refused _ _ _ (sym c.before.r.given.1 ∙ told c.before.before.before.before))))
+    (sym (at_stop _ _ _ _ _ c.loop-i.invariant.2 _ _ (inside_units c.before.before.before.before)
+    (counted_refused _ _ _ (sym c.in-Refused.is ∙ told c.before.before))))
 
-next : (c : tie.After-n invariant-loop decreases-loop) → let a = c.before.before.before.before.before.before.before.before.before.args in
-    At (a.w / 4) (a.h / 4) a.src.now a.from a.to (c.before.before.before.before.before.before.loop.i + 1)
-    (c.before.before.before.before.before.before.loop.used + c.n.given.0.0)
+next : (c : tie.In-Done-2 invariant-loop decreases-loop) → let a = c.args in
+    At (a.w / 4) (a.h / 4) a.src.now a.from a.to (c.loop-i.i + 1)
+    (c.loop-i.used + c.in-Done.n)
 next c =
-    let k = counted_done _ _ (here c.before.before.before.before.before.before).walk.answer (sym c.n.given.1 ∙ told c.before.before.before) in
-    at_more _ _ _ _ _ c.before.before.before.before.before.before.loop.invariant.2 k.0 _ k.1
+    let k = counted_done _ _ (here c.before.before.before.before.before).walk.answer (sym c.in-Done.is ∙ told c.before.before) in
+    at_more _ _ _ _ _ c.loop-i.invariant.2 k.0 _ k.1
 
-add_used : tie.Need-overflow-add-used invariant-loop decreases-loop
+add_used : tie.Need-overflow_add-used invariant-loop decreases-loop
 add_used c = omega (
   arith,
   at_few _ _ _ _ _ (next c.before),
-  inside c.before.before.before.before.before.before,
-  few_of _ _ c.before.before.before.before.before.before.before.before.before.before.requires.0,
+  inside c.before.before.before.before,
+  few_of _ _ c.requires.0,
 )
 
-loop_again : tie.Need-loop-preserved invariant-loop decreases-loop
+loop_again : tie.Need-loop-i-preserved invariant-loop decreases-loop
 loop_again c = (
-  omega (arith, c.before.before.before.before.before.before.loop-test.true),
-  c.before.before.before.before.take-marks.auto.1.1.1.1.1.1.0
-      ∙ c.before.before.before.before.before.before.before.loop.invariant.1,
+  omega (arith, c.loop-i-test.true),
+  c.take_marks.auto.out
+      ∙ c.loop-i.invariant.1,
   next c.before,
 )
 
-returns-2 : tie.Need-returns-2 invariant-loop decreases-loop
+returns-2 : tie.Need-returns invariant-loop decreases-loop
 returns-2 c =
-    let a = c.before.before.before.before.args in
-    let v = c.before.loop.invariant in
-    let e = le_antisymm v.0 c.loop-test.false ∙ all c.before.before in
+    let a = c.args in
+    let v = c.loop-i.invariant in
+    let e = le_antisymm v.0 c.loop-i-test.false ∙ all c.before.before in
     let u : ℕ → Descent = λ n. upto (a.w / 4) (a.h / 4) (bits (a.w / 4) (a.h / 4) a.src.now a.from a.to) n in
     sym (ap₂ counted (sym (v.2.count ∙ ap (λ (n : ℕ). length (u n).marks) e)) (ap (λ (n : ℕ). (u n).walk.answer) (sym e) ∙ v.2.done))
 
@@ -90,7 +90,7 @@ map_taken_spec =
     decreases-loop
     (λ c κs. search rules)
     (λ c. (zero-le, refl, at_none _ _ _ _ _))
-    (λ c. omega (arith, at_few _ _ _ _ _ c.before.loop.invariant.2, inside c, few_of _ _ c.before.before.before.before.requires.0, c.before.before.before.before.requires))
+    (λ c. omega (arith, at_few _ _ _ _ _ c.loop-i.invariant.2, inside c, few_of _ _ c.requires.0, c.requires))
     (λ c. search rules)
     (λ c κs. search rules)
     (λ c. search rules)

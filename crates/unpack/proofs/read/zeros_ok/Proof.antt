@@ -9,30 +9,30 @@ use Rattle.unpack.proofs.Zeros.{is_zero, zeros_none, zeros_on, zeros_no, zeros_a
 use Rattle.unpack.proofs.read.zeros_ok.Statement.{statement}
 use Rattle.unpack.proofs.read.zeros_ok.Tie as tie
 
-abbrev invariant-loop : tie.invariant-loop
+abbrev invariant-loop : tie.invariant-loop-at
 invariant-loop src from to at₀ at = (from ≤ at) × (at - from ≤ to - from) × (all_below (is_zero src from) (at - from) ≡ true)
 
-abbrev decreases-loop : tie.decreases-loop
+abbrev decreases-loop : tie.decreases-loop-at
 decreases-loop src from to at₀ at = to - at
 
-loop_holds : tie.Need-loop-init invariant-loop decreases-loop
+loop_holds : tie.Need-loop-at-init invariant-loop decreases-loop
 loop_holds c = (omega arith, omega arith, zeros_none _ _)
 
-returns : tie.Need-returns invariant-loop decreases-loop
-returns c = zeros_no _ _ _ c.before.before.before.loop.invariant.0 _ c.before.before.loop-test.true (λ e. c.if1.true (c.before.get-bit.ensures ∙ e))
+returns : tie.Need-returns-then-get_bit-ne0 invariant-loop decreases-loop
+returns c = zeros_no _ _ _ c.loop-at.invariant.0 _ c.loop-at-test.true (λ e. c.if-get_bit-ne0.true (c.get_bit.ensures ∙ e))
 
-loop_again : tie.Need-loop-preserved invariant-loop decreases-loop
+loop_again : tie.Need-loop-at-preserved invariant-loop decreases-loop
 loop_again c =
-    let v = c.before.before.before.loop.invariant in
-    let l = c.before.before.loop-test.true in
-    (omega (arith, v.0), omega (arith, v.0, l), zeros_on _ _ _ v.0 v.2 (sym c.before.get-bit.ensures ∙ c.if1.false))
+    let v = c.loop-at.invariant in
+    let l = c.loop-at-test.true in
+    (omega (arith, v.0), omega (arith, v.0, l), zeros_on _ _ _ v.0 v.2 (sym c.get_bit.ensures ∙ c.if-get_bit-ne0.false))
 
-returns-2 : tie.Need-returns-2 invariant-loop decreases-loop
+returns-2 : tie.Need-returns invariant-loop decreases-loop
 returns-2 c =
-    let a = c.before.before.before.args in
-    let v = c.before.loop.invariant in
-    let e : c.before.loop.at - a.from ≡ a.to - a.from = omega (arith, v.0, v.1, c.loop-test.false) in
-    zeros_all _ a.from c.before.loop.at a.to e v.2
+    let a = c.args in
+    let v = c.loop-at.invariant in
+    let e : c.loop-at.at - a.from ≡ a.to - a.from = omega (arith, v.0, v.1, c.loop-at-test.false) in
+    zeros_all _ a.from c.loop-at.at a.to e v.2
 
 pub zeros_ok_spec : {M : Type 1} → statement M
 zeros_ok_spec =

@@ -10,20 +10,19 @@ use Rattle.ward.proofs.Turn.after.Statement.{statement}
 use Rattle.ward.proofs.Turn.after.Tie as tie
 
 -- how many rows there are
-rows : (c : tie.After-across-run) → let s = c.before.before.before in c.across-run.result ≡ rows_of s.args.self.run s.args.c s.args.self.plane
-rows c = c.across-run.ensures ∙ ap (across c.before.before.before.args.self.run) c.before.in_plane_lem.ensures
+rows : (c : tie.After-across_run-rows) → c.across_run-rows.result ≡ rows_of c.args.self.run c.args.c c.args.self.plane
+rows c = c.across_run-rows.ensures ∙ ap (across c.args.self.run) c.in_plane.ensures
 
-add_if1 : tie.Need-overflow-add-if1
+add_if1 : tie.Need-overflow_add-row
 add_if1 c =
-    let s = c.before.before.before in
-    let n = s.args.c.bottom - s.args.c.top in
-    omega (arith, s.requires.1, across_small s.args.self.run (in_plane s.args.self.plane n), part_small s.args.self.plane n)
+    let n = c.args.c.bottom - c.args.c.top in
+    omega (arith, c.requires.1, across_small c.args.self.run (in_plane c.args.self.plane n), part_small c.args.self.plane n)
 
-returns : tie.Need-returns
-returns c = same_plane c.before.before.before.before.args.c c.before.before.before.before.args.self _ (rows c.before) c.if1.true
+returns : tie.Need-returns-then-row-rows
+returns c = same_plane c.args.c c.args.self _ (rows c.before) c.if-row-rows.true
 
-returns-2 : tie.Need-returns-2
-returns-2 c = next_plane c.before.before.before.before.args.c c.before.before.before.before.args.self _ (rows c.before) c.if1.false
+returns-2 : tie.Need-returns
+returns-2 c = next_plane c.args.c c.args.self _ (rows c.before) c.if-row-rows.false
 
 pub after_spec : {M : Type 1} → statement M
 after_spec =

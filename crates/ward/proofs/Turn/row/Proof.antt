@@ -26,17 +26,17 @@ input s =
       out = a.out.now;
     }
 
-abbrev start : tie.After-enum-told → tie.Start
-start c = c.before.before.before.before.before.before.before
+abbrev start : tie.In-Done → tie.Start
+start c = c.before.before.before.before.before.before
 
 -- ---- where the checks found nothing
 
 AskedOf : Input → Type 0
 AskedOf i = Asked i.turn i.plane i.row i.format i.w i.h (length i.y) (length i.u) (length i.v) i.window (length i.out)
 
-asked : (c : tie.After-enum-told) → AskedOf (input (start c))
+asked : (c : tie.In-Done) → AskedOf (input (start c))
 unfolding AskedOf
-asked c = all_passed (input (start c)) _ c.before.before.checked-row.ensures c.enum_told.given.1
+asked c = all_passed (input (start c)) _ c.checked_row-found.ensures c.in-Done.is
 
 -- the turn's plane is the one that is asked for
 same : (i : Input) → AskedOf i → i.turn.plane ≡ i.plane
@@ -46,54 +46,54 @@ same i a = same_turn _ _ _ _ _ _ _ _ _ _ _ a
 given_requires : tie.Need-given-requires
 unfolding AskedOf
 given_requires c κs =
-    let i = input c.before.before.before.before.before.before.before.before.before in
+    let i = input c.before.before.before.before.before.before.before.before in
     let a = asked c.before.before in
     fits i.turn i.plane i.row i.format i.w i.h (length i.y) (length i.u) (length i.v) i.window (length i.out) a _
-    (long_0 i.turn i.plane i.row i.format i.w i.h (length i.y) (length i.u) (length i.v) i.window (length i.out) a (same i a ∙ c.before.match2.keys1))
+    (long_0 i.turn i.plane i.row i.format i.w i.h (length i.y) (length i.u) (length i.v) i.window (length i.out) a (same i a ∙ c.in-0.is))
 
-given_requires_2 : tie.Need-given-requires-2
+given_requires_2 : tie.Need-given-requires-in-1
 unfolding AskedOf
 given_requires_2 c κs =
-    let i = input c.before.before.before.before.before.before.before.before.before in
+    let i = input c.before.before.before.before.before.before.before.before in
     let a = asked c.before.before in
     fits i.turn i.plane i.row i.format i.w i.h (length i.y) (length i.u) (length i.v) i.window (length i.out) a _
-    (long_1 i.turn i.plane i.row i.format i.w i.h (length i.y) (length i.u) (length i.v) i.window (length i.out) a (same i a ∙ c.before.match2.keys2))
+    (long_1 i.turn i.plane i.row i.format i.w i.h (length i.y) (length i.u) (length i.v) i.window (length i.out) a (same i a ∙ c.in-1.is))
 
-given_requires_3 : tie.Need-given-requires-3
+given_requires_3 : tie.Need-given-requires-in_default
 unfolding AskedOf
 given_requires_3 c κs =
-    let i = input c.before.before.before.before.before.before.before.before.before in
+    let i = input c.before.before.before.before.before.before.before.before in
     let a = asked c.before.before in
-    let r = c.before.match2.rest in
+    let r = c.in-0.rest in
     fits i.turn i.plane i.row i.format i.w i.h (length i.y) (length i.u) (length i.v) i.window (length i.out) a _
     (long_2 i.turn i.plane i.row i.format i.w i.h (length i.y) (length i.u) (length i.v) i.window (length i.out) a
     (λ e. r.0.1 (sym (same i a) ∙ e)) (λ e. r.1 (sym (same i a) ∙ e)))
 
 -- ---- the outcome
 
-returns : tie.Need-returns
-returns c = row_refused (input c.before.before.before.before.before.before.before.before) _ c.before.before.before.checked-row.ensures _ c.before.found.given.1
+returns : tie.Need-returns-in-Refused
+returns c = row_refused (input c.before.before.before.before.before.before) _ c.checked_row-found.ensures _ c.in-Refused.is
 
-returns-2 : tie.Need-returns-2
+returns-2 : tie.Need-returns-in-0
 returns-2 c =
-    let i = input c.before.before.before.before.before.before.before.before.before.before.before.before in
-    row_given i _ c.before.before.before.before.before.before.before.checked-row.ensures c.before.before.before.before.before.enum_told.given.1 _
-    (lent_0 i.y i.u i.v i.turn.plane (same i (asked c.before.before.before.before.before) ∙ c.before.before.before.before.match2.keys1)) _ c.before.before.given.ensures
+    let i = input c.before.before.before.before.before.before.before.before.before.before.before in
+    row_given i _ c.checked_row-found.ensures c.in-Done.is _
+    (lent_0 i.y i.u i.v i.turn.plane (same i (asked c.before.before.before.before.before) ∙ c.in-0.is)) _ c.given.ensures
 
-returns-3 : tie.Need-returns-3
+returns-3 : tie.Need-returns-in-1
 returns-3 c =
-    let i = input c.before.before.before.before.before.before.before.before.before.before.before.before in
-    row_given i _ c.before.before.before.before.before.before.before.checked-row.ensures c.before.before.before.before.before.enum_told.given.1 _
-    (lent_1 i.y i.u i.v i.turn.plane (same i (asked c.before.before.before.before.before) ∙ c.before.before.before.before.match2.keys2)) _
-    c.before.before.given2.ensures
+    let i = input c.before.before.before.before.before.before.before.before.before.before.before in
+    row_given i _ c.checked_row-found.ensures c.in-Done.is _
+    (lent_1 i.y i.u i.v i.turn.plane (same i (asked c.before.before.before.before.before) ∙ c.in-1.is)) _
+    c.given-in-1.ensures
 
-returns-4 : tie.Need-returns-4
+returns-4 : tie.Need-returns-in_default
 returns-4 c =
-    let i = input c.before.before.before.before.before.before.before.before.before.before.before.before in
+    let i = input c.before.before.before.before.before.before.before.before.before.before.before in
     let s = same i (asked c.before.before.before.before.before) in
-    let r = c.before.before.before.before.match2.rest in
-    row_given i _ c.before.before.before.before.before.before.before.checked-row.ensures c.before.before.before.before.before.enum_told.given.1 _
-    (lent_2 i.y i.u i.v i.turn.plane (λ e. r.0.1 (sym s ∙ e)) (λ e. r.1 (sym s ∙ e))) _ c.before.before.given3.ensures
+    let r = c.in-0.rest in
+    row_given i _ c.checked_row-found.ensures c.in-Done.is _
+    (lent_2 i.y i.u i.v i.turn.plane (λ e. r.0.1 (sym s ∙ e)) (λ e. r.1 (sym s ∙ e))) _ c.given-in_default.ensures
 
 pub row_spec : {M : Type 1} → statement M
 row_spec =

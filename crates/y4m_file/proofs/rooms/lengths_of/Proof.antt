@@ -12,12 +12,12 @@ lengths_of_spec =
     (λ c. (omega arith, omega arith, omega arith))
     (λ c κs. search rules)
     (λ c. (omega arith, omega arith, omega arith))
-    (λ c. let a = c.before.before.args in omega (arith, area a.w a.h (omega arith) (omega arith)))
-    (λ c. let a = c.before.before.args in omega (arith, quarter a.w a.h (omega arith) (omega arith)))
-    (λ c. let a = c.before.before.args in omega (arith, area a.w a.h (omega arith) (omega arith)))
-    (λ c. let a = c.before.before.args in omega (arith, area a.w a.h (omega arith) (omega arith)))
-    (λ c. let a = c.before.before.args in omega (arith, quarter a.w a.h (omega arith) (omega arith)))
-    (λ c. let a = c.before.before.args in
+    (λ c. let a = c.args in omega (arith, area a.w a.h (omega arith) (omega arith)))
+    (λ c. let a = c.args in omega (arith, quarter a.w a.h (omega arith) (omega arith)))
+    (λ c. let a = c.args in omega (arith, area a.w a.h (omega arith) (omega arith)))
+    (λ c. let a = c.args in omega (arith, area a.w a.h (omega arith) (omega arith)))
+    (λ c. let a = c.args in omega (arith, quarter a.w a.h (omega arith) (omega arith)))
+    (λ c. let a = c.args in
     omega (arith, area a.w a.h (omega arith) (omega arith), quarter a.w a.h (omega arith) (omega arith)))
-    (λ c. let a = c.before.before.args in
+    (λ c. let a = c.args in
     (area a.w a.h (omega arith) (omega arith), quarter a.w a.h (omega arith) (omega arith), omega arith)))

@@ -11,38 +11,38 @@ use Rattle.y4m_rules.proofs.Runs.{match_none, match_out, match_other, match_on}
 use Rattle.y4m_frame.proofs.bytes.agree.Statement.{statement}
 use Rattle.y4m_frame.proofs.bytes.agree.Tie as tie
 
-abbrev invariant-loop : tie.invariant-loop
+abbrev invariant-loop : tie.invariant-loop-i
 invariant-loop s at key short i₀ i = matches short key (drop at s) ≡ matches short (drop i key) (drop (at + i) s)
 
-abbrev decreases-loop : tie.decreases-loop
+abbrev decreases-loop : tie.decreases-loop-i
 decreases-loop s at key short i₀ i = length key - i
 
-loop_holds : tie.Need-loop-init invariant-loop decreases-loop
+loop_holds : tie.Need-loop-i-init invariant-loop decreases-loop
 loop_holds c = let a = c.args in ap (λ (k : ℕ). matches a.short a.key.now (drop k a.s.now)) (sym (add-zero a.at))
 
-returns : tie.Need-returns invariant-loop decreases-loop
-returns c = let l = c.before.before.loop in
-    let a = c.before.before.before.args in sym (l.invariant ∙ match_out a.short a.key.now a.s.now l.i (a.at + l.i) (omega arith) (omega arith))
+returns : tie.Need-returns-then-s-at invariant-loop decreases-loop
+returns c = let l = c.loop-i in
+    let a = c.args in sym (l.invariant ∙ match_out a.short a.key.now a.s.now l.i (a.at + l.i) (omega arith) (omega arith))
 
-returns-2 : tie.Need-returns-2 invariant-loop decreases-loop
-returns-2 c = let l = c.before.before.before.loop in
-    let a = c.before.before.before.before.args in sym (l.invariant ∙ match_out a.short a.key.now a.s.now l.i (a.at + l.i) (omega arith) (omega arith))
+returns-2 : tie.Need-returns-then-s-at-2 invariant-loop decreases-loop
+returns-2 c = let l = c.loop-i in
+    let a = c.args in sym (l.invariant ∙ match_out a.short a.key.now a.s.now l.i (a.at + l.i) (omega arith) (omega arith))
 
-returns-3 : tie.Need-returns-3 invariant-loop decreases-loop
-returns-3 c = let l = c.before.before.before.before.before.before.loop in
-    let a = c.before.before.before.before.before.before.before.args in
-    sym (l.invariant ∙ match_other a.short a.key.now a.s.now l.i (a.at + l.i) (omega arith) (omega arith) c.if3.true)
+returns-3 : tie.Need-returns-then-key-i invariant-loop decreases-loop
+returns-3 c = let l = c.loop-i in
+    let a = c.args in
+    sym (l.invariant ∙ match_other a.short a.key.now a.s.now l.i (a.at + l.i) (omega arith) (omega arith) c.if-key-i.true)
 
-loop_again : tie.Need-loop-preserved invariant-loop decreases-loop
+loop_again : tie.Need-loop-i-preserved invariant-loop decreases-loop
 loop_again c =
-    let l = c.before.before.before.before.before.before.loop in
-    let a = c.before.before.before.before.before.before.before.args in
+    let l = c.loop-i in
+    let a = c.args in
     let e : a.at + l.i + 1 ≡ a.at + (l.i + 1) = omega arith in
-    l.invariant ∙ match_on a.short a.key.now a.s.now l.i (a.at + l.i) (omega arith) (omega arith) c.if3.false
+    l.invariant ∙ match_on a.short a.key.now a.s.now l.i (a.at + l.i) (omega arith) (omega arith) c.if-key-i.false
     ∙ ap (λ (k : ℕ). matches a.short (drop (l.i + 1) a.key.now) (drop k a.s.now)) e
 
-returns-4 : tie.Need-returns-4 invariant-loop decreases-loop
-returns-4 c = let l = c.before.loop in let a = c.before.before.args in sym (l.invariant ∙ match_none a.short a.key.now a.s.now l.i (a.at + l.i) (omega arith))
+returns-4 : tie.Need-returns invariant-loop decreases-loop
+returns-4 c = let l = c.loop-i in let a = c.args in sym (l.invariant ∙ match_none a.short a.key.now a.s.now l.i (a.at + l.i) (omega arith))
 
 pub agree_spec : {M : Type 1} → statement M
 agree_spec =

@@ -21,16 +21,16 @@ module _ (s : List ℕ) (at : ℕ) (t : Bool) (e : t ≡ matches false frame_spa
   unfolding line_place
   without q = rw (sym e ∙ q)
 
-add_result : tie.Need-overflow-add-result
+add_result : tie.Need-overflow_add-result
 add_result c =
-    let a = c.before.before.before.before.args in
-    omega (arith, match_fits frame_space (drop a.at a.s.now) (sym c.before.agree.ensures ∙ c.if1.true), length-drop a.at a.s.now)
+    let a = c.args in
+    omega (arith, match_fits frame_space (drop a.at a.s.now) (sym c.agree.ensures ∙ c.if-agree.true), length-drop a.at a.s.now)
 
-returns : tie.Need-returns
-returns c = with_space _ _ _ c.before.agree.ensures c.if1.true
+returns : tie.Need-returns-then-agree
+returns c = with_space _ _ _ c.agree.ensures c.if-agree.true
 
-returns-2 : tie.Need-returns-2
-returns-2 c = without _ _ _ c.before.agree.ensures c.if1.false
+returns-2 : tie.Need-returns
+returns-2 c = without _ _ _ c.agree.ensures c.if-agree.false
 
 pub line_place_spec : {M : Type 1} → statement M
 line_place_spec = tie.close (tie.spec (λ c. search rules) (λ c κs. search rules) add_result returns returns-2)

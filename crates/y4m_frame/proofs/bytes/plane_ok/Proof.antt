@@ -13,21 +13,21 @@ use Rattle.y4m_rules.proofs.Runs.{scan_plane}
 use Rattle.y4m_frame.proofs.bytes.plane_ok.Statement.{statement}
 use Rattle.y4m_frame.proofs.bytes.plane_ok.Tie as tie
 
-abbrev invariant-loop : tie.invariant-loop
+abbrev invariant-loop : tie.invariant-loop-i
 invariant-loop s from n all₀ i₀ all i = (i ≤ n) × (sample_ok all ≡ all_below (λ (k : ℕ). sample_ok (sample_at s (from + 2 * k))) i)
 
-abbrev decreases-loop : tie.decreases-loop
+abbrev decreases-loop : tie.decreases-loop-i
 decreases-loop s from n all₀ i₀ all i = n - i
 
-loop_again : tie.Need-loop-preserved invariant-loop decreases-loop
+loop_again : tie.Need-loop-i-preserved invariant-loop decreases-loop
 loop_again c =
-    let h = c.before.before.before.before.loop in
-    (search rules, joined h.all _ ∙ rw (h.invariant.1, c.sample.ensures) (sym (scan_step _ _)))
+    let h = c.loop-i in
+    (search rules, joined h.all _ ∙ rw (h.invariant.1, c.sample-all.ensures) (sym (scan_step _ _)))
 
 returns : tie.Need-returns invariant-loop decreases-loop
 returns c =
-    let h = c.before.loop in
-    let a = c.before.before.before.args in
+    let h = c.loop-i in
+    let a = c.args in
     let e : h.i ≡ a.n = omega arith in
     h.invariant.1 ∙ ap (all_below (λ (k : ℕ). sample_ok (sample_at a.s.now (a.from + 2 * k)))) e ∙ scan_plane a.s.now a.from a.n
 

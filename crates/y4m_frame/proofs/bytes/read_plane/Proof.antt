@@ -9,20 +9,20 @@ use Rattle.y4m_rules.specs.Frames.{sample_at}
 use Rattle.y4m_frame.proofs.bytes.read_plane.Statement.{statement}
 use Rattle.y4m_frame.proofs.bytes.read_plane.Tie as tie
 
-abbrev invariant-loop : tie.invariant-loop
+abbrev invariant-loop : tie.invariant-loop-i
 invariant-loop s from plane₀ i₀ plane i = Upto 0 (λ (k : ℕ). sample_at s (from + 2 * k)) plane₀ plane i
 
-abbrev decreases-loop : tie.decreases-loop
+abbrev decreases-loop : tie.decreases-loop-i
 decreases-loop s from plane₀ i₀ plane i = length plane₀ - i
 
-loop_holds : tie.Need-loop-init invariant-loop decreases-loop
+loop_holds : tie.Need-loop-i-init invariant-loop decreases-loop
 loop_holds c = upto_none _ _ _
 
-loop_again : tie.Need-loop-preserved invariant-loop decreases-loop
-loop_again c = let l = c.before.before.before.before.loop in upto_more 0 _ _ _ l.i _ (omega arith) c.sample.ensures l.invariant
+loop_again : tie.Need-loop-i-preserved invariant-loop decreases-loop
+loop_again c = let l = c.loop-i in upto_more 0 _ _ _ l.i _ (omega arith) c.sample.ensures l.invariant
 
 returns : tie.Need-returns invariant-loop decreases-loop
-returns c = let l = c.before.loop in upto_all 0 _ _ _ l.i (omega arith) l.invariant
+returns c = let l = c.loop-i in upto_all 0 _ _ _ l.i (omega arith) l.invariant
 
 pub read_plane_spec : {M : Type 1} → statement M
 read_plane_spec =
@@ -44,5 +44,5 @@ read_plane_spec =
     (λ c. search rules)
     (λ c. search rules)
     loop_again
-    (λ c. c.before.loop.invariant.long)
+    (λ c. c.loop-i.invariant.long)
     returns)

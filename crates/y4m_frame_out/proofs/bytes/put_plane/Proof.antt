@@ -12,26 +12,26 @@ use Rattle.y4m_rules.proofs.Runs.{put_start, put_sample}
 use Rattle.y4m_frame_out.proofs.bytes.put_plane.Statement.{statement}
 use Rattle.y4m_frame_out.proofs.bytes.put_plane.Tie as tie
 
-abbrev invariant-loop : tie.invariant-loop
+abbrev invariant-loop : tie.invariant-loop-i
 invariant-loop out₀ at plane i₀ out i = (i ≤ length plane) × (length out ≡ length out₀) × Put (bytes_of (take i plane)) out₀ at out (at + 2 * i)
 
-abbrev decreases-loop : tie.decreases-loop
+abbrev decreases-loop : tie.decreases-loop-i
 decreases-loop out₀ at plane i₀ out i = length plane - i
 
-loop_holds : tie.Need-loop-init invariant-loop decreases-loop
+loop_holds : tie.Need-loop-i-init invariant-loop decreases-loop
 loop_holds c = (omega arith, refl, put_start c.args.plane.now _ _)
 
 -- a sample of 16 bits has a high byte
-cast_out_2 : tie.Need-overflow-cast-out-2 invariant-loop decreases-loop
-cast_out_2 c = omega (arith, c.shared-slice-known2.given c.before.before.before.loop.i)
+cast_out_2 : tie.Need-overflow_cast-out-in-loop-i invariant-loop decreases-loop
+cast_out_2 c = omega (arith, c.shared_slice_known-in-loop-i-1.given c.loop-i.i)
 
-loop_again : tie.Need-loop-preserved invariant-loop decreases-loop
+loop_again : tie.Need-loop-i-preserved invariant-loop decreases-loop
 loop_again c =
-    let l = c.before.before.before.loop in
+    let l = c.loop-i in
     (omega arith, simp length-set l.invariant.1, put_sample _ _ _ _ l.i (omega arith) l.invariant.2)
 
 returns : tie.Need-returns invariant-loop decreases-loop
-returns c = let l = c.before.loop in put_as (ap bytes_of (take_all l.i _ (omega arith))) l.invariant.2
+returns c = let l = c.loop-i in put_as (ap bytes_of (take_all l.i _ (omega arith))) l.invariant.2
 
 pub put_plane_spec : {M : Type 1} → statement M
 put_plane_spec =
@@ -58,5 +58,5 @@ put_plane_spec =
     loop_again
     (λ c. search rules)
     (λ c. search rules)
-    (λ c. c.before.loop.invariant.1)
+    (λ c. c.loop-i.invariant.1)
     returns)

@@ -12,25 +12,25 @@ use Rattle.sheet_lines.specs.Lines.{between}
 use Rattle.y4m_header.proofs.numbers.all_digits.Statement.{statement}
 use Rattle.y4m_header.proofs.numbers.all_digits.Tie as tie
 
-abbrev invariant-loop : tie.invariant-loop
+abbrev invariant-loop : tie.invariant-loop-i
 invariant-loop text i₀ i = (i ≤ length text) × (all_below (λ (k : ℕ). between 48 57 (get_or text k 0)) i ≡ true)
 
-abbrev decreases-loop : tie.decreases-loop
+abbrev decreases-loop : tie.decreases-loop-i
 decreases-loop text i₀ i = length text - i
 
-loop_holds : tie.Need-loop-init invariant-loop decreases-loop
+loop_holds : tie.Need-loop-i-init invariant-loop decreases-loop
 loop_holds c = (omega arith, scan_none _)
 
-returns : tie.Need-returns invariant-loop decreases-loop
-returns c = sym (scan_stop _ _ c.before.before.before.loop.i (omega arith) (not-true _ c.if1.true))
+returns : tie.Need-returns-then-not-b invariant-loop decreases-loop
+returns c = sym (scan_stop _ _ c.loop-i.i (omega arith) c.if-not-b.true)
 
-loop_again : tie.Need-loop-preserved invariant-loop decreases-loop
-loop_again c = let l = c.before.before.before.loop in (omega arith, scan_more _ l.i l.invariant.1 (not-false _ c.if1.false))
+loop_again : tie.Need-loop-i-preserved invariant-loop decreases-loop
+loop_again c = let l = c.loop-i in (omega arith, scan_more _ l.i l.invariant.1 c.if-not-b.false)
 
-returns-2 : tie.Need-returns-2 invariant-loop decreases-loop
+returns-2 : tie.Need-returns invariant-loop decreases-loop
 returns-2 c =
-    let l = c.before.loop in
-    let e : l.i ≡ length c.before.before.args.text.now = omega arith in
+    let l = c.loop-i in
+    let e : l.i ≡ length c.args.text.now = omega arith in
     sym (ap (all_below _) (sym e) ∙ l.invariant.1)
 
 pub all_digits_spec : {M : Type 1} → statement M

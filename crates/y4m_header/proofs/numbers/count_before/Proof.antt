@@ -9,28 +9,28 @@ use Rattle.y4m_rules.proofs.Reading.{before_stop, before_on, before_end}
 use Rattle.y4m_header.proofs.numbers.count_before.Statement.{statement}
 use Rattle.y4m_header.proofs.numbers.count_before.Tie as tie
 
-abbrev invariant-loop : tie.invariant-loop
+abbrev invariant-loop : tie.invariant-loop-i
 invariant-loop s at p q i₀ i = (at ≤ i) × (length (before p q (drop at s)) ≡ (i - at) + length (before p q (drop i s)))
 
-abbrev decreases-loop : tie.decreases-loop
+abbrev decreases-loop : tie.decreases-loop-i
 decreases-loop s at p q i₀ i = length s - i
 
-returns : tie.Need-returns invariant-loop decreases-loop
+returns : tie.Need-returns-then-b-p invariant-loop decreases-loop
 returns c =
-    let l = c.before.before.before.loop in
-    let a = c.before.before.before.before.args in
-    omega (arith, ap length (before_stop a.p a.q a.s.now l.i (omega arith) c.if1.true))
+    let l = c.loop-i in
+    let a = c.args in
+    omega (arith, ap length (before_stop a.p a.q a.s.now l.i (omega arith) c.if-b-p.true))
 
-loop_again : tie.Need-loop-preserved invariant-loop decreases-loop
+loop_again : tie.Need-loop-i-preserved invariant-loop decreases-loop
 loop_again c =
-    let l = c.before.before.before.loop in
-    let a = c.before.before.before.before.args in
-    (omega arith, omega (arith, ap length (before_on a.p a.q a.s.now l.i (omega arith) c.if1.false)))
+    let l = c.loop-i in
+    let a = c.args in
+    (omega arith, omega (arith, ap length (before_on a.p a.q a.s.now l.i (omega arith) c.if-b-p.false)))
 
-returns-2 : tie.Need-returns-2 invariant-loop decreases-loop
+returns-2 : tie.Need-returns invariant-loop decreases-loop
 returns-2 c =
-    let a = c.before.before.args in
-    omega (arith, ap length (before_end a.p a.q a.s.now c.before.loop.i (omega arith)))
+    let a = c.args in
+    omega (arith, ap length (before_end a.p a.q a.s.now c.loop-i.i (omega arith)))
 
 pub count_before_spec : {M : Type 1} → statement M
 count_before_spec =

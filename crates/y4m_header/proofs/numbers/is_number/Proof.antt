@@ -28,13 +28,13 @@ module _ (l : List ℕ) where
   unfolding is_number
   rest b e p q = rw (e, le-leb 1 (length l) p, le-leb (length l) 5 q)
 
-returns : tie.Need-returns
-returns c = no_digit _ c.if1.true
+returns : tie.Need-returns-then-n-lt1
+returns c = no_digit _ c.if-n-lt1.true
 
-returns-2 : tie.Need-returns-2
-returns-2 c = too_many _ c.if2.true
+returns-2 : tie.Need-returns-then-n-gt5
+returns-2 c = too_many _ c.if-n-gt5.true
 
-returns-3 : tie.Need-returns-3
+returns-3 : tie.Need-returns
 returns-3 c = rest _ _ c.all_digits.ensures (omega arith) (omega arith)
 
 pub is_number_spec : {M : Type 1} → statement M

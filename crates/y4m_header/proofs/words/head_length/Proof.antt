@@ -6,11 +6,11 @@ use Rattle.laws.specs.Index.{pick}
 use Rattle.y4m_header.proofs.words.head_length.Statement.{statement}
 use Rattle.y4m_header.proofs.words.head_length.Tie as tie
 
-returns : tie.Need-returns
-returns c = rw (lt-ltb _ _ c.if1.true)
+returns : tie.Need-returns-then-n-lt256
+returns c = rw (lt-ltb _ _ c.if-n-lt256.true)
 
-returns-2 : tie.Need-returns-2
-returns-2 c = rw (le-ltb _ _ c.if1.false)
+returns-2 : tie.Need-returns-else-n-lt256
+returns-2 c = rw (le-ltb _ _ c.if-n-lt256.false)
 
 pub head_length_spec : {M : Type 1} → statement M
 head_length_spec = tie.close (tie.spec returns returns-2)

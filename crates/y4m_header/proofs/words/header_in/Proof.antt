@@ -15,40 +15,39 @@ use Rattle.y4m_header.proofs.words.header_in.Statement.{statement}
 use Rattle.y4m_header.proofs.words.header_in.Tie as tie
 
 -- the bytes that are looked at are as many as they are to be
-head_long : (c : tie.After-head-length) → length (take c.head-length.result c.before.before.args.s.now) ≡ c.head-length.result
-head_long c = length-take-le _ _ (head_fits _ _ c.head-length.ensures).0
+head_long : (c : tie.After-head_length-n) → length (take c.head_length-n.result c.args.s.now) ≡ c.head_length-n.result
+head_long c = length-take-le _ _ (head_fits _ _ c.head_length-n.ensures).0
 
-slice_aggregate_head : tie.Need-slice-aggregate-head
-slice_aggregate_head c = sym (head_long c.before)
+slice_aggregate_head : tie.Need-slice_bounds-head-end
+slice_aggregate_head c = sym (head_long c)
 
-slice_aggregate_same : tie.Need-slice-aggregate-same
+slice_aggregate_same : tie.Need-slice_bounds-same-end
 slice_aggregate_same c = sym (length-take-le _ _
-    (omega (arith, c.before.count-before.ensures, before_short 32 10 (take c.before.before.before.head-length.result c.before.before.before.before.before.args.s.now))))
+    (omega (arith, c.count_before-first.ensures, before_short 32 10 (take c.head_length-n.result c.args.s.now))))
 
 -- the first word is what was compared
-first : (c : tie.After-same) → let head = take c.before.before.before.before.before.head-length.result
-    c.before.before.before.before.before.before.before.args.s.now in c.same.result ≡ same_line magic (word_of head)
+first : (c : tie.After-same) → let head = take c.head_length-n.result
+    c.args.s.now in c.same.result ≡ same_line magic (word_of head)
 first c =
-    let head = take c.before.before.before.before.before.head-length.result c.before.before.before.before.before.before.before.args.s.now in
-    c.same.ensures ∙ ap (same_line magic) (ap (λ (k : _). take k head) c.before.before.before.count-before.ensures ∙ before_take 32 10 head)
+    let head = take c.head_length-n.result c.args.s.now in
+    c.same.ensures ∙ ap (same_line magic) (ap (λ (k : _). take k head) c.count_before-first.ensures ∙ before_take 32 10 head)
 
-returns : tie.Need-returns
-returns c = no_magic _ _ (head_is _ _ c.before.before.before.before.before.before.head-length.ensures) (sym (first c.before) ∙ not-true _ c.if1.true)
+returns : tie.Need-returns-then-not-same
+returns c = no_magic _ _ (head_is _ _ c.head_length-n.ensures) (sym (first c.before) ∙ c.if-not-same.true)
 
-magic_there : (c : tie.Else1) → let head = take c.before.before.before.before.before.before.head-length.result
-    c.before.before.before.before.before.before.before.before.args.s.now in same_line magic (word_of head) ≡ true
-magic_there c = sym (first c.before) ∙ not-false _ c.if1.false
+magic_there : (c : tie.Else-not-same) → let head = take c.head_length-n.result
+    c.args.s.now in same_line magic (word_of head) ≡ true
+magic_there c = sym (first c.before) ∙ c.if-not-same.false
 
-words_in_requires : tie.Need-words-in-requires
+words_in_requires : tie.Need-words_in-requires
 words_in_requires c κs =
-    let h = c.before.before.before.before.before.before in
-    let head = take h.head-length.result c.before.before.before.before.before.before.before.before.args.s.now in
-    let l = head_long h in
-    let f = head_fits (length c.before.before.before.before.before.before.before.before.args.s.now) h.head-length.result h.head-length.ensures in
+    let head = take c.head_length-n.result c.args.s.now in
+    let l = head_long c.before.before.before.before.before in
+    let f = head_fits (length c.args.s.now) c.head_length-n.result c.head_length-n.ensures in
     (omega (arith, magic_long (word_of head) (magic_there c), before_short 32 10 head), omega (arith, f.1))
 
-returns-2 : tie.Need-returns-2
-returns-2 c = with_magic _ _ (head_is _ _ c.before.before.before.before.before.before.before.head-length.ensures) _ (magic_there c.before) c.words_in.ensures
+returns-2 : tie.Need-returns
+returns-2 c = with_magic _ _ (head_is _ _ c.head_length-n.ensures) _ (magic_there c.before) c.words_in.ensures
 
 pub header_in_spec : {M : Type 1} → statement M
 header_in_spec =

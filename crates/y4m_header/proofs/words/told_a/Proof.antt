@@ -8,18 +8,18 @@ use Rattle.y4m_header.proofs.Forms.{ratio_no, ratio_is, told_bad, told_twice, to
 use Rattle.y4m_header.proofs.words.told_a.Statement.{statement}
 use Rattle.y4m_header.proofs.words.told_a.Tie as tie
 
-returns : tie.Need-returns
+returns : tie.Need-returns-in_default
 returns c =
-    let a = c.before.before.before.before.args in
-    told_bad a.said.sa _ (with_a (upper a.value.now) (lower a.value.now) a.said) (ratio_no _ _ c.before.before.ratio-in.ensures c.enum_told.given.1)
+    let a = c.args in
+    told_bad a.said.sa _ (with_a (upper a.value.now) (lower a.value.now) a.said) (ratio_no _ _ c.ratio_in.ensures c.in_default.is)
 
-returns-2 : tie.Need-returns-2
-returns-2 c = told_twice _ _ _ c.if1.true
+returns-2 : tie.Need-returns-then-said
+returns-2 c = told_twice _ _ _ c.if-said.true
 
-returns-3 : tie.Need-returns-3
+returns-3 : tie.Need-returns
 returns-3 c =
-    let v = ratio_is _ _ c.before.before.before.before.ratio-in.ensures _ _ c.before.before.n.given.1 in
-    told_once _ _ _ _ c.if1.false v.0 (ap₂ (λ (n m : ℕ). with_a n m c.before.before.before.before.before.before.args.said) v.1 v.2)
+    let v = ratio_is _ _ c.ratio_in.ensures _ _ c.in-Is.is in
+    told_once _ _ _ _ c.if-said.false v.0 (ap₂ (λ (n m : ℕ). with_a n m c.args.said) v.1 v.2)
 
 pub told_a_spec : {M : Type 1} → statement M
 told_a_spec = tie.close (tie.spec (λ c κs. search rules) (λ c. search rules) (λ c. search rules) returns returns-2 returns-3)

@@ -4,11 +4,11 @@ use Rattle.y4m_header.proofs.Forms.{word_none, word_some}
 use Rattle.y4m_header.proofs.words.told_word.Statement.{statement}
 use Rattle.y4m_header.proofs.words.told_word.Tie as tie
 
-returns : tie.Need-returns
-returns c = let a = c.before.before.args in word_none a.word.now a.said c.if1.true
+returns : tie.Need-returns-then-word-eq0
+returns c = let a = c.args in word_none a.word.now a.said c.if-word-eq0.true
 
-returns-2 : tie.Need-returns-2
-returns-2 c = let a = c.before.before.before.before.before.args in word_some a.word.now a.said _ c.before.before.before.if1.false c.told-letter.ensures
+returns-2 : tie.Need-returns
+returns-2 c = let a = c.args in word_some a.word.now a.said _ c.if-word-eq0.false c.told_letter.ensures
 
 pub told_word_spec : {M : Type 1} → statement M
 told_word_spec =

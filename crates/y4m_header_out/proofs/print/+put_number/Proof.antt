@@ -34,19 +34,17 @@ pub +put-number-spec : {M : Type 1} → statement M
     put-number.Post
     (λ c. search rules)
     (λ c. search rules)
-    (λ c. omega (arith, c.before.before.requires.1.1))
+    (λ c. omega (arith, c.requires.1.1))
     (λ c. search rules)
     (λ c. search rules)
-    (λ c. (put_as (number_one _ c.if1.true) (put_byte _ _ _), omega arith))
-    (λ c κs. let s = c.before.before.before in (omega (arith, s.requires.0), (omega (arith, s.requires.1.0), s.requires.1.1)))
+    (λ c. (put_as (number_one _ c.if-n-lt10.true) (put_byte _ _ _), omega arith))
+    (λ c κs. (omega (arith, c.requires.0), (omega (arith, c.requires.1.0), c.requires.1.1)))
     (λ c. search rules)
     (λ c. search rules)
-    (λ c. let d = c.before.before.put-number in let s = c.before.before.before.before.before.before in
-    omega (arith, d.ensures.0.count, d.auto.0, s.requires.1.1, number_four (s.args.n / 10) (omega (arith, s.requires.1.0))))
-    (λ c. let d = c.before.before.put-number in let s = c.before.before.before.before.before.before in
-    omega (arith, d.ensures.0.count, s.requires.1.1, number_four (s.args.n / 10) (omega (arith, s.requires.1.0))))
-    (λ c. simp length-set c.before.before.put-number.auto.0)
-    (λ c. let s = c.before.before.before.before.before.before in let d = c.before.before.put-number in (
-      put_as (number_more _ s.requires.1.0 (omega arith)) (put_then d.ensures.0 (put_byte _ _ _)),
-      omega (arith, d.ensures.0.count, number_four (s.args.n / 10) (omega (arith, s.requires.1.0))),
+    (λ c. let d = c.put_number-next in omega (arith, d.ensures.0.count, d.auto.out, c.requires.1.1, number_four (c.args.n / 10) (omega (arith, c.requires.1.0))))
+    (λ c. let d = c.put_number-next in omega (arith, d.ensures.0.count, c.requires.1.1, number_four (c.args.n / 10) (omega (arith, c.requires.1.0))))
+    (λ c. simp length-set c.put_number-next.auto.out)
+    (λ c. let d = c.put_number-next in (
+      put_as (number_more _ c.requires.1.0 (omega arith)) (put_then d.ensures.0 (put_byte _ _ _)),
+      omega (arith, d.ensures.0.count, number_four (c.args.n / 10) (omega (arith, c.requires.1.0))),
     ))

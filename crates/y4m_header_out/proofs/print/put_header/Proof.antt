@@ -7,20 +7,14 @@ use Rattle.y4m_header_out.proofs.print.put_header.Tie as tie
 
 returns : tie.Need-returns
 returns c =
-    let end = c.before.before in
-    let aspect = end.before.before.before.before.before in
-    let scan = aspect.before.before.before.before in
-    let rate = scan.before.before.before.before.before in
-    let key = rate.before.before.before.before in
-    let sides = key.before.before.before.before.before in
-    let a = sides.before.before.before.args in
+    let a = c.args in
     put_as (header_text_lem a.w a.h a.f a.g a.a a.b)
-    (put_then sides.put_sides.ensures.0
-    (put_then key.put-bytes.ensures
-    (put_then rate.put-ratio.ensures.0
-    (put_then scan.put-bytes2.ensures
-    (put_then aspect.put-ratio2.ensures.0
-    end.put-bytes3.ensures)))))
+    (put_then c.put_sides-sides.ensures.0
+    (put_then c.put_bytes-rate.ensures
+    (put_then c.put_ratio-next.ensures.0
+    (put_then c.put_bytes-aspect.ensures
+    (put_then c.put_ratio-last.ensures.0
+    c.put_bytes.ensures)))))
 
 pub put_header_spec : {M : Type 1} → statement M
 put_header_spec =

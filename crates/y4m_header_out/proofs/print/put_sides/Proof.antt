@@ -7,10 +7,10 @@ use Rattle.y4m_header_out.proofs.print.put_sides.Tie as tie
 
 returns : tie.Need-returns
 returns c =
-    let a = c.before.before.before.before.before.before.before.before.before.before.before.before.before.before.before.put-bytes in
-    let b = c.before.before.before.before.before.before.before.before.before.before.before.put-number in
-    let d = c.before.before.before.before.before.before.put-bytes2 in
-    let e = c.before.before.put-number2 in
+    let a = c.put_bytes-width in
+    let b = c.put_number-next in
+    let d = c.put_bytes-height in
+    let e = c.put_number in
     (put_then a.ensures (put_then b.ensures.0 (put_then d.ensures e.ensures.0)), omega (arith, a.ensures.count, b.ensures.1, d.ensures.count, e.ensures.1))
 
 pub put_sides_spec : {M : Type 1} → statement M
