@@ -1,6 +1,7 @@
 // A torn split map, mended: a block that reaches past the picture is cut, a byte above 1 inside the picture becomes 0, and all other bytes are copied.
 // There is no Rust beside it.
 #![tactic(auto)]
+
 ghost use Rattle.std.specs.Prelude.{true, ◌≡◌, ◌+◌, ◌*◌, ◌/◌, ◌≤◌, ◌<◌, length};
 ghost use Rattle.def.specs.Picture.{size_ok, root_count};
 ghost use Rattle.laws.specs.Call.{Gives};

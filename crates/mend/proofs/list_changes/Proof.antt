@@ -47,7 +47,7 @@ put_change_requires c κs =
 listed_next : (c : tie.After-put_change-met invariant-loop decreases-loop) → let a = c.args in
     let m = mark_from (get_or a.marks.now c.loop-j.j 0) in
     Listed (change_of a.root m.place (get_or a.bytes.now m.place 0) m.byte) c.loop-j.list
-    c.loop-j.met c.put_change-met.new.0 c.put_change-met.result
+    c.loop-j.met c.put_change-met.new.list c.put_change-met.result
 listed_next c =
     let a = c.args in
     let p = c.mark_place-place.ensures in

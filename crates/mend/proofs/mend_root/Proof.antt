@@ -26,11 +26,11 @@ long c = bytes_long (sized _ _ c.requires.0) _ _ c.requires.2 c.requires.1
 -- what the call told: as many marks as the root has, and a list of them
 told : (c : tie.After-list_marks) → let a = c.args in
     let l = list-call.root_marks a.w a.h a.splits.now a.i in
-    (c.list_marks.result ≡ Counted (length l)) × Told l c.list_marks.new.1.1.1.1.0
+    (c.list_marks.result ≡ Counted (length l)) × Told l c.list_marks.new.out
 told c = list_told _ c.list_marks.result _ c.requires.0 c.requires.1 refl
     c.requires.2 c.list_marks.ensures
 
-count : (c : tie.In-Done-2) → let a = c.args in c.in-Done.n ≡ length (list-call.root_marks a.w a.h a.splits.now a.i)
+count : (c : tie.In-Done) → let a = c.args in c.in-Done.n ≡ length (list-call.root_marks a.w a.h a.splits.now a.i)
 count c = (counted_done _ _ Done (sym c.in-Done.is ∙ (told c.before.before).0)).1
 
 copy_requires : tie.Need-copy-requires
@@ -39,7 +39,7 @@ copy_requires c κs = c.requires.3
 
 put_marks_requires : tie.Need-put_marks-requires
 put_marks_requires c κs =
-    let n = count c.before.before.before.before.before.before.before.before in
+    let n = count c.before.before.before.before.before.before.before in
     let t = (told c.before.before.before.before.before.before.before.before.before).1 in (
       c.copy.auto.out
           ∙ c.requires.3,
@@ -49,7 +49,7 @@ put_marks_requires c κs =
 
 list_changes_requires : tie.Need-list_changes-requires
 list_changes_requires c κs =
-    let n = count c.before.before.before.before.before.before.before.before.before.before.before.before.before.before in
+    let n = count c.before.before.before.before.before.before.before.before.before.before.before.before.before in
     let t = (told c.before.before.before.before.before.before.before.before.before.before.before.before.before.before.before).1 in
     (long c.before.before.before.before.before.before.before.before.before.before.before.before.before.before.before.before.before.before.before.before, omega (arith, n, t.few, t.long), (λ j l. t.small j (subst (λ (k : ℕ). j < k) n l)), few c.before.before.before.before.before.before.before.before.before.before.before.before.before.before.before.before.before.before.before.before, omega (arith, n, t.few, c.requires.4))
 
@@ -59,7 +59,7 @@ returns c = not_both _ _ _ (told c.before.before).0 c.in-Refused.is
 returns-2 : tie.Need-returns-in-Done
 returns-2 c =
     let a = c.args in
-    let n = count c.before.before.before.before.before.before.before.before.before.before.before.before.before.before.before.before.before in
+    let n = count c.before.before.before.before.before.before.before.before.before.before.before.before.before.before.before.before in
     let t = (told c.before.before.before.before.before.before.before.before.before.before.before.before.before.before.before.before.before.before).1 in (
       root_mended a.w a.h a.splits.now a.i t n _ _
           c.copy.ensures

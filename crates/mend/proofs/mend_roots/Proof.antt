@@ -80,9 +80,9 @@ loop_again c =
     let m = c.mend_root-count in
     let k = m.auto.out in (
       omega (arith, c.loop-i-test.true),
-      same_len_mid (1024 * l.i) (1024 * l.i + 1024 - 1024 * l.i) l.out m.new.1.1.1.1.0 k ∙ v.1,
+      same_len_mid (1024 * l.i) (1024 * l.i + 1024 - 1024 * l.i) l.out m.new.out k ∙ v.1,
       listed_long m.ensures.1 ∙ v.2,
-      roots_more (mend_root a.splits.now (a.w / 4) (a.h / 4)) l.out m.new.1.1.1.1.0 l.i (1024 * l.i + 1024 - 1024 * l.i)
+      roots_more (mend_root a.splits.now (a.w / 4) (a.h / 4)) l.out m.new.out l.i (1024 * l.i + 1024 - 1024 * l.i)
           (room c.before.before.before.before.before.before.before) (k ∙ own_long c.before.before.before.before.before.before.before) v.3 m.ensures.0,
       listed_more a.splits.now (a.w / 4) (a.h / 4) l.i v.4 m.ensures.1,
     )

@@ -14,19 +14,17 @@ returns-2 : tie.Need-returns-then-not-in_maps-2
 returns-2 c = (none_p _ _ _ _ _ (sym c.in_maps-2.ensures ∙ c.if-not-in_maps-2.true), omega arith)
 
 row_between_requires : tie.Need-row_between-requires
-row_between_requires c κs =
-    (
-      unit_there _ _ _ _ (sym c.in_maps.ensures ∙ c.if-not-in_maps.false),
-      unit_there _ _ _ _ (sym c.in_maps-2.ensures ∙ c.if-not-in_maps-2.false),
-    )
+row_between_requires c κs = (
+  unit_there _ _ _ _ (sym c.in_maps.ensures ∙ c.if-not-in_maps.false),
+  unit_there _ _ _ _ (sym c.in_maps-2.ensures ∙ c.if-not-in_maps-2.false),
+)
 
 returns-3 : tie.Need-returns
-returns-3 c =
-    (
-      c.row_between.ensures.0
-          ∙ both_there _ _ _ _ _ (sym c.in_maps.ensures ∙ c.if-not-in_maps.false) (sym c.in_maps-2.ensures ∙ c.if-not-in_maps-2.false),
-      c.row_between.ensures.1,
-    )
+returns-3 c = (
+  c.row_between.ensures.0
+      ∙ both_there _ _ _ _ _ (sym c.in_maps.ensures ∙ c.if-not-in_maps.false) (sym c.in_maps-2.ensures ∙ c.if-not-in_maps-2.false),
+  c.row_between.ensures.1,
+)
 
 pub row_at_spec : {M : Type 1} → statement M
 row_at_spec = tie.close (tie.spec (λ c κs. search rules) returns (λ c κs. search rules) returns-2 row_between_requires returns-3)

@@ -17,12 +17,11 @@ returns-3 : tie.Need-returns-then-not-run_in_maps-2
 returns-3 c = let e = none_at_p _ _ _ _ _ _ _ (sym c.run_in_maps-2.ensures ∙ c.if-not-run_in_maps-2.true) in (e, put_none _ _ _ _ _ _ _ e)
 
 put_rows_requires : tie.Need-put_rows-requires
-put_rows_requires c κs =
-    (
-      run_there _ _ _ _ _ (sym c.run_in_maps.ensures ∙ c.if-not-run_in_maps.false),
-      run_there _ _ _ _ _ (sym c.run_in_maps-2.ensures ∙ c.if-not-run_in_maps-2.false),
-      omega (arith, c.if-rows-n.false),
-    )
+put_rows_requires c κs = (
+  run_there _ _ _ _ _ (sym c.run_in_maps.ensures ∙ c.if-not-run_in_maps.false),
+  run_there _ _ _ _ _ (sym c.run_in_maps-2.ensures ∙ c.if-not-run_in_maps-2.false),
+  omega (arith, c.if-rows-n.false),
+)
 
 returns-4 : tie.Need-returns
 returns-4 c =

@@ -7,7 +7,7 @@ use Rattle.sheet.proofs.print_lists.Statement.{statement}
 use Rattle.sheet.proofs.print_lists.Tie as tie
 
 -- what the call lists
-told : (c : tie.In-Done) → let l = c.list_edges.new.1.1.1.1 in
+told : (c : tie.In-Done) → let l = c.list_edges.new.vertical in
     Printable c.args.w c.args.h c.args.limit c.args.map.now c.args.vertical.now c.args.horizontal.now c.requires.0 c.requires.1 c.requires.2
     c.in-Done.m c.in-Done.n l.0 l.1.0
 told c =

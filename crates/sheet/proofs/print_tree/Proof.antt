@@ -10,10 +10,10 @@ use Rattle.sheet.proofs.print_tree.Tie as tie
 
 -- where the digits were taken: the map is walked as they say
 met : (c : tie.In-Done) → let a = c.args in
-    Met (a.w / 4) (a.h / 4) a.digits.now c.take_picture.new.1.1.1.0 c.in-Done.next
+    Met (a.w / 4) (a.h / 4) a.digits.now c.take_picture.new.map c.in-Done.next
 met c =
     let a = c.args in
-    subst (Pictured (a.w / 4) (a.h / 4) a.digits.now c.take_picture.new.1.1.1.0)
+    subst (Pictured (a.w / 4) (a.h / 4) a.digits.now c.take_picture.new.map)
     c.in-Done.is c.take_picture.ensures
 
 take_picture_requires : tie.Need-take_picture-requires
@@ -41,7 +41,7 @@ returns-2 c =
     let t = c.take_picture in
     starts_as
     (walk_no _ _ _ _ c.requires.0 c.requires.1 _
-    (subst (Pictured (c.args.w / 4) (c.args.h / 4) c.args.digits.now t.new.1.1.1.0) c.in-Refused.is t.ensures))
+    (subst (Pictured (c.args.w / 4) (c.args.h / 4) c.args.digits.now t.new.map) c.in-Refused.is t.ensures))
     c.put_refusal.ensures
 
 returns-3 : tie.Need-returns-else-next-digits

@@ -39,11 +39,11 @@ told c =
     ∙ ap (λ (ds : List ℕ). let d = upto (c.args.w / 4) (c.args.h / 4) ds
     (roots (c.args.w / 4) (c.args.h / 4)) in counted (length d.marks) d.walk.answer) (same c.before.before.before)
 
-taken : (c : tie.In-Done-2) → ((get-call.descent (input c.before.before.before.before)).walk.answer ≡ Done)
+taken : (c : tie.In-Done) → ((get-call.descent (input c.before.before.before.before)).walk.answer ≡ Done)
     × (c.in-Done.n ≡ get-call.count (input c.before.before.before.before))
 taken c = counted_done _ _ (get-call.descent (input c.before.before.before.before)).walk.answer (sym c.in-Done.is ∙ told c.before)
 
-few : (c : tie.In-Done-2) → c.in-Done.n ≤ 348160
+few : (c : tie.In-Done) → c.in-Done.n ≤ 348160
 unfolding blocks_in
 few c =
     let a = c.args in
@@ -61,13 +61,13 @@ few c =
 tested : (c : tie.After-zeros_ok) → c.zeros_ok.result ≡ fill_ok c.args.src.now
     c.args.at (get-call.count (input c.before.before.before.before.before))
 tested c =
-    let k = (taken c.before.before).1 in
+    let k = (taken c.before).1 in
     c.zeros_ok.ensures ∙ ap₂ (λ (p n : ℕ). zeros_ok c.args.src.now (p + n) (p + (n + 7) / 8 * 8))
     c.requires.1.first k
 
 returns : tie.Need-returns-then-not-zeros_ok
 returns c = get_unfilled (input c.before.before.before.before.before.before) c.requires.0
-    (taken c.before.before.before).0 (sym (tested c.before) ∙ c.if-not-zeros_ok.true)
+    (taken c.before.before).0 (sym (tested c.before) ∙ c.if-not-zeros_ok.true)
 
 fill_map_requires : tie.Need-fill_map-requires
 fill_map_requires c κs =
@@ -77,7 +77,7 @@ fill_map_requires c κs =
       s.inside,
       s.near,
       ap (λ (ds : List ℕ). (upto (a.w / 4) (a.h / 4) ds (roots (a.w / 4) (a.h / 4))).walk.answer)
-          (same c.before.before.before.before.before.before.before) ∙ (taken c.before.before.before.before).0,
+          (same c.before.before.before.before.before.before.before) ∙ (taken c.before.before.before).0,
     )
 
 returns-2 : tie.Need-returns-in-Refused
@@ -89,11 +89,11 @@ returns-3 c =
     let a = c.args in
     get_done (input c.before.before.before.before.before.before.before.before.before.before)
     c.requires.0
-    (taken c.before.before.before.before.before.before.before).0 _
+    (taken c.before.before.before.before.before.before).0 _
     (sym (tested c.before.before.before.before.before) ∙ c.if-not-zeros_ok.false)
     (ap₂ (λ (k : ℕ) (m : List ℕ). record { number = 0; at = k; map = m })
     (ap₂ (λ (p n : ℕ). p + (n + 7) / 8 * 8) c.requires.1.first
-    (taken c.before.before.before.before.before.before.before).1)
+    (taken c.before.before.before.before.before.before).1)
     (c.fill_map.ensures ∙ ap (map_of (a.w / 4) (a.h / 4)) (same c.before.before.before.before.before.before.before.before.before.before)))
 
 pub get_taken_spec : {M : Type 1} → statement M
@@ -103,10 +103,10 @@ get_taken_spec =
     (λ c κs. (c.requires.0.size, c.requires.1.inside, c.requires.1.near))
     (λ c. search rules)
     (λ c. search rules)
-    (λ c. omega (arith, few c.before))
-    (λ c. omega (arith, few c.before))
-    (λ c. omega (arith, few c.before, c.requires.1))
-    (λ c. omega (arith, few c.before, c.requires.1))
+    (λ c. omega (arith, few c))
+    (λ c. omega (arith, few c))
+    (λ c. omega (arith, few c, c.requires.1))
+    (λ c. omega (arith, few c, c.requires.1))
     (λ c κs. search rules)
     returns
     fill_map_requires

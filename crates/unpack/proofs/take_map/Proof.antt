@@ -55,13 +55,13 @@ unfolding take-call.places_ok
 near c = leb-true _ _ (both_right (leb c.args.from c.args.to) _ (places c))
 
 -- the digits were taken
-taken : (c : tie.In-Done-2) → ((take-call.descent
+taken : (c : tie.In-Done) → ((take-call.descent
     (input c.before.before.before.before.before.before.before.before.before)).walk.answer ≡ Done)
     × (c.in-Done.n ≡ length (take-call.descent (input c.before.before.before.before.before.before.before.before.before)).marks)
 taken c = counted_done _ _ (take-call.descent
     (input c.before.before.before.before.before.before.before.before.before)).walk.answer (sym c.in-Done.is ∙ c.map_taken.ensures)
 
-few : (c : tie.In-Done-2) → c.in-Done.n ≤ 348160
+few : (c : tie.In-Done) → c.in-Done.n ≤ 348160
 unfolding blocks_in
 few c =
     let a = c.args in
@@ -101,13 +101,13 @@ fill_map_requires c κs = (
   mapped c.before.before.before.before,
   ordered c.before.before.before,
   near c.before.before.before,
-  (taken c.before.before).0,
+  (taken c.before).0,
 )
 
 add_t29 : tie.Need-overflow_add-result
 add_t29 c = omega (
   arith,
-  few c.before.before.before.before.before,
+  few c.before.before.before.before,
   ordered c.before.before.before.before.before.before,
   near c.before.before.before.before.before.before,
 )
@@ -121,10 +121,10 @@ returns-5 : tie.Need-returns-in-Done
 returns-5 c =
     take_done (input c.before.before.before.before.before.before.before.before.before.before.before.before.before)
     (mapped c.before.before.before.before.before.before.before)
-    (places c.before.before.before.before.before.before) _ (taken c.before.before.before.before.before).0
+    (places c.before.before.before.before.before.before) _ (taken c.before.before.before.before).0
     (ap₂ (λ (k : ℕ) (m : List ℕ).
     record { number = 0; at = c.args.from + k; map = m })
-    (taken c.before.before.before.before.before).1 c.fill_map.ensures)
+    (taken c.before.before.before.before).1 c.fill_map.ensures)
 
 pub take_map_spec : {M : Type 1} → statement M
 take_map_spec =

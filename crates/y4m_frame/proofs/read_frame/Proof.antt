@@ -8,27 +8,27 @@ use Rattle.y4m_frame.proofs.read_frame.Statement.{statement}
 use Rattle.y4m_frame.proofs.read_frame.Tie as tie
 
 -- where the checks found nothing
-found : (c : tie.In-Read-2) → let a = c.args in
+found : (c : tie.In-Read) → let a = c.args in
     Readable a.s.now a.at (length a.y.now) (length a.u.now) (length a.v.now) a.w a.h
 found c = let a = c.args in readable a.s.now a.at a.w a.h _ _ _ _ (sym c.checked.ensures ∙ c.in-Read.is)
 
 add_luma : tie.Need-overflow_add-luma
-add_luma c = omega (arith, (found c.before).inside)
+add_luma c = omega (arith, (found c).inside)
 
 add_first : tie.Need-overflow_add-first
-add_first c = omega (arith, (found c.before).inside)
+add_first c = omega (arith, (found c).inside)
 
 add_second : tie.Need-overflow_add-second
-add_second c = omega (arith, (found c.before).inside)
+add_second c = omega (arith, (found c).inside)
 
 read_plane_requires : tie.Need-read_plane-requires
-read_plane_requires c κs = omega (arith, (found c.before.before).inside)
+read_plane_requires c κs = omega (arith, (found c.before).inside)
 
 read_plane_requires_2 : tie.Need-read_plane-requires-in-Read
-read_plane_requires_2 c κs = omega (arith, (found c.before.before.before.before.before.before).inside)
+read_plane_requires_2 c κs = omega (arith, (found c.before.before.before.before.before).inside)
 
 read_plane_requires_3 : tie.Need-read_plane-requires-in-Read-2
-read_plane_requires_3 c κs = let f = found c.before.before.before.before.before.before.before.before.before.before in omega (arith, f.inside, f.u_long, f.v_long)
+read_plane_requires_3 c κs = let f = found c.before.before.before.before.before.before.before.before.before in omega (arith, f.inside, f.u_long, f.v_long)
 
 returns : tie.Need-returns-in-Refused
 returns c = read_refused _ _ c.checked.ensures _ _ c.in-Refused.is

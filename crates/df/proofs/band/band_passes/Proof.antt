@@ -111,13 +111,13 @@ returns c =
     let k = c.in_format-chroma in
     let b = c.passes_by in
     let r = s.requires.1 in (
-      take_put (16 * n) (length a.y.now - 16 * n) a.y.now b.new.1.1.1.1.1.0 r.0,
-      front_at k.ensures a.u.now b.new.1.1.1.1.1.1.0 r.1,
-      front_at k.ensures a.v.now b.new.1.1.1.1.1.1.1.0 r.2,
-      take_put n (length a.words.now - n) a.words.now b.new.1.1.1.1.1.1.1.1.0 r.3,
+      take_put (16 * n) (length a.y.now - 16 * n) a.y.now b.new.y r.0,
+      front_at k.ensures a.u.now b.new.u r.1,
+      front_at k.ensures a.v.now b.new.v r.2,
+      take_put n (length a.words.now - n) a.words.now b.new.words r.3,
       passed a.format (a.w / 4) n k.result k.ensures a.y.now a.u.now a.v.now a.words.now a.motion.now a.refs.now a.keep.now a.entries.now a.top
           (list_from vertical a.halved a.top a.splits.now (a.w / 4) (a.h / 4)) (list_from horizontal a.halved a.top a.splits.now (a.w / 4) (a.h / 4))
-          b.new.1.1.1.1.1.0 b.new.1.1.1.1.1.1.0 b.new.1.1.1.1.1.1.1.0 b.new.1.1.1.1.1.1.1.1.0 b.result.vertical b.result.horizontal
+          b.new.y b.new.u b.new.v b.new.words b.result.vertical b.result.horizontal
           r.0 r.1 r.2 r.3 b.ensures,
     )
 
@@ -199,8 +199,8 @@ band_passes_spec =
     (λ c. le_refl _)
     (λ c. refl)
     passes_by_requires
-    (λ c. kept_long _ (start c.before.before.before.before.before.before.before.before).args.y.now c.passes_by.new.1.1.1.1.1.0 c.passes_by.auto.y)
-    (λ c. kept_long _ (start c.before.before.before.before.before.before.before.before).args.u.now c.passes_by.new.1.1.1.1.1.1.0 c.passes_by.auto.u)
-    (λ c. kept_long _ (start c.before.before.before.before.before.before.before.before).args.v.now c.passes_by.new.1.1.1.1.1.1.1.0 c.passes_by.auto.v)
-    (λ c. kept_long _ (start c.before.before.before.before.before.before.before.before).args.words.now c.passes_by.new.1.1.1.1.1.1.1.1.0 c.passes_by.auto.words)
+    (λ c. kept_long _ (start c.before.before.before.before.before.before.before.before).args.y.now c.passes_by.new.y c.passes_by.auto.y)
+    (λ c. kept_long _ (start c.before.before.before.before.before.before.before.before).args.u.now c.passes_by.new.u c.passes_by.auto.u)
+    (λ c. kept_long _ (start c.before.before.before.before.before.before.before.before).args.v.now c.passes_by.new.v c.passes_by.auto.v)
+    (λ c. kept_long _ (start c.before.before.before.before.before.before.before.before).args.words.now c.passes_by.new.words c.passes_by.auto.words)
     returns)

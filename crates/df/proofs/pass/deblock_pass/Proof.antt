@@ -72,7 +72,7 @@ root_edges_requires c κs = (
 knowns : (c : tie.After-plan_edges invariant-loop decreases-loop) → let a = c.args in
     let l = c.loop-i in
     Knowns (pass_of a.pass) (a.w / 4) a.words.now (record { motion = a.motion.now; refs = a.refs.now; keep = a.keep.now }) a.rows.now
-    c.root_edges-n.new.1.1.1.1.1.1.1.0 c.root_edges-n.result l.places l.marks
+    c.root_edges-n.new.out c.root_edges-n.result l.places l.marks
 knowns c =
     let r = c.root_edges-n.ensures in
     let l = c.loop-i in
@@ -86,8 +86,8 @@ knowns c =
     }
 
 -- so its plan is the one by the maps
-plan_of : (c : tie.After-plan_edges invariant-loop decreases-loop) → Planned (maps c.before.before.before.before.before.before.before.before.before.before.before.before.before.before.before.before.before.before) (pass_of c.args.pass) (c.args.w / 4) c.root_edges-n.new.1.1.1.1.1.1.1.0 c.root_edges-n.result
-    c.plan_edges.new.1.1.1.1.1.1.1.1.1.0 c.plan_edges.new.1.1.1.1.1.1.1.1.1.1.0
+plan_of : (c : tie.After-plan_edges invariant-loop decreases-loop) → Planned (maps c.before.before.before.before.before.before.before.before.before.before.before.before.before.before.before.before.before.before) (pass_of c.args.pass) (c.args.w / 4) c.root_edges-n.new.out c.root_edges-n.result
+    c.plan_edges.new.places c.plan_edges.new.marks
 plan_of c = plan_known _ _ _ _ _ (knowns c) c.is_horizontal-horizontal.ensures c.plan_edges.ensures
 
 -- the picture, at a turn
@@ -97,10 +97,10 @@ current : (c : tie.At-loop-i invariant-loop decreases-loop) → let a = c.args i
 current c = roots_frame (maps c.before.before.before.before.before.before.before.before.before.before) _ (pass_of c.args.pass) _ _ _ _ _ c.loop-i.i _ _ _ c.loop-i.invariant.7 c.requires.0
 
 -- a root's plan has the room that it had before the turn
-places_long : (c : tie.After-plan_edges invariant-loop decreases-loop) → length c.plan_edges.new.1.1.1.1.1.1.1.1.1.0 ≡ 256
+places_long : (c : tie.After-plan_edges invariant-loop decreases-loop) → length c.plan_edges.new.places ≡ 256
 places_long c = c.plan_edges.auto.places ∙ c.loop-i.invariant.5
 
-marks_long : (c : tie.After-plan_edges invariant-loop decreases-loop) → length c.plan_edges.new.1.1.1.1.1.1.1.1.1.1.0 ≡ 256
+marks_long : (c : tie.After-plan_edges invariant-loop decreases-loop) → length c.plan_edges.new.marks ≡ 256
 marks_long c = c.plan_edges.auto.marks ∙ c.loop-i.invariant.6
 
 add_count : tie.Need-overflow_add-count invariant-loop decreases-loop

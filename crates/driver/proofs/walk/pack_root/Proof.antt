@@ -10,15 +10,15 @@ use Rattle.driver.proofs.walk.pack_root.Statement.{statement}
 use Rattle.driver.proofs.walk.pack_root.Tie as tie
 
 -- the states after the root's leaves were listed, and the call's start
-abbrev listed_at : tie.In-Done-2 → tie.After-root_leaves
-listed_at c = c.before.before.before
+abbrev listed_at : tie.In-Done → tie.After-root_leaves
+listed_at c = c.before.before
 
 abbrev start : tie.After-root_leaves → tie.Start
 start c = c.before.before.before.before.before.before
 
 pack_requires : tie.Need-pack-requires
 pack_requires c κs =
-    let e = listed_at c in
+    let e = listed_at c.before in
     let s = start e in
     let a = s.requires.0 in
     let r = listed (root_told _ _ _ a.size a.long a.walked s.args.i s.requires.1 _ _ _ (simp length-take (omega (arith, s.requires.2))) e.root_leaves.ensures _ c.in-Done.is) in
@@ -35,7 +35,7 @@ returns c =
 returns-2 : tie.Need-returns
 returns-2 c =
     let p = c.pack.ensures in
-    let e = listed_at c in
+    let e = listed_at c.before.before.before.before.before.before in
     let s = start e in
     let a = s.requires.0 in
     let r = listed (root_told _ _ _ a.size a.long a.walked s.args.i s.requires.1 _ _ _ (simp length-take (omega (arith, s.requires.2))) e.root_leaves.ensures _ c.in-Done.is) in

@@ -56,7 +56,7 @@ returns c =
     (sym (turn_refused _ _ _ _ (inside_units c.before.before.before.before) v.2
     (counted_refused _ _ _ (sym c.in-Refused.is ∙ c.root_digits.ensures))))
 
-next : (c : tie.In-Done-2 invariant-loop decreases-loop) → let a = c.args in
+next : (c : tie.In-Done invariant-loop decreases-loop) → let a = c.args in
     let i = c.loop-i.i in
     ((root_walk a.splits.now (a.w / 4) (a.h / 4) i).answer ≡ Done)
     × (c.loop-i.digits + c.in-Done.n ≡ length (digits_of a.splits.now (a.w / 4) (a.h / 4) (i + 1)))
@@ -71,11 +71,11 @@ add_digits : tie.Need-overflow_add-digits invariant-loop decreases-loop
 add_digits c =
     let a = c.args in
     let f = few_digits a.splits.now (a.w / 4) (a.h / 4) (c.loop-i.i + 1) in
-    omega (arith, (next c.before).1, f, c.loop-i-test.true, few c.before.before.before.before.before.before)
+    omega (arith, (next c).1, f, c.loop-i-test.true, few c.before.before.before.before.before.before)
 
 loop_again : tie.Need-loop-i-preserved invariant-loop decreases-loop
 loop_again c =
-    let k = next c.before in
+    let k = next c in
     let v = c.loop-i.invariant in
     let l = c.root_digits.auto.list ∙ v.3 in
     (omega (arith, c.loop-i-test.true), k.1, turn_done _ _ v.2 k.0, l)

@@ -19,15 +19,15 @@ use Rattle.pack.proofs.write.put_root.Tie as tie
 -- what the call told: as many marks as the root has, and a list of them
 told : (c : tie.After-list_marks) → let a = c.args in
     let l = own a.w a.h a.splits.now a.i in
-    (c.list_marks.result ≡ Counted (length l)) × Told l c.list_marks.new.1.1.1.1.0
+    (c.list_marks.result ≡ Counted (length l)) × Told l c.list_marks.new.out
 told c = let p = c.requires in list_told _ c.list_marks.result _ p.0.size p.0.bytes p.2 p.1 c.list_marks.ensures
 
-count : (c : tie.In-Done-2) → let a = c.args in c.in-Done.n ≡ length (own a.w a.h a.splits.now a.i)
+count : (c : tie.In-Done) → let a = c.args in c.in-Done.n ≡ length (own a.w a.h a.splits.now a.i)
 count c = (counted_done _ _ Done (sym c.in-Done.is ∙ (told c.before.before.before).0)).1
 
 put_list_requires : tie.Need-put_list-requires
 put_list_requires c κs =
-    let n = count c.before.before in
+    let n = count c.before in
     let t = (told c.before.before.before.before).1 in
     (omega (arith, n, t.few, t.long), omega (arith, n, t.few, c.requires.4))
 
@@ -38,7 +38,7 @@ returns-2 : tie.Need-returns-in-Done
 returns-2 c =
     let a = c.args in
     let d = c.requires.3 in
-    let n = count c.before.before.before.before.before in (
+    let n = count c.before.before.before.before in (
       n ∙ sym (own_long a.w a.h a.splits.now a.i d),
       c.put_list.ensures
           ∙ with_same _ a.at _ _ _ (λ k l. own_bit a.w a.h a.splits.now a.i

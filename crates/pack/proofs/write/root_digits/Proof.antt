@@ -22,10 +22,10 @@ few c = omega (arith, few_of _ _ c.requires.0.size, c.requires.1)
 -- what the call told: as many marks as the root has, and a list of them
 told : (c : tie.After-list_marks) → let a = c.args in
     let l = own a.w a.h a.splits.now a.i in
-    (c.list_marks.result ≡ Counted (length l)) × Told l c.list_marks.new.1.1.1.1.0
+    (c.list_marks.result ≡ Counted (length l)) × Told l c.list_marks.new.out
 told c = let p = c.requires in list_told _ c.list_marks.result _ p.0.size p.0.bytes p.2 p.1 c.list_marks.ensures
 
-count : (c : tie.In-Done-2) → let a = c.args in c.in-Done.n ≡ length (own a.w a.h a.splits.now a.i)
+count : (c : tie.In-Done) → let a = c.args in c.in-Done.n ≡ length (own a.w a.h a.splits.now a.i)
 count c = (counted_done _ _ Done (sym c.in-Done.is ∙ (told c.before.before.before).0)).1
 
 -- the walk's answer, once the marks are judged
@@ -33,11 +33,11 @@ answer : (c : tie.After-judge_root) → let a = c.args in
     c.judge_root.result ≡ (root_walk a.splits.now (a.w / 4) (a.h / 4) a.i).answer
 answer c = let a = c.args in
     own_answer a.w a.h a.splits.now a.i (told c.before.before.before.before.before).1 _ _
-    (count c.before.before.before) c.judge_root.ensures
+    (count c.before.before) c.judge_root.ensures
 
 judge_root_requires : tie.Need-judge_root-requires
 judge_root_requires c κs =
-    let n = count c.before.before in
+    let n = count c.before in
     let t = (told c.before.before.before.before).1 in
     (bytes_long (sized _ _ c.requires.0.size) _ _ c.requires.1 c.requires.0.bytes, omega (arith, n, t.few, t.long), λ j l. t.small j (subst (λ (k : ℕ). j < k) n l))
 
@@ -51,7 +51,7 @@ returns-3 : tie.Need-returns-in-Done-judge_root
 returns-3 c =
     let a = c.args in
     let d = sym (answer c.before) ∙ c.in-Done-judge_root.is in
-    sym (ap₂ counted (own_long a.w a.h a.splits.now a.i d ∙ sym (count c.before.before.before.before)) d)
+    sym (ap₂ counted (own_long a.w a.h a.splits.now a.i d ∙ sym (count c.before.before.before)) d)
 
 mul_start : tie.Need-overflow_mul-start
 mul_start c = omega (arith, few c.before.before)

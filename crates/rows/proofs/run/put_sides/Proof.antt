@@ -17,7 +17,7 @@ use Rattle.rows.proofs.run.put_sides.Tie as tie
 lefts : (c : tie.After-clear_first) →
     let a = c.args in
     FirstOf (λ (j : ℕ). row_by a.words.now a.motion.now a.refs.now (a.k + j) (a.k - 1 + j)) a.n (replicate 128 0)
-    c.rows_at.new.1.1.1.1.1.1.0
+    c.rows_at.new.rows
 lefts c =
     let a = c.args in
     let p = c.requires in
@@ -28,7 +28,7 @@ lefts c =
 tops : (c : tie.After-clear_first) →
     let a = c.args in
     FirstOf (λ (j : ℕ). row_by a.words.now a.motion.now a.refs.now (a.k + j) (a.k - a.columns + j)) a.n (replicate 128 0)
-    c.rows_at-2.new.1.1.1.1.1.1.0
+    c.rows_at-2.new.rows
 tops c =
     let a = c.args in
     let p = c.requires in
@@ -38,7 +38,7 @@ tops c =
 
 left_rows : (c : tie.After-clear_first) →
     let a = c.args in
-    (j : ℕ) → j < a.n → get_or c.clear_first.new.1.0 j 0 ≡ edge_row a.words.now a.motion.now a.refs.now a.columns vertical (a.k + j)
+    (j : ℕ) → j < a.n → get_or c.clear_first.new.left j 0 ≡ edge_row a.words.now a.motion.now a.refs.now a.columns vertical (a.k + j)
 left_rows c =
     let a = c.args in
     let p = c.requires in
@@ -47,7 +47,7 @@ left_rows c =
 
 top_rows : (c : tie.After-clear_first) →
     let a = c.args in
-    (j : ℕ) → j < a.n → get_or c.rows_at-2.new.1.1.1.1.1.1.0 j 0 ≡ edge_row a.words.now a.motion.now a.refs.now a.columns horizontal (a.k + j)
+    (j : ℕ) → j < a.n → get_or c.rows_at-2.new.rows j 0 ≡ edge_row a.words.now a.motion.now a.refs.now a.columns horizontal (a.k + j)
 top_rows c =
     let a = c.args in
     let p = c.requires in
@@ -58,7 +58,7 @@ put_joined_requires c κs =
     let a = c.args in
     let p = c.requires in
     let few = edge_few a.words.now a.motion.now a.refs.now a.columns in (
-      omega (arith, p.3, long_cleared a.x.0 c.rows_at.new.1.1.1.1.1.1.0 c.clear_first.new.1.0 c.clear_first.ensures, (lefts c.before.before.before.before).long),
+      omega (arith, p.3, long_cleared a.x.0 c.rows_at.new.rows c.clear_first.new.left c.clear_first.ensures, (lefts c.before.before.before.before).long),
       omega (arith, p.3, (tops c.before.before.before.before).long),
       p.4,
       (λ j h. omega (arith, left_rows c.before.before.before.before j h, few vertical (a.k + j))),

@@ -9,7 +9,7 @@ use Rattle.sheet.proofs.print.put_count.Statement.{statement}
 use Rattle.sheet.proofs.print.put_count.Tie as tie
 
 -- the place of the newline is within the buffer
-room : (c : tie.After-slice_known-3-1) → c.put_decimal-end.result + 1 ≤ length c.put_decimal-end.new.0
+room : (c : tie.After-slice_known-3-1) → c.put_decimal-end.result + 1 ≤ length c.put_decimal-end.new.out
 room c =
     let d = c.put_decimal-end in
     let b = c.put_bytes-digits in

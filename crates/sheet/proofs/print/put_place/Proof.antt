@@ -13,14 +13,14 @@ record Room (n k m : ℕ) : Type 0 where
   same : k ≡ m
   room : n ≤ k
 
-first : (c : tie.After-put_decimal-second) → Room (c.put_decimal-second.result + 5) (length c.put_decimal-second.new.0) (length c.args.out.now)
+first : (c : tie.After-put_decimal-second) → Room (c.put_decimal-second.result + 5) (length c.put_decimal-second.new.out) (length c.args.out.now)
 first c =
-    let e : length c.put_decimal-second.new.0 ≡ length c.args.out.now = c.put_decimal-second.auto.out ∙ simp length-set in
+    let e : length c.put_decimal-second.new.out ≡ length c.args.out.now = c.put_decimal-second.auto.out ∙ simp length-set in
     record { same = e; room = omega (arith, c.put_decimal-second.ensures.count, decimal_three c.args.x c.requires.0, c.requires.2) }
 
-second : (c : tie.After-put_decimal-end) → Room (c.put_decimal-end.result + 1) (length c.put_decimal-end.new.0) (length c.args.out.now)
+second : (c : tie.After-put_decimal-end) → Room (c.put_decimal-end.result + 1) (length c.put_decimal-end.new.out) (length c.args.out.now)
 second c =
-    let e : length c.put_decimal-end.new.0 ≡ length c.args.out.now = c.put_decimal-end.auto.out ∙ simp length-set (first c.before.before.before.before).same in
+    let e : length c.put_decimal-end.new.out ≡ length c.args.out.now = c.put_decimal-end.auto.out ∙ simp length-set (first c.before.before.before.before).same in
     record {
       same = e;
       room = omega (

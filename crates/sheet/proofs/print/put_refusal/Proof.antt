@@ -13,20 +13,20 @@ record Room (n k m : ℕ) : Type 0 where
   same : k ≡ m
   room : n ≤ k
 
-first : (c : tie.After-put_decimal-next) → Room (c.put_decimal-next.result + 20) (length c.put_decimal-next.new.0)
+first : (c : tie.After-put_decimal-next) → Room (c.put_decimal-next.result + 20) (length c.put_decimal-next.new.out)
     (length c.args.out.now)
 first c =
     let d = c.put_decimal-next in
     let b = c.put_bytes-digits in
     let n = c.refusal_number-number.result in
-    let e : length d.new.0 ≡ length c.args.out.now = d.auto.out ∙ b.auto.out in
+    let e : length d.new.out ≡ length c.args.out.now = d.auto.out ∙ b.auto.out in
     record { same = e; room = omega (arith, d.ensures.count, b.ensures.count, decimal_four n (omega arith), c.requires.1) }
 
-second : (c : tie.After-put_line-end) → Room (c.put_line-end.result + 1) (length c.put_line-end.new.0)
+second : (c : tie.After-put_line-end) → Room (c.put_line-end.result + 1) (length c.put_line-end.new.out)
     (length c.args.out.now)
 second c =
     let n = c.refusal_number-number.result in
-    let e : length c.put_line-end.new.0 ≡ length c.args.out.now = c.put_line-end.auto.out ∙ (first c.before.before.before.before).same in
+    let e : length c.put_line-end.new.out ≡ length c.args.out.now = c.put_line-end.auto.out ∙ (first c.before.before.before.before).same in
     record { same = e; room = omega (arith, c.put_line-end.ensures.count, (first c.before.before.before.before).room, (first c.before.before.before.before).same, line_length n c.args.line c.requires.0) }
 
 returns : tie.Need-returns

@@ -12,7 +12,7 @@ use Rattle.sheet.proofs.tree.take_picture.Statement.{statement}
 use Rattle.sheet.proofs.tree.take_picture.Tie as tie
 
 -- the bits are the digits' values
-values : (c : tie.After-put_digits) → let d = c.args.digits.now in bits_from c.put_digits.new.1.0 0 (length d - 0) ≡ values_of d
+values : (c : tie.After-put_digits) → let d = c.args.digits.now in bits_from c.put_digits.new.bits 0 (length d - 0) ≡ values_of d
 values c =
     ap (λ (b : List _). bits_from b 0 (length c.args.digits.now - 0)) c.put_digits.ensures ∙ values_bits c.args.digits.now c.requires.1 _ c.requires.2
 

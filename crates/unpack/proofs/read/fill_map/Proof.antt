@@ -83,9 +83,9 @@ loop_again c =
     let l = c.loop-i in
     let m = c.fill_root-n in (
       omega (arith, c.loop-i-test.true),
-      same_len_mid (1024 * l.i) (1024 * l.i + 1024 - 1024 * l.i) l.map m.new.1.1.1.1.1.1.1.0 m.auto.map ∙ v.1,
+      same_len_mid (1024 * l.i) (1024 * l.i + 1024 - 1024 * l.i) l.map m.new.map m.auto.map ∙ v.1,
       next c.before.before.before,
-      map_more _ _ _ l.map m.new.1.1.1.1.1.1.1.0 l.i (1024 * l.i + 1024 - 1024 * l.i) (room c.before.before.before.before.before.before) v.3
+      map_more _ _ _ l.map m.new.map l.i (1024 * l.i + 1024 - 1024 * l.i) (room c.before.before.before.before.before.before) v.3
           (m.ensures.1 ∙ ap (λ (d : Descent). put_all d.marks (replicate 1024 0)) (sym (root_is _ _ _ _ _ v.2))),
       m.auto.list ∙ v.4,
     )

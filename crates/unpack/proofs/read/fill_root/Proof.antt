@@ -21,18 +21,18 @@ use Rattle.unpack.proofs.read.fill_root.Tie as tie
 abbrev own : tie.Start → Descent
 own c = let a = c.args in root_descent (a.w / 4) (a.h / 4) a.i (bits_from a.src.now a.from (a.to - a.from))
 
-told : (c : tie.After-take_marks) → let l = (own c.before.before.before.before.before).marks in (c.take_marks.result ≡ Counted (length l)) × Told l c.take_marks.new.1.1.1.1.1.1.0
+told : (c : tie.After-take_marks) → let l = (own c.before.before.before.before.before).marks in (c.take_marks.result ≡ Counted (length l)) × Told l c.take_marks.new.out
 told c =
     let p = c.requires in
     let t = take_told _ c.take_marks.result _ p.0 p.3 p.1 c.take_marks.ensures in
     (t.0 ∙ ap (counted _) p.4, t.1 p.4)
 
-count : (c : tie.In-Done-2) → c.in-Done.n ≡ length (own c.before.before.before.before.before.before.before.before).marks
+count : (c : tie.In-Done) → c.in-Done.n ≡ length (own c.before.before.before.before.before.before.before.before).marks
 count c = (counted_done _ _ Done (sym c.in-Done.is ∙ (told c.before.before.before).0)).1
 
 fill_list_requires : tie.Need-fill_list-requires
 fill_list_requires c κs =
-    let n = count c.before.before in
+    let n = count c.before in
     let t = (told c.before.before.before.before).1 in
     (c.requires.2, omega (arith, n, t.few, t.long), λ j l. t.small j (subst (λ (k : ℕ). j < k) n l))
 
@@ -41,12 +41,12 @@ returns c = not_both _ _ _ (told c.before.before.before).0 c.in-Refused.is
 
 returns-2 : tie.Need-returns-in-Done
 returns-2 c =
-    let n = count c.before.before.before.before.before in
+    let n = count c.before.before.before.before in
     let t = (told c.before.before.before.before.before.before.before).1 in (
       n,
       c.fill_list.ensures
           ∙ ap (λ (z : List Mark). put_all z (replicate 1024 0))
-          (ap (marks_in c.take_marks.new.1.1.1.1.1.1.0) n ∙ t.back),
+          (ap (marks_in c.take_marks.new.out) n ∙ t.back),
     )
 
 pub fill_root_spec : {M : Type 1} → statement M

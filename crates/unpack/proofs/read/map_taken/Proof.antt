@@ -51,7 +51,7 @@ returns c =
     (sym (at_stop _ _ _ _ _ c.loop-i.invariant.2 _ _ (inside_units c.before.before.before.before)
     (counted_refused _ _ _ (sym c.in-Refused.is ∙ told c.before.before))))
 
-next : (c : tie.In-Done-2 invariant-loop decreases-loop) → let a = c.args in
+next : (c : tie.In-Done invariant-loop decreases-loop) → let a = c.args in
     At (a.w / 4) (a.h / 4) a.src.now a.from a.to (c.loop-i.i + 1)
     (c.loop-i.used + c.in-Done.n)
 next c =
@@ -61,7 +61,7 @@ next c =
 add_used : tie.Need-overflow_add-used invariant-loop decreases-loop
 add_used c = omega (
   arith,
-  at_few _ _ _ _ _ (next c.before),
+  at_few _ _ _ _ _ (next c),
   inside c.before.before.before.before,
   few_of _ _ c.requires.0,
 )
@@ -71,7 +71,7 @@ loop_again c = (
   omega (arith, c.loop-i-test.true),
   c.take_marks.auto.out
       ∙ c.loop-i.invariant.1,
-  next c.before,
+  next c,
 )
 
 returns-2 : tie.Need-returns invariant-loop decreases-loop

@@ -99,7 +99,7 @@ returns c =
     let s = start c.before.before.before.before.before.before.before.before.before.before.before.before.before.before.before.before in
     let b = c.band_passes-n in
     done_by (input_of s) (fine s) (some s) (skip_is c.before.before.before.before.before.before.before.before.before.before.before.before.before.before.before.before) (top_is c.before.before.before.before.before.before.before.before.before.before.before.before.before.before.before.before) (own_is c.before.before.before.before.before.before.before.before.before.before.before.before.before.before.before.before) c.entries_by-table.ensures
-    b.new.1.1.1.1.1.1.0 b.new.1.1.1.1.1.1.1.0 b.new.1.1.1.1.1.1.1.1.0 b.new.1.1.1.1.1.1.1.1.1.0
+    b.new.y b.new.u b.new.v b.new.words
     b.result.vertical b.result.horizontal b.ensures
 
 pub deblock_checked_spec : {M : Type 1} → statement M
