@@ -2,6 +2,7 @@
 // colour. No map is looked at, and any list is taken: lines that do not lie in a plane are left.
 // The Rust beside it: df.rs, the loops of evc_deblock_cu_hor and evc_deblock_cu_ver.
 #![tactic(auto)]
+
 ghost use Rattle.std.specs.Prelude.{◌≡◌, true, ◌+◌, ◌*◌, ◌≤◌, ◌<◌, length};
 ghost use Rattle.def.specs.declared.Component.TheVariants.{Luma, Chroma};
 ghost use Rattle.edge_filter.specs.Edges.{pass_of};

@@ -62,14 +62,14 @@ put_root_requires c κs = (
   near c.before.before,
 )
 
-used_next : (c : tie.After-put-root invariant-loop decreases-loop) → let a = c.before.before.before.before.before.before.before.before.args in
-    c.before.before.before.before.loop.used + c.put-root.result ≡ length (digits_of a.splits.now (a.w / 4) (a.h / 4) (c.before.before.before.before.loop.i + 1))
+used_next : (c : tie.After-put_root-n invariant-loop decreases-loop) → let a = c.args in
+    c.loop-i.used + c.put_root-n.result ≡ length (digits_of a.splits.now (a.w / 4) (a.h / 4) (c.loop-i.i + 1))
 used_next c =
-    let v = c.before.before.before.before.loop.invariant in
-    ap (λ (n : ℕ). n + c.put-root.result) v.2 ∙ ap (λ (n : ℕ). length
-    (digits_of c.before.before.before.before.before.before.before.before.args.splits.now
-    (c.before.before.before.before.before.before.before.before.args.w / 4) (c.before.before.before.before.before.before.before.before.args.h / 4)
-    c.before.before.before.before.loop.i) + n) c.put-root.ensures.0
+    let v = c.loop-i.invariant in
+    ap (λ (n : ℕ). n + c.put_root-n.result) v.2 ∙ ap (λ (n : ℕ). length
+    (digits_of c.args.splits.now
+    (c.args.w / 4) (c.args.h / 4)
+    c.loop-i.i) + n) c.put_root-n.ensures.0
     ∙ sym (more_long _ _ _ _ (inside_units c.before.before.before))
 
 add_used : tie.Need-overflow_add-used invariant-loop decreases-loop
