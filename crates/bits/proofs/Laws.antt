@@ -1,21 +1,21 @@
 -- Laws of a slice's bits: what is put at a place is read there and nowhere else; n bits that are put are read back.
 -- Assumes nothing.
-use mathlib.Core.Bool.{Bool, true, false, not}
+use mathlib.Core.Bool.{Bool, true, false}
 use mathlib.Core.Path.{◌≡◌, refl, sym, ap, ap₂, ◌∙◌, subst}
-use mathlib.Core.List.{List, [], ◌∷◌}
+use mathlib.Core.List.{List}
 use Prim.Native.Nat.{ℕ, zero, suc, ◌+◌, ◌-◌, ◌*◌, ◌/◌, ◌%◌, ◌^◌, ◌≤◌, ◌<◌}
-use native.Mathlib.Nat.{add-zero, add-suc, add_assoc, zero-div, mod-lt, mul-le-mul_right, add-mul, mul_assoc, mul_comm, not-suc-le-zero}
+use native.Mathlib.Nat.{add-zero, add-suc, add_assoc, zero-div, mod-lt, mul-le-mul_right, add-mul, mul_assoc, not-suc-le-zero}
 use native.Mathlib.Numerals.{add-one}
 use native.Mathlib.Omega.{arith}
-use borrow.Author.Tests.{eqb-true, eqb-false, ltb-true, ltb-false, leb-true, leb-false, not-true, not-false}
-use lib.Dec.{eqb, ltb, leb}
+use borrow.Author.Tests.{eqb-true, eqb-false, ltb-true, ltb-false}
+use lib.Dec.{eqb, ltb}
 use lib.ListN.{length, get_or, set, drop, length-set, length-drop, get_or-eq_default}
 use lib.Pow.{pow_pos, pow-add, shl_exact, shr_lt, shr-shr}
 use lib.Pow as pow
 use lib.Seq.{get_or-set_same, get_or-set_other, set_out, get_or-drop}
 use Rattle.laws.specs.Bits.{field_of, with_field}
 use Rattle.laws.proofs.Bits.{field_same, field_above, field_below}
-use Rattle.laws.specs.Index.{pick, tabulate}
+use Rattle.laws.specs.Index.{tabulate}
 use Rattle.laws.proofs.Tabulate.{length_tabulate, get_d_tabulate, is_tabulate}
 use Rattle.bits.specs.Bits.{bit_at, with_bit, bits_from, with_bits}
 

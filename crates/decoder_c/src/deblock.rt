@@ -225,7 +225,7 @@ pub extern "C" fn lomsakeun_deblock_band(
 ) -> u8
     ensures { Gives banding.outcome
         (record {
-          next = next.entry.now;
+          next = next.old;
           band = band;
           w = w;
           h = h;
@@ -243,7 +243,7 @@ pub extern "C" fn lomsakeun_deblock_band(
           settings = settings_of limit u_offset v_offset colour;
         })
         (record {
-          reading = record { number = result; vertical = vertical_count.new; horizontal = horizontal_count.new; next = next.exit.now };
+          reading = record { number = result; vertical = vertical_count.new; horizontal = horizontal_count.new; next = next.new };
           y = y.new;
           u = u.new;
           v = v.new;

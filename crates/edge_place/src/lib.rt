@@ -2,6 +2,7 @@
 // once; where they are not in the maps, its place and its marks are 0.
 // The Rust beside it: df.rs, evc_get_tbl_qp_to_st.
 #![tactic(auto)]
+
 ghost use Rattle.std.specs.Prelude.{◌≡◌, ◌/◌, ◌≤◌, ◌<◌, min, length};
 ghost use Rattle.laws.specs.Bits.{field_of};
 ghost use Rattle.split.specs.Edges.{edge, pass_of};

@@ -1,5 +1,6 @@
 // A map of edge rows: filled, and tested. The Rust has none: it works each row out where it filters the edge.
 #![tactic(auto)]
+
 ghost use Rattle.std.specs.Prelude.{◌≡◌, ◌≤◌};
 ghost use Rattle.laws.specs.Call.{Gives};
 ghost use Rattle.def.specs.Answers.{answer_number};

@@ -4,7 +4,7 @@ use native.Mathlib.Nat.{lt_of_le_of_lt, mul-le-mul}
 use native.Mathlib.Omega.{arith}
 use lib.Dec.{eqb, lit<}
 use borrow.Author.Rules.{rules}
-use borrow.Author.Tests.{not-false, eq-eqb, ne_eqb}
+use borrow.Author.Tests.{eq-eqb, ne_eqb}
 use Rattle.laws.specs.Call.{unless}
 use Rattle.laws.proofs.Calls.{stops, goes_on, at_refusal, past_refusal}
 use Rattle.def.specs.Blocks.{block_ok}

@@ -1,7 +1,6 @@
 -- `band_rows::rows_above` meets its contract: band 0 has none above it. Assumes nothing.
 use Prim.Native.Nat.{ℕ, zero, suc}
 use mathlib.Core.Path.{◌≡◌, refl, sym, ap}
-use native.Mathlib.Omega.{arith}
 use Rattle.band_rows.specs.Rows.{rows_above}
 use Rattle.band_rows.proofs.rows_above.Statement.{statement}
 use Rattle.band_rows.proofs.rows_above.Tie as tie

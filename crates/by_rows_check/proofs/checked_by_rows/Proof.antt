@@ -1,7 +1,6 @@
 -- `by_rows_check::checked_by_rows` meets its contract: a row of checks, those of `df_check` among them. Assumes nothing.
 use mathlib.Core.Path.{sym, ◌∙◌}
 use borrow.Author.Rules.{rules}
-use borrow.Author.Tests.{not-false}
 use Rattle.def.proofs.Sizes.{sized}
 use Rattle.by_rows_check.specs.Checks.{Input}
 use Rattle.by_rows_check.proofs.Ladder.{no_size, no_length, no_picture, none_lent, wrong_map, right_map}

@@ -3,7 +3,6 @@
 use mathlib.Core.Path.{◌≡◌, sym, ap, ◌∙◌}
 use mathlib.Core.Bool.{true, ◌||◌}
 use borrow.Author.Rules.{rules}
-use borrow.Author.Tests.{not-true, not-false}
 use lib.IntN.{ℤ}
 use Rattle.chroma_qp_check.specs.Check.{Input, input_start, input_lengths_ok, points_ok, pivots_ok}
 use Rattle.chroma_qp_check.proofs.Checks.{at_length, at_first_points, at_second_points, at_first_pivots, at_second_pivots, past_all, Long, long}

@@ -6,7 +6,7 @@ use native.Mathlib.Omega.{arith}
 use lib.Bits.{bit_and}
 use lib.Dec.{leb, eqb}
 use borrow.Author.Rules.{rules}
-use borrow.Author.Tests.{not-true, not-false, lt-leb}
+use borrow.Author.Tests.{lt-leb}
 use Rattle.laws.proofs.Calls.{all_fails}
 use Rattle.def.specs.Blocks.{block_side_ok, block_ok, block_tests}
 use Rattle.def.proofs.Blocks.{block_side, below_side, ends_inside}

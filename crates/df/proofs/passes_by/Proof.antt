@@ -29,8 +29,7 @@ few s =
 
 -- the start, from where both passes were made
 abbrev begun : tie.After-slice_known-10-1 → tie.Start
-begun c =
-    c.before.before.before.before.before.before.before.before.before.before.before.before.before.before
+begun c = c.before.before.before.before.before.before.before.before.before.before.before.before.before.before.before.before.before.before.before.before.before.before.before.before.before.before.before
 
 fits : {n : ℕ} → n ≤ 1048576 → Fits w64 n
 fits l = omega arith

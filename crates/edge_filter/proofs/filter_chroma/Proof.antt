@@ -41,7 +41,7 @@ loop_again c =
     let t = c.turn_chroma-i.ensures in
     let k = c.turn_chroma-i.auto in
     let l = c.loop-i.invariant in
-    (t.0.within, k.1.1.0 ∙ l.1, k.1.1.1.0 ∙ l.2, t.0.done _ l.3, t.1.done _ l.4)
+    (t.0.within, k.u ∙ l.1, k.v ∙ l.2, t.0.done _ l.3, t.1.done _ l.4)
 
 returns : tie.Need-returns invariant-loop decreases-loop
 returns c =

@@ -49,7 +49,7 @@ abbrev first : tie.After-two_chroma → tie.Else-u0-v0
 first c = c.before.before.before.before.before.before.before.before
 
 abbrev start : tie.Else-u0-v0 → tie.Start
-start c = c.before.before.before.before.before.before
+start c = c.before.before.before.before.before.before.before
 
 own_loud : (c : tie.Else-u0-v0) → let a = (start c).args in quiet_chroma a.entries.now a.places.now a.i ≡ false
 own_loud c =

@@ -1,12 +1,10 @@
 -- `edges::root_list` meets its contract: 1, 2, then what `leaves` finds; and the edges of the leaves that it listed. Assumes nothing.
-use mathlib.Core.Bool.{Bool, true, false, not}
+use mathlib.Core.Bool.{true, false}
 use mathlib.Core.Path.{◌≡◌, refl, sym, ◌∙◌}
-use Prim.Native.Nat.{◌+◌, ◌*◌, ◌/◌, ◌≤◌}
+use Prim.Native.Nat.{◌+◌, ◌/◌, ◌≤◌}
 use native.Mathlib.Omega.{arith}
 use borrow.Author.Rules.{rules}
-use borrow.Author.Tests.{not-false, not-true}
-use lib.ListN.{length}
-use Rattle.def.proofs.Sizes.{Sized, sized}
+use Rattle.def.proofs.Sizes.{sized}
 use Rattle.def.specs.Picture.{size_ok}
 use Rattle.split.specs.RootCall.{Input}
 use Rattle.edges.proofs.RootLists.{Early, size_refused, top_refused, long_refused, leaves_refused, root_ready, root_done}

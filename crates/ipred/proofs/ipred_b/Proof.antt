@@ -2,7 +2,6 @@
 use mathlib.Core.Path.{◌≡◌, sym, ◌∙◌}
 use mathlib.Core.Bool.{true}
 use borrow.Author.Rules.{rules}
-use borrow.Author.Tests.{not-false}
 use Rattle.def.specs.Blocks.{component_side_ok}
 use Rattle.def.proofs.Sides.{component_side}
 use Rattle.ipred.proofs.Outcomes.{side_refused, length_refused, goes_to_data, lent}

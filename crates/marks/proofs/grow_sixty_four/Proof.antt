@@ -1,6 +1,6 @@
 -- `marks::grow_sixty_four` meets its contract: the block's own digit, and those of its parts, of side 32. The loop's invariant: the parts so far are taken. Assumes nothing.
 use mathlib.Core.List.{List}
-use mathlib.Core.Path.{◌≡◌, refl}
+use mathlib.Core.Path.{◌≡◌}
 use Prim.Native.Nat.{ℕ, ◌-◌, ◌/◌, ◌≤◌, zero-le}
 use native.Mathlib.Omega.{arith}
 use borrow.Author.Rules.{rules}

@@ -1,5 +1,5 @@
 -- `marks::leaf` meets its contract. Assumes nothing.
-use mathlib.Core.Path.{◌≡◌, sym, ap}
+use mathlib.Core.Path.{sym, ap}
 use borrow.Author.Rules.{rules}
 use Rattle.split.proofs.Blocks.{past_x, past_y, inside}
 use Rattle.split.specs.Walk.{Walk}

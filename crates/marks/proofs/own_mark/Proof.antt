@@ -1,6 +1,5 @@
 -- `marks::own_mark` meets its contract: a block that starts outside the picture has no mark, and any other has one. Assumes nothing.
 use Prim.Native.Nat.{◌<◌}
-use native.Mathlib.Omega.{arith}
 use borrow.Author.Rules.{rules}
 use Rattle.split.proofs.Blocks.{started}
 use Rattle.marks.proofs.Marking.{opened_none, opened}

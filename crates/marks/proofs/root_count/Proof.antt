@@ -1,9 +1,7 @@
 -- `marks::root_count` meets its contract. Assumes nothing.
-use mathlib.Core.Path.{◌≡◌, sym, ap, ◌∙◌}
+use mathlib.Core.Path.{sym, ap, ◌∙◌}
 use borrow.Author.Rules.{rules}
-use borrow.Author.Tests.{not-true, not-false}
 use mathlib.Core.Bool.{Bool, true, false}
-use Prim.Native.Nat.{ℕ}
 use Rattle.def.specs.Picture.{size_ok, root_count}
 use Rattle.def.proofs.Sizes.{sized}
 use Rattle.laws.specs.Index.{pick}

@@ -1,6 +1,6 @@
 -- The digits of the block of 64 that root i is. Assumes nothing.
 use mathlib.Core.Path.{◌≡◌}
-use Prim.Native.Nat.{◌-◌, ◌≤◌}
+use Prim.Native.Nat.{◌-◌}
 use native.Mathlib.Omega.{arith}
 use Rattle.marks_rules.specs.Marks.{blocks_in}
 use Rattle.split.proofs.Roots.{few_roots}

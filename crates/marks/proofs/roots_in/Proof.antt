@@ -1,6 +1,6 @@
 -- `marks::roots_in` meets its contract: at most 64 roots stand along a side, so their number fits. Assumes nothing.
 use mathlib.Core.Path.{◌≡◌, sym, ap₂, subst}
-use Prim.Native.Nat.{ℕ, ◌*◌, ◌≤◌, ◌<◌}
+use Prim.Native.Nat.{ℕ, ◌*◌, ◌≤◌}
 use native.Mathlib.Omega.{arith}
 use borrow.Author.Rules.{rules}
 use Rattle.def.specs.Picture.{root_count}

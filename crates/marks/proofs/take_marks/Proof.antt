@@ -1,16 +1,13 @@
 -- `marks::take_marks` meets its contract: 1, 2, 8, and then what the digits are refused for; the marks are copied only where nothing was. Assumes nothing.
-use mathlib.Core.Path.{◌≡◌, refl, sym, ap, ◌∙◌, subst}
-use Prim.Native.Nat.{ℕ, ◌+◌, ◌-◌, ◌≤◌, ◌<◌}
+use mathlib.Core.Path.{◌≡◌, refl, sym, ◌∙◌}
+use Prim.Native.Nat.{◌-◌, ◌≤◌, ◌<◌}
 use native.Mathlib.Omega.{arith}
 use borrow.Author.Rules.{rules}
-use borrow.Author.Tests.{not-false, lt-ltb, le-ltb, eq-eqb, ne_eqb}
-use Rattle.bits.specs.Bits.{bits_from}
+use borrow.Author.Tests.{lt-ltb, le-ltb, eq-eqb, ne_eqb}
 use Rattle.def.specs.Picture.{root_count}
 use Rattle.def.proofs.Sizes.{Sized, sized}
 use Rattle.def.specs.declared.Refusal.TheVariants.{Size, Length, Block}
 use Rattle.laws.proofs.Calls.{stops, goes_on, at_refusal, past_refusal}
-use Rattle.marks_rules.specs.Descent.{root_descent}
-use Rattle.marks.specs.Stored.{Grew}
 use Rattle.marks.specs.TakeCall as take-call
 use Rattle.marks.proofs.Calls.{take_refused, taken_few, taken_long, take_stopped, take_done}
 use Rattle.marks.proofs.take_marks.Statement.{statement}

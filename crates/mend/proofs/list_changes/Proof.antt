@@ -1,13 +1,12 @@
 -- `mend::list_changes` meets its contract: the changes of the marks before j are listed. Assumes nothing.
-use mathlib.Core.List.{List, ◌++◌}
-use mathlib.Core.Path.{◌≡◌, refl, sym, ap, ap₂, ◌∙◌, subst}
-use Prim.Native.Nat.{ℕ, ◌+◌, ◌-◌, ◌*◌, ◌/◌, ◌≤◌, ◌<◌, zero-le}
+use mathlib.Core.Path.{◌≡◌, refl, sym, ap, ap₂, ◌∙◌}
+use Prim.Native.Nat.{ℕ, ◌+◌, ◌-◌, ◌/◌, ◌≤◌, ◌<◌, zero-le}
 use native.Mathlib.Nat.{le_antisymm}
 use native.Mathlib.Omega.{arith}
 use borrow.Author.Rules.{rules}
 use lib.ListN.{length, get_or}
 use Rattle.marks.specs.Stored.{mark_from, marks_in}
-use Rattle.mend.specs.Changes.{Change, change_of, changes_in, Listed}
+use Rattle.mend.specs.Changes.{change_of, changes_in, Listed}
 use Rattle.mend.proofs.Lists.{listed_none, listed_as, listed_then, listed_long, changes_none, changes_more, change_few}
 use Rattle.mend.proofs.list_changes.Statement.{statement}
 use Rattle.mend.proofs.list_changes.Tie as tie

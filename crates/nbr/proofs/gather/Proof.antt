@@ -1,6 +1,5 @@
 -- `nbr::gather` meets its contract: whether its samples pass tells whether the run is written. Assumes nothing.
 use borrow.Author.Rules.{rules}
-use borrow.Author.Tests.{not-true, not-false}
 use Rattle.nbr.proofs.Borders.{reads_of}
 use Rattle.nbr.proofs.Gathered.{samples_refused, samples_passed}
 use Rattle.nbr.proofs.gather.Statement.{statement}

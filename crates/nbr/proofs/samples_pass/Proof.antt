@@ -1,6 +1,5 @@
 -- `nbr::samples_pass` meets its contract: where the samples near the block pass, so does the run; and else the three arms are joined. Assumes nothing.
 use native.Mathlib.Omega.{arith}
-use borrow.Author.Rules.{rules}
 use borrow.Author.Tests.{le-leb}
 use Rattle.nbr.proofs.Borders.{near_of, near_joined, units_joined}
 use Rattle.nbr.proofs.samples_pass.Statement.{statement}

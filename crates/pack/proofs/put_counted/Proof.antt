@@ -1,12 +1,9 @@
 -- `pack::put_counted` meets its contract: the room is tested, and then the digits and the zeros after them are put. Assumes nothing.
-use mathlib.Core.Path.{◌≡◌, refl, sym, ap, ◌∙◌}
-use Prim.Native.Nat.{ℕ, ◌+◌, ◌-◌, ◌*◌, ◌/◌, ◌≤◌, ◌<◌, min}
+use mathlib.Core.Path.{◌≡◌, refl}
+use Prim.Native.Nat.{ℕ, ◌+◌, ◌-◌, ◌*◌, ◌/◌, ◌≤◌, ◌<◌}
 use native.Mathlib.Omega.{arith}
 use borrow.Author.Rules.{rules}
-use lib.ListN.{length}
 use Rattle.marks_rules.proofs.Pictures.{few_digits}
-use Rattle.marks_rules.specs.Pictures.{picture_digits}
-use Rattle.pack_rules.specs.Form.{bits_in, end_of}
 use Rattle.def.proofs.Sizes.{sized}
 use Rattle.split.specs.Picture.{roots}
 use Rattle.split.proofs.Roots.{roots_units}

@@ -4,12 +4,12 @@
 -- The splits' slice is Copy: what it owns is had twice, once for the callee and once for the exit. All that the proof knows of `put_map` is that it meets its contract.
 -- Assumes nothing.
 use mathlib.Core.Path.{◌≡◌, refl, ap}
-use Prim.Native.Nat.{ℕ, ◌<◌, ◌^◌, ◌+◌}
+use Prim.Native.Nat.{ℕ, ◌<◌, ◌^◌}
 use mathlib.Core.List.{[], ◌∷◌, List}
 use lib.ListN.{length}
 use seplogic.Ra.Ura.{Ura}
 use seplogic.Ra.TreeShare.{full_share}
-use mir.Syntax.{named, erased, w8, w64, ty_int}
+use mir.Syntax.{named, erased, w64}
 use mir.Val.{Val, vint, vptr, vstruct, vnil, vcons}
 use base.Logic.{SProp, ent, sep, emp, via, fst∗, id⊢}
 use base.Fml.{Lft, Share, GName, Fml, ftrue, fsep, fat, flft, fobs, fbor}
@@ -45,7 +45,7 @@ use denote.Triple.Statement.{Contract, Triple}
 use denote.Triple.Call.{calls_at}
 use denote.Triple.Clauses.{ensured, lasts}
 use denote.Triple.Table.{entered, cited}
-use denote.Triple.Walked.{says, needs, Stays, stay_ref, stay_none, stay_none_slice, walk_of, Goes-ref, Goes-none, Goes-none_slice, Walks, ends_at, walked, walk_Meets}
+use denote.Triple.Walked.{says, Stays, stay_ref, stay_none, stay_none_slice, walk_of, Goes-ref, Goes-none, Goes-none_slice, Walks, ends_at, walked, walk_Meets}
 use denote.Exit.{yes}
 use denote.Signature.{Slot, plain, named_lft}
 use denote.Signature.Struct.{makes}

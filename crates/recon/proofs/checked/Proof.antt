@@ -1,7 +1,6 @@
 -- `recon::checked` meets its contract: a row of checks. `past-K` is what check K, passed, leaves of the row. Assumes nothing.
 use mathlib.Core.Path.{◌≡◌, refl, sym, ◌∙◌}
 use borrow.Author.Rules.{rules}
-use borrow.Author.Tests.{not-false}
 use lib.ListN.{length}
 use Rattle.laws.specs.Call.{unless}
 use Rattle.laws.proofs.Calls.{stops, goes_on}

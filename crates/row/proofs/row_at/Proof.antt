@@ -2,7 +2,6 @@
 use mathlib.Core.Path.{sym, ◌∙◌}
 use native.Mathlib.Omega.{arith}
 use borrow.Author.Rules.{rules}
-use borrow.Author.Tests.{not-true, not-false}
 use Rattle.row.proofs.Units.{unit_there, none_q, none_p, both_there}
 use Rattle.row.proofs.row_at.Statement.{statement}
 use Rattle.row.proofs.row_at.Tie as tie

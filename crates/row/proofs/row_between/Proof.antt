@@ -2,7 +2,6 @@
 use mathlib.Core.Path.{◌≡◌}
 use native.Mathlib.Omega.{arith}
 use borrow.Author.Rules.{rules}
-use borrow.Author.Tests.{not-false}
 use Prim.Native.Nat.{ℕ}
 use Rattle.line.specs.Row.{motion_row}
 use Rattle.line.proofs.Rows.{either_intra, either_coded, by_motion}

@@ -2,7 +2,6 @@
 use mathlib.Core.Path.{sym, ◌∙◌}
 use native.Mathlib.Omega.{arith}
 use borrow.Author.Rules.{rules}
-use borrow.Author.Tests.{not-true, not-false}
 use Rattle.row.proofs.Runs.{run_there, no_room, none_at_q, none_at_p, all_there, put_none, put_all}
 use Rattle.row.proofs.rows_at.Statement.{statement}
 use Rattle.row.proofs.rows_at.Tie as tie

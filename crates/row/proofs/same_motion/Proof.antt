@@ -1,6 +1,6 @@
 -- `row::same_motion` meets its contract: four comparisons of numbers. Assumes nothing.
 use Prim.Native.Nat.{◌<◌}
-use mathlib.Core.Path.{◌≡◌, refl}
+use mathlib.Core.Path.{◌≡◌}
 use borrow.Author.Rules.{rules}
 use lib.IntN.{ℤ}
 use lib.Signed.{mag}

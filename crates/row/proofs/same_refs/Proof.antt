@@ -1,6 +1,6 @@
 -- `row::same_refs` meets its contract: two comparisons of bytes. Assumes nothing.
 use Prim.Native.Nat.{◌<◌}
-use mathlib.Core.Path.{◌≡◌, refl}
+use mathlib.Core.Path.{◌≡◌}
 use borrow.Author.Rules.{rules}
 use lib.IntN.{ℤ}
 use lib.Signed.{mag}

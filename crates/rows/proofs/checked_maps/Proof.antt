@@ -1,7 +1,6 @@
 -- `rows::checked_maps` meets its contract: a row of two checks. Assumes nothing.
 use mathlib.Core.Path.{refl, sym, ◌∙◌}
 use borrow.Author.Rules.{rules}
-use borrow.Author.Tests.{not-false}
 use Rattle.laws.proofs.Calls.{stops, goes_on}
 use Rattle.def.proofs.Sizes.{sized}
 use Rattle.rows_rules.specs.Checks.{check_maps}

@@ -2,7 +2,6 @@
 use Prim.Native.Nat.{◌+◌, ◌≤◌}
 use native.Mathlib.Omega.{arith}
 use borrow.Author.Rules.{rules}
-use borrow.Author.Tests.{not-true, not-false}
 use lib.ListN.{length}
 use Rattle.sheet_lines.proofs.Forms.{line_fits, field_cut, field_no, field_is}
 use Rattle.sheet_lines.proofs.line_at.Statement.{statement}

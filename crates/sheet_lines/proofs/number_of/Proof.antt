@@ -2,7 +2,6 @@
 use mathlib.Core.Path.{◌≡◌, sym, ◌∙◌}
 use mathlib.Core.Bool.{true}
 use borrow.Author.Rules.{rules}
-use borrow.Author.Tests.{not-true, not-false}
 use Rattle.sheet_lines.specs.Lines.{starts_with}
 use Rattle.sheet_lines.proofs.Forms.{key_fits, number_no_key, number_no_digits, number_is}
 use Rattle.sheet_lines.proofs.number_of.Statement.{statement}

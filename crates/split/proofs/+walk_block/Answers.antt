@@ -1,10 +1,8 @@
 -- Each way through the walk of a block: outside the picture, a byte that is none, a leaf, and four parts. Assumes nothing.
 use mathlib.Core.Path.{◌≡◌, refl, subst, ◌∙◌}
-use Prim.Native.Nat.{ℕ, ◌+◌, ◌-◌, ◌*◌, ◌/◌, ◌≤◌, ◌<◌, zero-le}
+use Prim.Native.Nat.{ℕ, ◌+◌, ◌-◌, ◌/◌, ◌<◌, zero-le}
 use native.Mathlib.Omega.{arith}
-use borrow.Author.Rules.{rules}
-use lib.ListN.{length}
-use Rattle.split.specs.Stored.{Block, Stored}
+use Rattle.split.specs.Stored.{Stored}
 use Rattle.split.specs.Walk.{walk}
 use Rattle.split.proofs.Blocks.{cut, as_eight, room_eight, room_one, only_one, has_byte, not_eight, within, skip, started, at_bad, at_leaf}
 use Rattle.split.proofs.Parts.{no_part, part_block, part_room, part_more, part_refused, whole}

@@ -2,7 +2,7 @@
 use mathlib.Core.Path.{sym, ap, ◌∙◌}
 use Prim.Native.Nat.{ℕ, ◌*◌}
 use borrow.Author.Rules.{rules}
-use borrow.Author.Tests.{not-false, eq-eqb, ne_eqb}
+use borrow.Author.Tests.{eq-eqb, ne_eqb}
 use Rattle.def.proofs.Sizes.{sized}
 use Rattle.def.specs.declared.Answer.TheVariants.{Refused}
 use Rattle.def.specs.declared.Refusal.TheVariants.{Size, Length}

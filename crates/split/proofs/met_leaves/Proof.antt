@@ -3,7 +3,7 @@ use mathlib.Core.Path.{refl, sym, ap, ◌∙◌}
 use Prim.Native.Nat.{◌/◌, ◌≤◌, ◌<◌}
 use native.Mathlib.Omega.{arith}
 use borrow.Author.Rules.{rules}
-use borrow.Author.Tests.{not-false, lt-ltb, le-ltb}
+use borrow.Author.Tests.{lt-ltb, le-ltb}
 use Rattle.def.specs.Picture.{root_count}
 use Rattle.def.proofs.Sizes.{Sized, sized}
 use Rattle.laws.proofs.Calls.{stops, goes_on, at_refusal, past_refusal}

@@ -1,5 +1,5 @@
 -- `strength::colour_entries` meets its contract: luma's entries, then U's rows and V's, copied from them. Assumes nothing.
-use mathlib.Core.Path.{refl, ap, ◌∙◌}
+use mathlib.Core.Path.{ap, ◌∙◌}
 use native.Mathlib.Omega.{arith}
 use borrow.Author.Rules.{rules}
 use lib.ListN.{length}

@@ -7,7 +7,7 @@ use lib.ListN.{get_or, get_or-eq_default}
 use mir.Syntax.{w8}
 use Rattle.laws.specs.Clip.{clip_z, max_z, min_z, held_to}
 use Rattle.laws.proofs.Widths.{back}
-use Rattle.strength.specs.ChromaQp.{index_of, mapped_z, held_qp, mapped}
+use Rattle.strength.specs.ChromaQp.{index_of, mapped_z, held_qp}
 use Rattle.strength.proofs.mapped.Statement.{statement}
 use Rattle.strength.proofs.mapped.Tie as tie
 

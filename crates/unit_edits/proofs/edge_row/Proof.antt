@@ -3,7 +3,6 @@ use Prim.Native.Nat.{ℕ, ◌-◌}
 use mathlib.Core.Path.{sym, ap, ◌∙◌}
 use native.Mathlib.Omega.{arith}
 use borrow.Author.Rules.{rules}
-use borrow.Author.Tests.{not-false}
 use Rattle.rows_rules.proofs.Sides.{before, no_edge, some_edge}
 use Rattle.unit_edits.specs.Sides.{pass_of}
 use Rattle.unit_edits.proofs.edge_row.Statement.{statement}

@@ -1,7 +1,6 @@
 -- `unit_maps::tell_units` meets its contract: nothing where the test fails, and else the block. Assumes nothing.
 use mathlib.Core.Path.{sym, ◌∙◌}
 use borrow.Author.Rules.{rules}
-use borrow.Author.Tests.{not-true, not-false}
 use Rattle.unit_maps.specs.Maps.{Inside}
 use Rattle.unit_maps.proofs.Inside.{inside, told_none, told_all}
 use Rattle.unit_maps.proofs.tell_units.Statement.{statement}

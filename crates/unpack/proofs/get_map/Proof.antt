@@ -1,10 +1,10 @@
 -- `unpack::get_map` meets its contract: 1, 2, a position past the buffer, and then what the bits are. Assumes nothing.
 use mathlib.Core.Bool.{true}
 use mathlib.Core.Path.{◌≡◌, refl, sym, ap, ◌∙◌}
-use Prim.Native.Nat.{ℕ, ◌+◌, ◌*◌, ◌/◌, ◌≤◌, ◌<◌, min}
+use Prim.Native.Nat.{ℕ, ◌+◌, ◌*◌, ◌/◌, ◌≤◌, ◌<◌}
 use native.Mathlib.Omega.{arith}
 use borrow.Author.Rules.{rules}
-use borrow.Author.Tests.{not-false, ne_eqb}
+use borrow.Author.Tests.{ne_eqb}
 use lib.ListN.{length}
 use Rattle.def.specs.Picture.{size_ok, root_count}
 use Rattle.def.specs.declared.Refusal.TheVariants.{Size, Length}
@@ -12,7 +12,7 @@ use Rattle.laws.proofs.Calls.{stops, goes_on, at_refusal}
 use Rattle.marks.proofs.Callers.{roots_told}
 use Rattle.pack_rules.specs.Form.{bits_in}
 use Rattle.pack_rules.specs.GetCall as get-call
-use Rattle.pack_rules.specs.Taken.{Mapped, Span}
+use Rattle.pack_rules.specs.Taken.{Mapped}
 use Rattle.unpack.proofs.Calls.{get_refused, get_past}
 use Rattle.pack.proofs.Writing.{few_of}
 use Rattle.unpack.proofs.get_map.Statement.{statement}

@@ -1,23 +1,21 @@
 -- `unpack::get_taken` meets its contract: what the digits are refused for, the fill bits, and then the map. Assumes nothing.
 use mathlib.Core.Bool.{true, false}
 use mathlib.Core.List.{List}
-use mathlib.Core.Path.{◌≡◌, refl, sym, ap, ap₂, ◌∙◌, subst}
-use Prim.Native.Nat.{ℕ, ◌+◌, ◌-◌, ◌*◌, ◌/◌, ◌≤◌, ◌<◌}
+use mathlib.Core.Path.{◌≡◌, sym, ap, ap₂, ◌∙◌}
+use Prim.Native.Nat.{ℕ, ◌+◌, ◌-◌, ◌*◌, ◌/◌, ◌≤◌}
 use native.Mathlib.Omega.{arith}
 use borrow.Author.Rules.{rules}
-use borrow.Author.Tests.{not-true, not-false}
 use lib.ListN.{length}
 use Rattle.bits.specs.Bits.{bits_from}
 use Rattle.def.proofs.Sizes.{sized}
 use Rattle.def.specs.declared.Answer.TheVariants.{Done}
 use Rattle.marks.specs.Stored.{counted}
 use Rattle.marks.proofs.Growing.{counted_done, counted_refused}
-use Rattle.marks_rules.specs.Descent.{Descent}
 use Rattle.marks_rules.specs.Marks.{blocks_in}
 use Rattle.marks_rules.specs.Pictures.{upto, map_of}
 use Rattle.marks_rules.proofs.Descents.{few_grown, few_descents}
 use Rattle.marks_rules.specs.Descent.{root_descent}
-use Rattle.pack_rules.specs.Form.{start_of, end_of, digits_from, zeros_ok, fill_ok}
+use Rattle.pack_rules.specs.Form.{digits_from, zeros_ok, fill_ok}
 use Rattle.pack_rules.specs.GetCall as get-call
 use Rattle.split.specs.Picture.{roots, root_x, root_y}
 use Rattle.split.proofs.Roots.{roots_units}

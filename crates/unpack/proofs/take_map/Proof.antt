@@ -1,11 +1,11 @@
 -- `unpack::take_map` meets its contract: 1, 2, places that no slice has, and then what the digits are. Assumes nothing.
 use mathlib.Core.Bool.{true}
-use mathlib.Core.Path.{◌≡◌, refl, sym, ap, ap₂, ◌∙◌}
+use mathlib.Core.Path.{◌≡◌, sym, ap, ap₂, ◌∙◌}
 use mathlib.Core.List.{List}
 use Prim.Native.Nat.{ℕ, ◌+◌, ◌*◌, ◌/◌, ◌≤◌}
 use native.Mathlib.Omega.{arith}
 use borrow.Author.Rules.{rules}
-use borrow.Author.Tests.{not-true, not-false, ne_eqb, leb-true}
+use borrow.Author.Tests.{ne_eqb, leb-true}
 use lib.Dec.{leb}
 use lib.ListN.{length}
 use Rattle.def.proofs.Sizes.{sized}

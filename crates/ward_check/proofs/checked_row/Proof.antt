@@ -1,7 +1,6 @@
 -- `ward_check::checked_row` meets its contract: a row of checks. Assumes nothing.
 use mathlib.Core.Path.{sym, ◌∙◌}
 use borrow.Author.Rules.{rules}
-use borrow.Author.Tests.{not-false}
 use Rattle.decoder.specs.Face.answers.{Done}
 use Rattle.ward_check.proofs.Ladder.{sides, inside, at_size, at_length, at_window, at_turn, at_end}
 use Rattle.ward_check.proofs.checked_row.Statement.{statement}

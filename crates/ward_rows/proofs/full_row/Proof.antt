@@ -1,6 +1,5 @@
 -- `ward_rows::full_row` meets its contract: the samples are tested, and then put. Assumes nothing.
 use Rattle.std.proofs.Common.{sym, refl, ◌∙◌, rules}
-use borrow.Author.Tests.{not-true, not-false}
 use Rattle.ward_rows.proofs.Stores.{run_small}
 use Rattle.ward_rows.proofs.full_row.Statement.{statement}
 use Rattle.ward_rows.proofs.full_row.Tie as tie

@@ -1,6 +1,6 @@
 -- `ward_rows::preview_row` meets its contract: the samples of both rows are tested, and then put. Assumes nothing.
 use Rattle.std.proofs.Common.{◌≡◌, ◌*◌, ◌/◌, ◌&&◌, sym, refl, ◌∙◌, ap₂, arith, rules}
-use borrow.Author.Tests.{not-true, not-false}
+use borrow.Author.Tests.{not-false}
 use Rattle.laws.proofs.Bools.{both_left, both_right}
 use Rattle.ward_rows.specs.Samples.{run_ok}
 use Rattle.ward_rows.proofs.Stores.{run_small, small_less}

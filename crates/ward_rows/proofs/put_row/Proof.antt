@@ -1,6 +1,5 @@
 -- `ward_rows::put_row` meets its contract: nothing where the test fails, and else by the run a row of the plane or two. Assumes nothing.
 use Rattle.std.proofs.Common.{◌≡◌, ◌+◌, ◌*◌, ◌≤◌, true, length, sym, ◌∙◌, arith, rules}
-use borrow.Author.Tests.{not-true, not-false}
 use Rattle.ward_rows.specs.Rows.{lies}
 use Rattle.ward_rows.proofs.Runs.{Within, within, full_inside, full_room, preview_inside, preview_room, put_none, full_put, preview_put}
 use Rattle.ward_rows.proofs.put_row.Statement.{statement}

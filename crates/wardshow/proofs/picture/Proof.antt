@@ -1,5 +1,5 @@
 -- `wardshow::picture` is safe and ends: rows are counted, and the buffer keeps its length. Assumes nothing.
-use Rattle.std.proofs.Common.{◌≡◌, ◌-◌, length, refl, rules}
+use Rattle.std.proofs.Common.{◌≡◌, ◌-◌, length, rules}
 use Rattle.wardshow.proofs.picture.Statement.{statement}
 use Rattle.wardshow.proofs.picture.Tie as tie
 

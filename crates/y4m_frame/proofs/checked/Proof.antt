@@ -2,7 +2,6 @@
 use mathlib.Core.Path.{sym, ◌∙◌}
 use native.Mathlib.Omega.{arith}
 use borrow.Author.Rules.{rules}
-use borrow.Author.Tests.{not-false}
 use Rattle.def.proofs.Sizes.{Sized, sized}
 use Rattle.y4m_rules.proofs.Runs.{area, quarter}
 use Rattle.y4m_frame.proofs.Answers.{at_size, at_length, at_frame}

@@ -1,5 +1,4 @@
 -- `y4m_frame::checked_frame` meets its contract: the line, the length, and the samples. Assumes nothing.
-use Prim.Native.Nat.{◌+◌, ◌*◌}
 use native.Mathlib.Omega.{arith}
 use borrow.Author.Rules.{rules}
 use Rattle.y4m_frame.proofs.Answers.{at_line, at_short, at_sample, at_read}

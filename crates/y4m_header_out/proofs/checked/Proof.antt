@@ -6,7 +6,6 @@ use borrow.Author.Rules.{rules}
 use borrow.Author.Tests.{eq-eqb, ne_eqb}
 use Rattle.laws.proofs.Calls.{at_refusal, past_refusal, stops, goes_on}
 use Rattle.def.specs.Picture.{size_ok}
-use Rattle.def.specs.declared.Answer.{Answer}
 use Rattle.def.specs.declared.Answer.TheVariants.{Done, Refused}
 use Rattle.def.specs.declared.Format.{Format}
 use Rattle.def.specs.declared.Refusal.TheVariants.{Size, Length, Setting}

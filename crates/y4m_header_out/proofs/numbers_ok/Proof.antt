@@ -1,6 +1,6 @@
 -- `y4m_header_out::numbers_ok` meets its contract: by the chroma format. Assumes nothing.
 use mathlib.Core.Path.{◌≡◌}
-use mathlib.Core.Bool.{Bool, true, false, ◌&&◌}
+use mathlib.Core.Bool.{Bool, false, ◌&&◌}
 use Prim.Native.Nat.{ℕ}
 use borrow.Author.Rules.{rules}
 use Rattle.def.specs.declared.Format.{Format}

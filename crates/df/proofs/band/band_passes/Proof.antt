@@ -87,7 +87,7 @@ module _ (f : Format) (w n k : ℕ) (e : k ≡ in_format f (4 * n)) (y u v words
       }
 
 abbrev start : tie.After-passes_by → tie.Start
-start d = d.before.before.before.before.before.before.before.before.before.before.before.before.before.before.before.before
+start d = d.before.before.before.before.before.before.before.before.before.before.before.before.before.before.before
 
 -- no map of edge rows is lent
 no_rows : (w : ℕ) (words : List ℕ) (motion refs : List ℤ) → RowsLent w words motion refs []

@@ -129,9 +129,9 @@ loop_again c =
     let now = current c.before.before.before.before.before.before.before.before.before.before.before.before.before.before.before.before.before.before.before.before.before.before.before.before.before.before.before in
     let alike = (u_plane now).long ∙ sym (v_plane now).long in (
       one_more c.loop-i-test.true,
-      ky.1.1.0 ∙ l.invariant.1,
-      k.1.1.1.0 ∙ l.invariant.2,
-      k.1.1.1.1.0 ∙ l.invariant.3,
+      ky.y ∙ l.invariant.1,
+      k.u ∙ l.invariant.2,
+      k.v ∙ l.invariant.3,
       r.long,
       places_long c.before.before.before.before.before.before.before.before.before.before.before.before.before.before.before.before.before.before.before,
       marks_long c.before.before.before.before.before.before.before.before.before.before.before.before.before.before.before.before.before.before.before,

@@ -2,7 +2,6 @@
 use mathlib.Core.Bool.{true}
 use mathlib.Core.Path.{◌≡◌, sym, subst, ◌∙◌}
 use borrow.Author.Rules.{rules}
-use borrow.Author.Tests.{not-false}
 use Rattle.laws.proofs.Calls.{stops, goes_on}
 use Rattle.def.specs.Picture.{size_ok}
 use Rattle.def.proofs.Sizes.{sized}

@@ -3,7 +3,6 @@ use mathlib.Core.Bool.{true}
 use mathlib.Core.Path.{◌≡◌, sym, ◌∙◌}
 use native.Mathlib.Omega.{arith}
 use borrow.Author.Rules.{rules}
-use borrow.Author.Tests.{not-false}
 use Rattle.laws.proofs.Calls.{stops, goes_on}
 use Rattle.def.specs.Picture.{size_ok}
 use Rattle.df_check.specs.Checks.{check_of}

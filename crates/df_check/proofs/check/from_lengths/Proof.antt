@@ -1,11 +1,10 @@
 -- `df_check::check::from_lengths` meets its contract: a row of checks. `past1` to `past5` are what a check, passed, leaves of the row. Assumes nothing.
-use Prim.Native.Nat.{ℕ, ◌-◌, ◌*◌, ◌/◌, ◌≤◌}
+use Prim.Native.Nat.{ℕ, ◌-◌, ◌/◌, ◌≤◌}
 use mathlib.Core.Path.{◌≡◌, refl, sym, ap, ◌∙◌}
 use mathlib.Core.List.{List}
 use native.Mathlib.Nat.{mul-le-mul}
 use native.Mathlib.Omega.{arith}
 use borrow.Author.Rules.{rules}
-use borrow.Author.Tests.{not-false}
 use borrow.Rule.Slice.PartMut.{mid_of}
 use lib.ListN.{length, drop}
 use Rattle.laws.specs.Call.{unless}
@@ -16,7 +15,7 @@ use Rattle.def.specs.declared.Answer.{Answer}
 use Rattle.def.specs.declared.Answer.TheVariants.{Done, Refused}
 use Rattle.def.specs.declared.Refusal.TheVariants.{Setting, Keep, Qp, Sample}
 use Rattle.def.proofs.Answers.{on_refusal, on_done}
-use Rattle.def.proofs.Sizes.{Sized, sized}
+use Rattle.def.proofs.Sizes.{sized}
 use Rattle.split.specs.Picture.{picture_walk}
 use Rattle.df_check.specs.Checks.{Input, colour_length, lengths_of, settings_ok, keep_ok, qps_ok, planes_ok, from_lengths}
 use Rattle.df_check.proofs.Formats.{in_order, at_most}

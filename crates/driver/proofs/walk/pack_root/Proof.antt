@@ -11,7 +11,7 @@ use Rattle.driver.proofs.walk.pack_root.Tie as tie
 
 -- the states after the root's leaves were listed, and the call's start
 abbrev listed_at : tie.In-Done → tie.After-root_leaves
-listed_at c = c.before.before
+listed_at c = c.before.before.before
 
 abbrev start : tie.After-root_leaves → tie.Start
 start c = c.before.before.before.before.before.before

@@ -3,7 +3,6 @@ use Prim.Native.Nat.{◌/◌}
 use mathlib.Core.Path.{◌≡◌, sym, ◌∙◌}
 use mathlib.Core.Bool.{true}
 use borrow.Author.Rules.{rules}
-use borrow.Author.Tests.{not-false}
 use Rattle.laws.proofs.Calls.{stops, goes_on}
 use Rattle.def.specs.Picture.{size_ok}
 use Rattle.def.specs.declared.Answer.TheVariants.{Refused}

@@ -1,6 +1,6 @@
 -- `pack::write::put_digits` meets its contract: the digits of the roots before i are put. Assumes nothing.
 use mathlib.Core.Path.{◌≡◌, refl, sym, ap, ◌∙◌}
-use Prim.Native.Nat.{ℕ, ◌+◌, ◌-◌, ◌*◌, ◌/◌, ◌≤◌, ◌<◌, zero-le}
+use Prim.Native.Nat.{ℕ, ◌+◌, ◌-◌, ◌/◌, ◌≤◌, ◌<◌, zero-le}
 use native.Mathlib.Nat.{le_antisymm}
 use native.Mathlib.Omega.{arith}
 use borrow.Author.Rules.{rules}
@@ -12,7 +12,7 @@ use Rattle.marks.proofs.Callers.{roots_told}
 use Rattle.marks_rules.specs.Pictures.{joined, digits_of, picture_digits}
 use Rattle.marks_rules.proofs.Pictures.{few_digits}
 use Rattle.pack_rules.specs.Form.{digit_at}
-use Rattle.split.specs.Picture.{roots, root_walk}
+use Rattle.split.specs.Picture.{roots}
 use Rattle.split.proofs.Walks.{each_done}
 use Rattle.pack.proofs.Writing.{few_of, count_units, more_long, put_next}
 use Rattle.pack.proofs.write.put_digits.Statement.{statement}

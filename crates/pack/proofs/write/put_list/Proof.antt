@@ -5,7 +5,7 @@ use native.Mathlib.Nat.{le_antisymm}
 use native.Mathlib.Omega.{arith}
 use borrow.Author.Rules.{rules}
 use lib.ListN.{length, get_or}
-use Rattle.bits.specs.Bits.{with_bit, with_bits}
+use Rattle.bits.specs.Bits.{with_bits}
 use Rattle.bits.proofs.Laws.{length_bit, with_none, with_more}
 use Rattle.pack.proofs.write.put_list.Statement.{statement}
 use Rattle.pack.proofs.write.put_list.Tie as tie

@@ -1,17 +1,14 @@
 -- `pack::write::put_root` meets its contract: a root's marks are listed, and their bytes are put. Assumes nothing.
-use mathlib.Core.Path.{◌≡◌, refl, sym, ap, ap₂, ◌∙◌, subst}
-use Prim.Native.Nat.{ℕ, ◌+◌, ◌%◌, ◌≤◌, ◌<◌}
+use mathlib.Core.Path.{◌≡◌, sym, ◌∙◌, subst}
+use Prim.Native.Nat.{ℕ, ◌<◌}
 use native.Mathlib.Omega.{arith}
 use borrow.Author.Rules.{rules}
-use lib.ListN.{length, get_or}
-use Rattle.bits.specs.Bits.{with_bits}
+use lib.ListN.{length}
 use Rattle.bits.proofs.Laws.{with_same}
 use Rattle.def.specs.declared.Answer.TheVariants.{Done}
 use Rattle.marks.specs.declared.Marked.TheVariants.{Done as Counted}
 use Rattle.marks.proofs.Callers.{Told, list_told}
 use Rattle.marks.proofs.Growing.{counted_done}
-use Rattle.marks_rules.specs.Pictures.{root_digits}
-use Rattle.pack_rules.specs.Form.{digit_at}
 use Rattle.pack.proofs.Writing.{own, own_bit, own_long, not_both}
 use Rattle.pack.proofs.write.put_root.Statement.{statement}
 use Rattle.pack.proofs.write.put_root.Tie as tie

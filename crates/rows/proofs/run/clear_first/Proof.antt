@@ -1,6 +1,4 @@
 -- `rows::run::clear_first` meets its contract: one store, or none. Assumes nothing.
-use mathlib.Core.Path.{◌≡◌}
-use native.Mathlib.Omega.{arith}
 use borrow.Author.Rules.{rules}
 use borrow.Author.Tests.{eq-eqb, ne_eqb}
 use Rattle.rows.proofs.run.clear_first.Statement.{statement}

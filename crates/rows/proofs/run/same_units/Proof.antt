@@ -2,8 +2,6 @@
 use mathlib.Core.Path.{◌≡◌, sym, ◌∙◌}
 use native.Mathlib.Omega.{arith}
 use Prim.Native.Nat.{ℕ}
-use borrow.Author.Rules.{rules}
-use borrow.Author.Tests.{not-false}
 use Rattle.rows_rules.specs.Runs.{units_from}
 use Rattle.rows.proofs.run.same_units.Statement.{statement}
 use Rattle.rows.proofs.run.same_units.Tie as tie

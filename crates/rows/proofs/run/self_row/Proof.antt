@@ -1,5 +1,5 @@
 -- `rows::run::self_row` meets its contract: intra, luma-coded, or 3. Assumes nothing.
-use mathlib.Core.Path.{◌≡◌, sym, ◌∙◌}
+use mathlib.Core.Path.{sym, ◌∙◌}
 use native.Mathlib.Omega.{arith}
 use borrow.Author.Rules.{rules}
 use Rattle.rows_rules.specs.Runs.{self_row}

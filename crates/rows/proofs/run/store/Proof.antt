@@ -1,5 +1,5 @@
 -- `rows::run::store` meets its contract: a loop that stores from k on. Assumes nothing.
-use Prim.Native.Nat.{ℕ, ◌+◌, ◌-◌, ◌≤◌}
+use Prim.Native.Nat.{◌-◌, ◌≤◌}
 use native.Mathlib.Omega.{arith}
 use Rattle.rows_rules.specs.Runs.{Stored}
 use Rattle.rows_rules.proofs.Runs.{stored_none, stored_more}

@@ -1,13 +1,11 @@
 -- `unpack::read::clear` meets its contract: the bytes before i are 0. Assumes nothing.
 use mathlib.Core.Path.{◌≡◌, refl, sym, ap, ◌∙◌}
-use Prim.Native.Nat.{ℕ, ◌+◌, ◌-◌, ◌≤◌, zero-le}
-use native.Mathlib.Numerals.{add-one}
+use Prim.Native.Nat.{ℕ, ◌-◌, ◌≤◌, zero-le}
 use native.Mathlib.Nat.{le_antisymm}
 use native.Mathlib.Omega.{arith}
 use borrow.Author.Rules.{rules}
-use mathlib.Core.List.{List, [], ◌∷◌, ◌++◌, append-nil}
-use lib.ListN.{length, take, drop, set, replicate, length-set}
-use lib.Seq.{take-suc-set, take-length}
+use lib.ListN.{length, take, replicate, length-set}
+use lib.Seq.{take-length}
 use Rattle.unpack.proofs.Zeros.{zeros_more}
 use Rattle.unpack.proofs.read.clear.Statement.{statement}
 use Rattle.unpack.proofs.read.clear.Tie as tie

@@ -1,12 +1,11 @@
 -- `unpack::read::map_taken` meets its contract: the roots before i have taken their digits. Assumes nothing.
 use mathlib.Core.Path.{◌≡◌, refl, sym, ap, ap₂, ◌∙◌}
-use Prim.Native.Nat.{ℕ, ◌+◌, ◌-◌, ◌*◌, ◌/◌, ◌≤◌, ◌<◌, zero-le}
+use Prim.Native.Nat.{ℕ, ◌+◌, ◌-◌, ◌/◌, ◌≤◌, ◌<◌, zero-le}
 use native.Mathlib.Nat.{le_antisymm}
 use native.Mathlib.Omega.{arith}
 use borrow.Author.Rules.{rules}
 use lib.ListN.{length}
 use Rattle.def.specs.Picture.{root_count}
-use Rattle.def.specs.declared.Answer.TheVariants.{Done}
 use Rattle.marks.specs.Stored.{counted}
 use Rattle.marks.proofs.Callers.{roots_told, take_told}
 use Rattle.marks.proofs.Growing.{counted_done, counted_refused}

@@ -5,7 +5,7 @@ use mathlib.Core.List.{List}
 use Prim.Native.Nat.{ℕ, ◌+◌}
 use native.Mathlib.Omega.{arith}
 use borrow.Author.Rules.{rules}
-use lib.ListN.{length, drop, length-drop}
+use lib.ListN.{drop, length-drop}
 use Rattle.y4m_rules.specs.Words.{frame_space}
 use Rattle.y4m_rules.specs.Frames.{matches, line_place}
 use Rattle.y4m_rules.proofs.Runs.{match_fits}

@@ -1,9 +1,8 @@
 -- `y4m_frame::bytes::read_plane` meets its contract: after i turns the first i samples are there. Assumes nothing.
-use Prim.Native.Nat.{ℕ, ◌+◌, ◌-◌, ◌*◌, ◌≤◌}
-use mathlib.Core.Path.{◌≡◌, refl, sym, ap, ◌∙◌}
+use Prim.Native.Nat.{ℕ, ◌+◌, ◌-◌, ◌*◌}
 use native.Mathlib.Omega.{arith}
 use borrow.Author.Rules.{rules}
-use lib.ListN.{length, get_or}
+use lib.ListN.{length}
 use Rattle.laws.proofs.Fill.{Upto, upto_none, upto_more, upto_all}
 use Rattle.y4m_rules.specs.Frames.{sample_at}
 use Rattle.y4m_frame.proofs.bytes.read_plane.Statement.{statement}

@@ -1,7 +1,6 @@
 -- `y4m_header::numbers::number_in` meets its contract: a number, or not. Assumes nothing.
 use mathlib.Core.Path.{sym, ◌∙◌}
 use borrow.Author.Rules.{rules}
-use borrow.Author.Tests.{not-true, not-false}
 use Rattle.y4m_rules.specs.Numbers.{is_number}
 use Rattle.y4m_header.proofs.Forms.{value_none, value_some}
 use Rattle.y4m_header.proofs.numbers.number_in.Statement.{statement}

@@ -1,8 +1,5 @@
 -- `y4m_header::words::head_length` meets its contract: by the test. Assumes nothing.
-use mathlib.Core.Path.{sym, ap}
-use mathlib.Core.Bool.{Bool}
 use borrow.Author.Tests.{lt-ltb, le-ltb}
-use Rattle.laws.specs.Index.{pick}
 use Rattle.y4m_header.proofs.words.head_length.Statement.{statement}
 use Rattle.y4m_header.proofs.words.head_length.Tie as tie
 

@@ -1,6 +1,5 @@
 -- `y4m_header::words::words_in` meets its contract: what is left of the header is what it comes to. Assumes nothing.
 use Prim.Native.Nat.{◌+◌, ◌-◌, ◌≤◌}
-use mathlib.Core.Path.{◌≡◌}
 use native.Mathlib.Omega.{arith}
 use borrow.Author.Rules.{rules}
 use lib.ListN.{length}
