@@ -1,6 +1,6 @@
 /* One small picture from its leaf records to its finished samples: the chroma QP tables, the driver, deblocking. Its luma is printed before and after.
  *
- *     rt staticlib decoder_c
+ *     tools/archive
  *     cc examples/picture.c -I include -L target/staticlib -l decoder_c -o picture && ./picture
  */
 #include "decoder.h"

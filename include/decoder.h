@@ -1,4 +1,4 @@
-/* The decoder's calls for C. `rt staticlib decoder_c` writes the archive to link, target/staticlib/libdecoder_c.a.
+/* The decoder's calls for C. `tools/archive` writes the archive to link, target/staticlib/libdecoder_c.a.
  *
  * Every call answers a number: 0 is done, any other a refusal. Every input is accepted, and a refused call writes to no lent slice;
  * the values that it hands back through a pointer are then 0, and a position that goes in and out through one is as it was.

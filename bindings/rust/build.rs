@@ -1,4 +1,4 @@
-//! Tells the linker where the archive libdecoder_c.a lies: in the folder that LOMSAKEUN_LIB_DIR names, or else where `rt staticlib decoder_c`
+//! Tells the linker where the archive libdecoder_c.a lies: in the folder that LOMSAKEUN_LIB_DIR names, or else where `tools/archive`
 //! writes it in this repository.
 use std::env;
 use std::path::{Path, PathBuf};
@@ -10,7 +10,7 @@ fn main() {
     let archive = folder.join("libdecoder_c.a");
     assert!(
         Path::new(&archive).is_file(),
-        "no {}: run `rt staticlib decoder_c`, or name the folder of libdecoder_c.a in LOMSAKEUN_LIB_DIR",
+        "no {}: run `tools/archive`, or name the folder of libdecoder_c.a in LOMSAKEUN_LIB_DIR",
         archive.display()
     );
     println!("cargo:rerun-if-changed={}", archive.display());

@@ -1,5 +1,6 @@
 // A map of edge rows, kept right while motion and flags are edited unit by unit. The Rust has none: it works each row out where it filters the edge.
 #![tactic(auto)]
+
 ghost use Rattle.std.specs.Prelude.{◌≡◌, true, ◌+◌, ◌*◌, ◌≤◌, ◌<◌, length};
 ghost use Rattle.laws.specs.Bits.{with_field};
 ghost use Rattle.laws.specs.Call.{Gives};

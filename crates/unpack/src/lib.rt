@@ -1,5 +1,6 @@
 // A split map read from its compact form: its digits as bits, the high bit of each byte first. There is no Rust beside it.
 #![tactic(auto)]
+
 ghost use Rattle.std.specs.Prelude.{◌≡◌, length};
 ghost use Rattle.def.specs.Answers.{answer_number};
 ghost use Rattle.laws.specs.Call.{Gives};

@@ -89,7 +89,7 @@ map_taken_spec =
     decreases-loop
     (λ c κs. search rules)
     (λ c. (zero-le, refl, at_none _ _ _ _ _))
-    (λ c. omega (arith, at_few _ _ _ _ _ c.loop-i.invariant.2, inside c, few_of _ _ c.requires.0, c.requires))
+    (λ c. omega (arith, at_few _ _ _ _ _ c.loop-i.invariant.2, all_samples c.before.before, few_of _ _ c.requires.0, c.requires))
     (λ c. search rules)
     (λ c κs. search rules)
     (λ c. search rules)
