@@ -1,5 +1,6 @@
 // What stands before the first write of deblocking by a map of edge rows: the checks of `df_check`, and those of the map. The Rust has no such map.
 #![tactic(auto)]
+
 ghost use Rattle.std.specs.Prelude.{◌≡◌, ◌≤◌};
 ghost use Rattle.laws.specs.Call.{Gives};
 ghost use Rattle.by_rows_check.specs.Checks.{rows_length_ok, check_of};

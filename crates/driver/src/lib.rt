@@ -1,6 +1,7 @@
 // The block driver: a picture's leaves in walk order, each gathered around, predicted and reconstructed in the components that the picture has; then its units are told.
 // No Rust stands beside it: its calls are those of ipred.rs and recon.rs.
 #![tactic(auto)]
+
 ghost use Rattle.laws.specs.Call.{Gives};
 ghost use Rattle.def.specs.Answers.{answer_number};
 ghost use Rattle.driver_rules.specs.Call.{outcome};

@@ -1,6 +1,7 @@
 // Split maps in their compact form one after the other: a writer and a reader, each a lent part of a buffer, and the position in it, in bits.
 // There is no Rust beside it.
 #![tactic(auto)]
+
 ghost use Rattle.std.specs.Prelude.{◌≡◌};
 ghost use Rattle.def.specs.Answers.{answer_number};
 ghost use Rattle.pack_parts.specs.Held.{written, wrote, taken, passed};

@@ -1,5 +1,6 @@
 // The sheet and its listing, bytes to bytes. There is no Rust beside it.
 #![tactic(auto)]
+
 ghost use Rattle.std.specs.Prelude.{◌≡◌, true, false, ◌*◌, ◌/◌, ◌≤◌, length};
 ghost use Rattle.laws.specs.Call.{Gives};
 ghost use Rattle.split.specs.ListCall.{limit_ok};

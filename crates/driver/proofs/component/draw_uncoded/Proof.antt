@@ -20,12 +20,11 @@ prediction_requires c κs =
     (c.requires.0.0, c.requires.0.1, simp length-take (omega (arith, c.requires.0.2, c.requires.1.1, samples_few c.args.block.component _ _ _ _ _ c.requires.0.0.block)), c.requires.1.0)
 
 lay_requires : tie.Need-lay-requires
-lay_requires c κs =
-    (
-      record { size = c.requires.0.0.size; block = c.requires.0.0.block },
-      c.requires.0.0.plane_long,
-      ap length c.prediction.ensures ∙ prediction_long _ _ c.args.kind,
-    )
+lay_requires c κs = (
+  record { size = c.requires.0.0.size; block = c.requires.0.0.block },
+  c.requires.0.0.plane_long,
+  ap length c.prediction.ensures ∙ prediction_long _ _ c.args.kind,
+)
 
 returns : tie.Need-returns
 unfolding plane_of

@@ -84,7 +84,7 @@ tell_requires : tie.Need-tell-requires invariant-loop decreases-loop
 tell_requires c κs =
     let r = read_at (drawn_at c).before in
     let turn = r.before.before in
-    let a = turn.before.loop.inv.1.asked in
+    let a = turn.before.loop.invariant.1.asked in
     told _ _ _ _ _ _ (start turn.before).requires.0.size (block r.before) a.words_long a.modes_long a.keep_long
 
 loop_again : tie.Need-loop-j-preserved invariant-loop decreases-loop
@@ -98,7 +98,7 @@ loop_again c =
       omega (arith, turn.loop_test.taken),
       leaves_next (given_of s.args.w s.args.h s.args.format s.args.constrained s.args.leaves.now s.args.residual.now s.args.pred_y.now
           s.args.pred_u.now s.args.pred_v.now) (list s) s.args.k l.j s.requires.0
-          (block r.before) r.leaf_at-leaf.ensures r.record_at-record.ensures d.leaf_planes-end.ensures t.tell.ensures l.inv.1,
+          (block r.before) r.leaf_at-leaf.ensures r.record_at-record.ensures d.leaf_planes-end.ensures t.tell.ensures l.invariant.1,
     )
 
 add_j : tie.Need-overflow_step-j invariant-loop decreases-loop

@@ -95,14 +95,14 @@ draw_leaves_requires c κs =
     let before_last : l.i < roots (s.args.w / 4) (s.args.h / 4) = omega (arith, early turn, roots_units (size s)) in (
       s.requires.0,
       (
-        l.inv.2.asked,
+        l.invariant.2.asked,
         (
           listed.blocks,
           p.packed_leaves-n.ensures.1,
           omega (arith, column turn, (size s).wide),
           omega (arith, row turn, (size s).high),
           roots_reach s.args.leaves.now _ s.args.splits.now (s.args.w / 4) (s.args.h / 4) l.i _ _ _ first (walked_to l.at l.k) before_last listed.same
-              (stepped_place _ (leaves_of s.args.splits.now (s.args.w / 4) (s.args.h / 4) l.i) _ _ l.inv.2) s.requires.1.1.1,
+              (stepped_place _ (leaves_of s.args.splits.now (s.args.w / 4) (s.args.h / 4) l.i) _ _ l.invariant.2) s.requires.1.1.1,
         ),
       ),
     )
@@ -118,8 +118,8 @@ loop_again c =
     let listed = rw (← d.before.roots_along.ensures) at p.packed_leaves-n.ensures.0 in (
       omega (arith, turn.loop-i-test.true),
       p.packed_leaves-n.ensures.1,
-      roots_more _ s.args.splits.now (s.args.w / 4) (s.args.h / 4) l.i _ _ _ _ _ listed.same l.inv.2 r.draw_leaves-at.ensures,
-      omega (arith, l.inv.3, listed.blocks.few),
+      roots_more _ s.args.splits.now (s.args.w / 4) (s.args.h / 4) l.i _ _ _ _ _ listed.same l.invariant.2 r.draw_leaves-at.ensures,
+      omega (arith, l.invariant.3, listed.blocks.few),
     )
 
 add_k : tie.Need-overflow_add-k invariant-loop decreases-loop
@@ -127,7 +127,7 @@ add_k c =
     let p = packed_at (drawn_at c).before in
     let turn = turn_at_lem p in
     let l = turn.loop-i in
-    omega (arith, l.inv.3, l.inv.0, p.packed_leaves-n.ensures.0.blocks.few, few turn.before.before)
+    omega (arith, l.invariant.3, l.invariant.0, p.packed_leaves-n.ensures.0.blocks.few, few turn.before.before)
 
 add_i : tie.Need-overflow_step-i invariant-loop decreases-loop
 add_i c = let turn = turn_of c in omega (arith, turn.loop-i-test.true, few turn.before.before)

@@ -42,7 +42,7 @@ loop_holds c = let s = start c in (omega arith, refl, passed_no_root s.args.leav
 
 -- ---- a turn: where its root's leaves are counted, and its start
 
-abbrev turn_at_lem : tie.In-Done-2 invariant-loop decreases-loop → tie.In-loop-i invariant-loop decreases-loop
+abbrev turn_at_lem : tie.In-Done invariant-loop decreases-loop → tie.In-loop-i invariant-loop decreases-loop
 turn_at_lem c = c.before.before.before.before
 
 early : (c : tie.In-loop-i invariant-loop decreases-loop) → let a = (start c.before.before).args in c.loop-i.i < root_count a.w a.h
@@ -50,32 +50,32 @@ early c = rw (counted c.before.before) at c.loop-i-test.true
 
 past_leaves_requires : tie.Need-past_leaves-place-requires invariant-loop decreases-loop
 past_leaves_requires c κs =
-    let turn = turn_at_lem c in
+    let turn = turn_at_lem c.before in
     let a = (start turn.before.before).requires in
     let l = turn.loop-i in
-    let r = listed (root_told _ _ _ a.size a.long a.walked l.i (early turn) _ _ _ l.inv.1 c.root_leaves.ensures _ c.in-Done.is) in
-    (sides r.blocks, omega (arith, l.inv.3, few turn.before.before, turn.loop-i-test.true), l.inv.4)
+    let r = listed (root_told _ _ _ a.size a.long a.walked l.i (early turn) _ _ _ l.invariant.1 c.root_leaves.ensures _ c.in-Done.is) in
+    (sides r.blocks, omega (arith, l.invariant.3, few turn.before.before, turn.loop-i-test.true), l.invariant.4)
 
 loop_again : tie.Need-loop-i-preserved invariant-loop decreases-loop
 loop_again c =
-    let turn = turn_at_lem c in
+    let turn = turn_at_lem c.before.before in
     let s = start turn.before.before in
     let l = turn.loop-i in
     let a = s.requires in
-    let r = listed (root_told _ _ _ a.size a.long a.walked l.i (early turn) _ _ _ l.inv.1 c.root_leaves.ensures _ c.in-Done.is) in
+    let r = listed (root_told _ _ _ a.size a.long a.walked l.i (early turn) _ _ _ l.invariant.1 c.root_leaves.ensures _ c.in-Done.is) in
     let p = c.past_leaves-place.ensures in (
       omega (arith, turn.loop-i-test.true),
       r.blocks.long,
-      past_listed s.args.leaves.now first (walked_to l.place.at l.place.k) (walked_to c.past_leaves-place.result.at c.past_leaves-place.result.k) r l.inv.2 p.0,
-      omega (arith, p.1, r.blocks.few, l.inv.3),
+      past_listed s.args.leaves.now first (walked_to l.place.at l.place.k) (walked_to c.past_leaves-place.result.at c.past_leaves-place.result.k) r l.invariant.2 p.0,
+      omega (arith, p.1, r.blocks.few, l.invariant.3),
       p.2,
     )
 
 add_i : tie.Need-overflow_step-i invariant-loop decreases-loop
-add_i c = let turn = turn_at_lem c.before.before.before in omega (arith, few turn.before.before, turn.loop-i-test.true)
+add_i c = let turn = turn_at_lem c.before.before in omega (arith, few turn.before.before, turn.loop-i-test.true)
 
 loop_less : tie.Need-loop-i-smaller invariant-loop decreases-loop
-loop_less c = omega (arith, (turn_at_lem c.before.before.before).loop-i-test.true)
+loop_less c = omega (arith, (turn_at_lem c.before.before).loop-i-test.true)
 
 -- the walk was accepted, so no root is refused
 returns : tie.Need-returns-in_default invariant-loop decreases-loop

@@ -22,8 +22,7 @@ loop_holds c = (omega arith, refl, omega arith, places_none _ _ _ _)
 
 put_place_requires : tie.Need-put_place-next-requires invariant-loop decreases-loop
 put_place_requires c κs =
-    let l = c.loop-i in
-    (
+    let l = c.loop-i in (
       omega (arith, c.wide-x.ensures, c.requires.0.small (2 * l.i) (omega arith)),
       omega (arith, c.wide-y.ensures, c.requires.0.small (2 * l.i + 1) (omega arith)),
       omega (arith, l.invariant.1, l.invariant.2, c.requires.1),
