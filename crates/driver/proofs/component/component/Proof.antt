@@ -48,7 +48,7 @@ draw_requires c κs =
 
 returns-2 : tie.Need-returns
 returns-2 c =
-    let e : c.args.at + c.in_component-n.result * c.in_component-n.result - c.args.at ≡ count s = omega (arith, counted c.before.before.before.before.before.before.before.before.before.before.before.before) in (
+    let e : c.args.at + c.in_component-n.result * c.in_component-n.result - c.args.at ≡ sample_count c.args.block.component c.args.block.side = omega (arith, counted c.before.before.before.before.before.before.before.before.before.before.before.before) in (
       c.draw.ensures
           ∙ rw (e, coded c.before.before.before.before.before.before.before.before.before.before.before),
       rw (coded c.before.before.before.before.before.before.before.before.before.before.before) (ap (λ (n : ℕ). c.args.at + n) (counted c.before.before.before.before.before.before.before.before.before.before.before.before)),

@@ -34,8 +34,8 @@ told_at c = c.before.before.before.before.before.before
 abbrev drawn_at : tie.After-tell-arg-in-loop-j-2-1 invariant-loop decreases-loop → tie.After-leaf_planes-end invariant-loop decreases-loop
 drawn_at c = c.before.before.before.before.before.before.before.before.before
 
-abbrev read_at : tie.After-leaf-planes-arg6 invariant-loop decreases-loop → tie.After-record_at-record invariant-loop decreases-loop
-read_at c = c.before.before.before.before.before.before
+abbrev read_at : tie.After-leaf_planes-arg-in-loop-j-4-1 invariant-loop decreases-loop → tie.After-record_at-record invariant-loop decreases-loop
+read_at c = c.before.before.before.before.before
 
 abbrev turn_of : tie.After-slice_known-in-loop-j-6-1 invariant-loop decreases-loop → tie.In-loop-j invariant-loop decreases-loop
 turn_of c = (read_at (drawn_at (told_at c).before).before).before.before
@@ -84,7 +84,7 @@ tell_requires : tie.Need-tell-requires invariant-loop decreases-loop
 tell_requires c κs =
     let r = read_at (drawn_at c).before in
     let turn = r.before.before in
-    let a = turn.before.loop.invariant.1.asked in
+    let a = c.loop-j.invariant.1.asked in
     told _ _ _ _ _ _ (start turn.before).requires.0.size (block r.before) a.words_long a.modes_long a.keep_long
 
 loop_again : tie.Need-loop-j-preserved invariant-loop decreases-loop
@@ -94,11 +94,11 @@ loop_again c =
     let r = read_at d.before in
     let turn = r.before.before in
     let s = start turn.before in
-    let l = turn.before.loop in (
-      omega (arith, turn.loop_test.taken),
+    let l = c.loop-j in (
+      omega (arith, c.loop-j-test.true),
       leaves_next (given_of s.args.w s.args.h s.args.format s.args.constrained s.args.leaves.now s.args.residual.now s.args.pred_y.now
           s.args.pred_u.now s.args.pred_v.now) (list s) s.args.k l.j s.requires.0
-          (block r.before) r.leaf_at-leaf.ensures r.record_at-record.ensures d.leaf_planes-end.ensures t.tell.ensures l.invariant.1,
+          (block r.before) c.leaf_at-leaf.ensures c.record_at-record.ensures c.leaf_planes-end.ensures c.tell.ensures l.invariant.1,
     )
 
 add_j : tie.Need-overflow_step-j invariant-loop decreases-loop
@@ -108,7 +108,7 @@ loop_less : tie.Need-loop-j-smaller invariant-loop decreases-loop
 loop_less c = omega (arith, (turn_of c).loop-j-test.true)
 
 add_record_at : tie.Need-overflow_add-k invariant-loop decreases-loop
-add_record_at c = omega (arith, (reached c.before).records, (start c.before.before).good.1.1.1.1.1.1.1.0)
+add_record_at c = omega (arith, (reached c.before).records, c.ranges.k)
 
 -- ---- at the end
 

@@ -91,7 +91,7 @@ draw_leaves_requires c κs =
     let l = turn.loop-i in
     let d = turn.before.before in
     let s = start d in
-    let listed = rw (← d.before.roots_along.ensures) at p.packed_leaves-n.ensures.0 in
+    let listed = rw (← c.roots_along-across.ensures) at p.packed_leaves-n.ensures.0 in
     let before_last : l.i < roots (s.args.w / 4) (s.args.h / 4) = omega (arith, early turn, roots_units (size s)) in (
       s.requires.0,
       (
@@ -115,7 +115,7 @@ loop_again c =
     let l = turn.loop-i in
     let d = turn.before.before in
     let s = start d in
-    let listed = rw (← d.before.roots_along.ensures) at p.packed_leaves-n.ensures.0 in (
+    let listed = rw (← c.roots_along-across.ensures) at p.packed_leaves-n.ensures.0 in (
       omega (arith, turn.loop-i-test.true),
       p.packed_leaves-n.ensures.1,
       roots_more _ s.args.splits.now (s.args.w / 4) (s.args.h / 4) l.i _ _ _ _ _ listed.same l.invariant.2 r.draw_leaves-at.ensures,

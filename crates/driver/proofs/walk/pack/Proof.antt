@@ -34,7 +34,7 @@ mul_packed_leaf_3 : tie.Need-overflow_mul-j-in-loop-j invariant-loop decreases-l
 mul_packed_leaf_3 c = omega (arith, (in_list c.before).0)
 
 add_packed_leaf : tie.Need-overflow_add-j invariant-loop decreases-loop
-add_packed_leaf c = omega (arith, (in_list c.before.before.before.before).0)
+add_packed_leaf c = omega (arith, (in_list c.before).0)
 
 mul_packed_leaf_4 : tie.Need-offset_bounds-list-j-in-loop-j invariant-loop decreases-loop
 mul_packed_leaf_4 c = omega (arith, (in_list c.before).1)
