@@ -1,6 +1,7 @@
 // Deblocking: which edges are filtered, in which order, and with which strength. How a list's edges are filtered is the matter of `edge_filter`.
 // The Rust beside it: df.rs.
 #![tactic(auto)]
+
 ghost use Rattle.std.specs.Prelude.{◌≡◌, ◌+◌, ◌/◌};
 ghost use Rattle.laws.specs.Call.{Gives};
 ghost use Rattle.split.specs.Edges.{vertical, horizontal};

@@ -7,9 +7,9 @@ use Rattle.sheet.proofs.print_lists.Statement.{statement}
 use Rattle.sheet.proofs.print_lists.Tie as tie
 
 -- what the call lists
-told : (c : tie.In-Done) → let l = c.list_edges.new.vertical in
+told : (c : tie.In-Done) →
     Printable c.args.w c.args.h c.args.limit c.args.map.now c.args.vertical.now c.args.horizontal.now c.requires.0 c.requires.1 c.requires.2
-    c.in-Done.m c.in-Done.n l.0 l.1.0
+    c.in-Done.m c.in-Done.n c.list_edges.new.vertical c.list_edges.new.horizontal
 told c =
     let p = c.requires in
     printable _ _ _ _ _ _ p.0 p.1 p.2 _ _ _ _

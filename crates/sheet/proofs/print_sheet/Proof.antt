@@ -12,8 +12,8 @@ use Rattle.sheet.proofs.print_sheet.Statement.{statement}
 use Rattle.sheet.proofs.print_sheet.Tie as tie
 
 -- what the five lines say
-told : (c : tie.In-Read) → let g = c.w-1.given.0 in
-    Whole c.args.input.now g.0 g.1.0 g.1.1.0 g.1.1.1.0 g.1.1.1.1.0 g.1.1.1.1.1.0
+told : (c : tie.In-Read) →
+    Whole c.args.input.now c.in-Read.w c.in-Read.h c.in-Read.limit c.in-Read.old c.in-Read.from c.in-Read.to
 told c = whole_sheet_lem _ _ _ _ _ _ _ (sym (answer_is _ _ c.read.ensures) ∙ c.in-Read.is)
 
 -- the digits end among the first 4,096 bytes

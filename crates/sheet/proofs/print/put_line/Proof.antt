@@ -13,4 +13,4 @@ returns-2 : tie.Need-returns
 returns-2 c = line_none _ _ _ _ c.if-number-eq12.false
 
 pub put_line_spec : {M : Type 1} → statement M
-put_line_spec = tie.close (tie.spec (λ c. search rules) (λ c κs. search rules) (λ c κs. search rules) (λ c. search rules) returns returns-2)
+put_line_spec = tie.close (tie.spec (λ c κs. search rules) (λ c κs. search rules) (λ c. search rules) returns returns-2)

@@ -44,7 +44,6 @@ put_refusal_spec =
     (tie.spec
     (λ c κs. search rules)
     (λ c. search rules)
-    (λ c. search rules)
     (λ c κs. search rules)
     (λ c κs. search rules)
     (λ c κs. (c.requires.0, omega (arith, (first c.before.before.before).room)))
