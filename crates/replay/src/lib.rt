@@ -1,9 +1,28 @@
 // What the programs that replay recorded cases share: the file with the cases, the step from one to the next, and answers printed, each number after a
 // space.
-// No contract can say what is read or written: what stands here is proved safe, and that a lent slice is only read.
+// No contract can say what a file gives or what standard output takes. So each print is over any writer, and says which bytes a writer that tells what it
+// holds has gained; after an error it may hold a part of them.
 #![tactic(auto)]
 
-ghost use Rattle.std.specs.Prelude.{◌≡◌, ◌-◌, ◌≤◌, length};
+ghost use Rattle.std.specs.Prelude.{◌≡◌, ◌-◌, ◌≤◌, length, IfOk, OnOk, [], ◌∷◌};
+ghost use Rattle.std.specs.Fmt.{decimal, signed_decimal};
+ghost use Rattle.std.specs.Io.KnownBytes.{Appends};
+ghost use Rattle.std.specs.Io.Buffered.{writer_buffer};
+ghost use Rattle.std.specs.List.{flat_map};
+
+use std::fs::File;
+use std::io::{self, BufWriter, Eprint, Read, Stdout, Write};
+use std::rt::Files;
+
+// Standard output behind a buffer: some programs print megabytes, a few bytes at a time.
+pub type Output = BufWriter<Stdout>;
+
+// What the answers are printed to, with nothing in its buffer. The program flushes it at its end, so that a write that fails there is seen.
+pub fn output(rt: &HostRuntime) -> io::Result<Output>
+    ensures { IfOk result (λ w. writer_buffer w ≡ []) }
+{
+    BufWriter::new(rt.alloc(), rt.stdout())
+}
 
 // Room for the largest file of cases. A call keeps the checker from looking into the array.
 pub fn room() -> [u8; 6000000]
@@ -13,17 +32,39 @@ pub fn room() -> [u8; 6000000]
 }
 
 // Reads the file of cases into room, and answers how many bytes there were.
-pub fn load(room: &mut [u8]) -> usize
+pub fn load(rt: &(impl Files<File = File> + Eprint), room: &mut [u8]) -> usize
     ensures { result ≤ length room.new }
 {
-    let file = os::open_read(b"cases");
-    if file < 0 {
-        os::fail(b"cases");
-        return 0;
+    match File::open(rt, "cases") {
+        Ok(file) => read_full(rt, file, room),
+        Err(error) => {
+            say(rt, error);
+            0
+        }
     }
-    let n = io::read_full(file, room);
-    libc::close(file);
-    n
+}
+
+// The bytes of a file, as far as room goes, or up to a read that fails.
+fn read_full(rt: &impl Eprint, mut file: File, room: &mut [u8]) -> usize
+    ensures { result ≤ length room.new }
+{
+    let mut done = 0;
+    while done < room.len() {
+        match file.read(&mut room[done..]) {
+            Ok(0) => break,
+            Ok(n) => done += n,
+            Err(error) => {
+                say(rt, error);
+                break;
+            }
+        }
+    }
+    done
+}
+
+// Tells standard error why the cases were not read. Where it cannot be told there is nobody left to tell.
+fn say(rt: &impl Eprint, error: io::Error) {
+    let _ = eprintln!(rt; "cases: {error}");
 }
 
 // Where the case after one starts that stands at `at` and ends at `end`, past the newline between them; or the end of all, where none follows. Fewer bytes
@@ -41,81 +82,84 @@ pub fn after(s: &[u8], at: usize, end: usize) -> usize
 }
 
 // The first number of an answer's line.
-pub fn print_first(n: u8)
-    ensures { Unit {0} }
+pub fn print_first<W: Write>(out: &mut W, n: u8) -> io::Result<()>
+    ensures { OnOk result (Appends (W.contents out.old) (W.contents out.new) (decimal n)) }
 {
-    io::print_decimal(1, n as u64);
+    write!(out, "{n}")
 }
 
 // The end of an answer's line.
-pub fn print_end()
-    ensures { Unit {0} }
+pub fn print_end<W: Write>(out: &mut W) -> io::Result<()>
+    ensures { OnOk result (Appends (W.contents out.old) (W.contents out.new) (10 ∷ [])) }
 {
-    io::write_all(1, b"\n");
+    out.write_all(b"\n")
 }
 
-pub fn print_u8(values: &[u8])
-    ensures { values.now ≡ values.now }
+pub fn print_u8<W: Write>(out: &mut W, values: &[u8]) -> io::Result<()>
+    ensures { OnOk result (Appends (W.contents out.old) (W.contents out.new) (flat_map (λ n. 32 ∷ decimal n) values.now)) }
 {
-    for i in 0..values.len() {
-        io::write_all(1, b" ");
-        io::print_decimal(1, values[i] as u64);
+    for n in values {
+        write!(out, " {n}")?;
     }
+    Ok(())
 }
 
-pub fn print_u16(values: &[u16])
-    ensures { values.now ≡ values.now }
+pub fn print_u16<W: Write>(out: &mut W, values: &[u16]) -> io::Result<()>
+    ensures { OnOk result (Appends (W.contents out.old) (W.contents out.new) (flat_map (λ n. 32 ∷ decimal n) values.now)) }
 {
-    for i in 0..values.len() {
-        io::write_all(1, b" ");
-        io::print_decimal(1, values[i] as u64);
+    for n in values {
+        write!(out, " {n}")?;
     }
+    Ok(())
 }
 
-pub fn print_u32(values: &[u32])
-    ensures { values.now ≡ values.now }
+pub fn print_u32<W: Write>(out: &mut W, values: &[u32]) -> io::Result<()>
+    ensures { OnOk result (Appends (W.contents out.old) (W.contents out.new) (flat_map (λ n. 32 ∷ decimal n) values.now)) }
 {
-    for i in 0..values.len() {
-        io::write_all(1, b" ");
-        io::print_decimal(1, values[i] as u64);
+    for n in values {
+        write!(out, " {n}")?;
     }
+    Ok(())
 }
 
 // A number below 0 has its minus, and its size from below.
-fn print_signed(v: i16) {
-    let wide = v as i32;
+fn print_signed<W: Write>(out: &mut W, v: i16) -> io::Result<()>
+    ensures { OnOk result (Appends (W.contents out.old) (W.contents out.new) (32 ∷ signed_decimal v)) }
+{
+    let wide = i32::from(v);
     if wide < 0 {
-        io::write_all(1, b" -");
-        io::print_decimal(1, (0 - wide) as u64);
+        write!(out, " -{}", (0 - wide) as u64)
     } else {
-        io::write_all(1, b" ");
-        io::print_decimal(1, wide as u64);
+        write!(out, " {}", wide as u64)
     }
 }
 
-fn print_signed_byte(v: i8) {
-    print_signed(v as i16);
+fn print_signed_byte<W: Write>(out: &mut W, v: i8) -> io::Result<()>
+    ensures { OnOk result (Appends (W.contents out.old) (W.contents out.new) (32 ∷ signed_decimal v)) }
+{
+    print_signed(out, i16::from(v))
 }
 
-pub fn print_i8(values: &[i8])
-    ensures { values.now ≡ values.now }
+pub fn print_i8<W: Write>(out: &mut W, values: &[i8]) -> io::Result<()>
+    ensures { OnOk result (Appends (W.contents out.old) (W.contents out.new) (flat_map (λ v. 32 ∷ signed_decimal v) values.now)) }
 {
-    for i in 0..values.len() {
-        print_signed_byte(values[i]);
+    for v in values {
+        print_signed_byte(out, *v)?;
     }
+    Ok(())
 }
 
-pub fn print_i16(values: &[i16])
-    ensures { values.now ≡ values.now }
+pub fn print_i16<W: Write>(out: &mut W, values: &[i16]) -> io::Result<()>
+    ensures { OnOk result (Appends (W.contents out.old) (W.contents out.new) (flat_map (λ v. 32 ∷ signed_decimal v) values.now)) }
 {
-    for i in 0..values.len() {
-        print_signed(values[i]);
+    for v in values {
+        print_signed(out, *v)?;
     }
+    Ok(())
 }
 
-pub fn print_usize(n: usize)
-    ensures { Unit {0} }
+pub fn print_usize<W: Write>(out: &mut W, n: usize) -> io::Result<()>
+    ensures { OnOk result (Appends (W.contents out.old) (W.contents out.new) (32 ∷ decimal n)) }
 {
-    io::write_all(1, b" ");
-    io::print_decimal(1, n as u64);
+    write!(out, " {n}")
 }

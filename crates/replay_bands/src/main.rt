@@ -1,12 +1,41 @@
 // Replays recorded cases of deblocking by bands. A line of data/cases is a call; the line printed for it is the number that it answers,
 // both passes' edge counts, the position that it hands back, and the planes and the unit words as it leaves them.
 #![tactic(auto)]
+
 use def::Format;
 use df::{Banded, Bands};
 use df_check::Settings;
+use replay::Output;
+use std::io::{self, Write};
+
+// What a call names: the position, the band, and the picture's sides.
+#[derive(Clone, Copy)]
+struct Call {
+    next: usize,
+    band: usize,
+    w: usize,
+    h: usize,
+}
+
+// What lies over the band's rows: its split bytes, and their motion, their references and their keep marks.
+#[derive(Clone, Copy)]
+struct UnitMaps<'a> {
+    splits: &'a [u8],
+    motion: &'a [i16],
+    refs: &'a [i8],
+    keep: &'a [u8],
+}
+
+// The chroma QP tables and the strengths.
+#[derive(Clone, Copy)]
+struct FilterTables<'a> {
+    t0: &'a [i8],
+    t1: &'a [i8],
+    strengths: &'a [u8],
+}
 
 // The position, the band, the picture's size, and the lent rows of its planes and unit words come first in a case.
-fn one(s: &[u8], at: usize) -> usize {
+fn one(stdout: &mut Output, s: &[u8], at: usize) -> io::Result<usize> {
     let next = cases::number(s, at);
     let band = cases::number(s, next.next);
     let w = cases::number(s, band.next);
@@ -19,37 +48,27 @@ fn one(s: &[u8], at: usize) -> usize {
     let pv = cases::slice_u16(s, pu.next, &mut v);
     let mut words = [0u32; 600];
     let pw = cases::slice_u32(s, pv.next, &mut words);
-    let ny = py.len;
-    let nu = pu.len;
-    let nv = pv.len;
-    let nw = pw.len;
+    let call = Call {
+        next: next.size,
+        band: band.size,
+        w: w.size,
+        h: h.size,
+    };
     maps(
+        stdout,
         s,
         pw.next,
-        Call {
-            next: next.size,
-            band: band.size,
-            w: w.size,
-            h: h.size,
-        },
-        &mut y[..ny],
-        &mut u[..nu],
-        &mut v[..nv],
-        &mut words[..nw],
+        call,
+        &mut y[..py.len],
+        &mut u[..pu.len],
+        &mut v[..pv.len],
+        &mut words[..pw.len],
     )
 }
 
-// What a call names: the position, the band, and the picture's sides.
-#[derive(Drop)]
-struct Call {
-    next: usize,
-    band: usize,
-    w: usize,
-    h: usize,
-}
-
-// Then the band's split bytes, and the motion, the references and the keep marks over the same rows.
+// Then what lies over the same rows.
 fn maps(
+    stdout: &mut Output,
     s: &[u8],
     at: usize,
     call: Call,
@@ -57,7 +76,7 @@ fn maps(
     u: &mut [u16],
     v: &mut [u16],
     words: &mut [u32],
-) -> usize {
+) -> io::Result<usize> {
     let mut splits = [0u8; 2100];
     let ps = cases::slice_u8(s, at, &mut splits);
     let mut motion = [0i16; 2400];
@@ -66,27 +85,18 @@ fn maps(
     let pr = cases::slice_i8(s, pm.next, &mut refs);
     let mut keep = [0u8; 600];
     let pk = cases::slice_u8(s, pr.next, &mut keep);
-    let ns = ps.len;
-    let nm = pm.len;
-    let nr = pr.len;
-    let nk = pk.len;
-    tables(
-        s,
-        pk.next,
-        call,
-        y,
-        u,
-        v,
-        words,
-        &splits[..ns],
-        &motion[..nm],
-        &refs[..nr],
-        &keep[..nk],
-    )
+    let maps = UnitMaps {
+        splits: &splits[..ps.len],
+        motion: &motion[..pm.len],
+        refs: &refs[..pr.len],
+        keep: &keep[..pk.len],
+    };
+    tables(stdout, s, pk.next, call, y, u, v, words, maps)
 }
 
-// Then the chroma QP tables and the strengths.
+// Then the chroma QP tables and the strengths, and the settings last.
 fn tables(
+    stdout: &mut Output,
     s: &[u8],
     at: usize,
     call: Call,
@@ -94,56 +104,36 @@ fn tables(
     u: &mut [u16],
     v: &mut [u16],
     words: &mut [u32],
-    splits: &[u8],
-    motion: &[i16],
-    refs: &[i8],
-    keep: &[u8],
-) -> usize {
+    maps: UnitMaps<'_>,
+) -> io::Result<usize> {
     let mut t0 = [0i8; 128];
     let p0 = cases::slice_i8(s, at, &mut t0);
     let mut t1 = [0i8; 128];
     let p1 = cases::slice_i8(s, p0.next, &mut t1);
     let mut strengths = [0u8; 256];
     let ps = cases::slice_u8(s, p1.next, &mut strengths);
-    let n0 = p0.len;
-    let n1 = p1.len;
-    let ns = ps.len;
-    deblocked(
-        s,
-        ps.next,
-        call,
-        y,
-        u,
-        v,
-        words,
-        splits,
-        motion,
-        refs,
-        keep,
-        &t0[..n0],
-        &t1[..n1],
-        &strengths[..ns],
-    )
+    let tables = FilterTables {
+        t0: &t0[..p0.len],
+        t1: &t1[..p1.len],
+        strengths: &strengths[..ps.len],
+    };
+    let last = settings(s, ps.next);
+    deblocked(stdout, call, y, u, v, words, maps, tables, last.settings)?;
+    Ok(last.next)
 }
 
-// The settings come last, and the call is made.
+// The call is made.
 fn deblocked(
-    s: &[u8],
-    at: usize,
+    stdout: &mut Output,
     call: Call,
     y: &mut [u16],
     u: &mut [u16],
     v: &mut [u16],
     words: &mut [u32],
-    splits: &[u8],
-    motion: &[i16],
-    refs: &[i8],
-    keep: &[u8],
-    t0: &[i8],
-    t1: &[i8],
-    strengths: &[u8],
-) -> usize {
-    let last = settings(s, at);
+    maps: UnitMaps<'_>,
+    tables: FilterTables<'_>,
+    settings: Settings,
+) -> io::Result<()> {
     let position = Bands { next: call.next };
     let answer = position.deblock_band(
         call.band,
@@ -153,17 +143,16 @@ fn deblocked(
         &mut *u,
         &mut *v,
         &mut *words,
-        splits,
-        motion,
-        refs,
-        keep,
-        t0,
-        t1,
-        strengths,
-        last.settings,
+        maps.splits,
+        maps.motion,
+        maps.refs,
+        maps.keep,
+        tables.t0,
+        tables.t1,
+        tables.strengths,
+        settings,
     );
-    print(answer, y, u, v, words);
-    last.next
+    print(stdout, answer, y, u, v, words)
 }
 
 // A chroma format by its flag.
@@ -202,43 +191,53 @@ fn settings(s: &[u8], at: usize) -> Last {
 }
 
 // The number and the counts, which are 0 where it refused, the position, and what it may have written.
-fn print(answer: Banded, y: &[u16], u: &[u16], v: &[u16], words: &[u32]) {
+fn print(
+    stdout: &mut Output,
+    answer: Banded,
+    y: &[u16],
+    u: &[u16],
+    v: &[u16],
+    words: &[u32],
+) -> io::Result<()> {
     match answer {
         Banded::Done {
             vertical,
             horizontal,
             next,
         } => {
-            replay::print_first(0);
-            replay::print_usize(vertical);
-            replay::print_usize(horizontal);
-            replay::print_usize(next.next);
+            replay::print_first(stdout, 0)?;
+            replay::print_usize(stdout, vertical)?;
+            replay::print_usize(stdout, horizontal)?;
+            replay::print_usize(stdout, next.next)?;
         }
         Banded::Refused(r, at) => {
-            replay::print_first(def::refusal_number(r));
-            replay::print_usize(0);
-            replay::print_usize(0);
-            replay::print_usize(at.next);
+            replay::print_first(stdout, def::refusal_number(r))?;
+            replay::print_usize(stdout, 0)?;
+            replay::print_usize(stdout, 0)?;
+            replay::print_usize(stdout, at.next)?;
         }
     }
-    replay::print_u16(y);
-    replay::print_u16(u);
-    replay::print_u16(v);
-    replay::print_u32(words);
-    replay::print_end();
+    replay::print_u16(stdout, y)?;
+    replay::print_u16(stdout, u)?;
+    replay::print_u16(stdout, v)?;
+    replay::print_u32(stdout, words)?;
+    replay::print_end(stdout)
 }
 
 // Every case in turn.
-fn every(s: &[u8]) {
+fn every(stdout: &mut Output, s: &[u8]) -> io::Result<()> {
     let mut at = 0;
     while at < s.len() {
-        let end = one(s, at);
+        let end = one(stdout, s, at)?;
         at = replay::after(s, at, end);
     }
+    Ok(())
 }
 
-fn main() {
+fn main(rt: HostRuntime) -> io::Result<()> {
     let mut all = replay::room();
-    let n = replay::load(&mut all);
-    every(&all[..n]);
+    let n = replay::load(&rt, &mut all);
+    let mut stdout = replay::output(&rt)?;
+    every(&mut stdout, &all[..n])?;
+    stdout.flush()
 }

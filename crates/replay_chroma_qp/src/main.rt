@@ -2,7 +2,10 @@
 // and both tables as it leaves them.
 #![tactic(auto)]
 
-fn one(s: &[u8], at: usize) -> usize {
+use replay::Output;
+use std::io::{self, Write};
+
+fn one(stdout: &mut Output, s: &[u8], at: usize) -> io::Result<usize> {
     let global = cases::number(s, at);
     let same = cases::number(s, global.next);
     let mut a0 = [0i8; 128];
@@ -15,25 +18,23 @@ fn one(s: &[u8], at: usize) -> usize {
     let count1 = cases::number(s, pb0.next);
     let pa1 = cases::slice_i8(s, count1.next, &mut a1);
     let pb1 = cases::slice_i8(s, pa1.next, &mut b1);
-    let na0 = pa0.len;
-    let nb0 = pb0.len;
-    let na1 = pa1.len;
-    let nb1 = pb1.len;
     tables(
+        stdout,
         s,
         pb1.next,
         global.size == 1,
         same.size == 1,
         count0.size,
-        &a0[..na0],
-        &b0[..nb0],
+        &a0[..pa0.len],
+        &b0[..pb0.len],
         count1.size,
-        &a1[..na1],
-        &b1[..nb1],
+        &a1[..pa1.len],
+        &b1[..pb1.len],
     )
 }
 
 fn tables(
+    stdout: &mut Output,
     s: &[u8],
     at: usize,
     global: bool,
@@ -44,14 +45,13 @@ fn tables(
     count1: usize,
     a1: &[i8],
     b1: &[i8],
-) -> usize {
+) -> io::Result<usize> {
     let mut t0 = [0i8; 128];
     let mut t1 = [0i8; 128];
     let pt0 = cases::slice_i8(s, at, &mut t0);
     let pt1 = cases::slice_i8(s, pt0.next, &mut t1);
-    let nt0 = pt0.len;
-    let nt1 = pt1.len;
     derived(
+        stdout,
         global,
         same,
         count0,
@@ -60,13 +60,14 @@ fn tables(
         count1,
         a1,
         b1,
-        &mut t0[..nt0],
-        &mut t1[..nt1],
-    );
-    pt1.next
+        &mut t0[..pt0.len],
+        &mut t1[..pt1.len],
+    )?;
+    Ok(pt1.next)
 }
 
 fn derived(
+    stdout: &mut Output,
     global: bool,
     same: bool,
     count0: usize,
@@ -77,27 +78,30 @@ fn derived(
     b1: &[i8],
     t0: &mut [i8],
     t1: &mut [i8],
-) {
+) -> io::Result<()> {
     let answer = chroma_qp::derived_chroma_qp_mapping_tables(
         global, same, count0, a0, b0, count1, a1, b1, t0, t1,
     );
-    replay::print_first(def::answer_number(answer));
-    replay::print_i8(t0);
-    replay::print_i8(t1);
-    replay::print_end();
+    replay::print_first(stdout, def::answer_number(answer))?;
+    replay::print_i8(stdout, t0)?;
+    replay::print_i8(stdout, t1)?;
+    replay::print_end(stdout)
 }
 
 // Every case in turn.
-fn every(s: &[u8]) {
+fn every(stdout: &mut Output, s: &[u8]) -> io::Result<()> {
     let mut at = 0;
     while at < s.len() {
-        let end = one(s, at);
+        let end = one(stdout, s, at)?;
         at = replay::after(s, at, end);
     }
+    Ok(())
 }
 
-fn main() {
+fn main(rt: HostRuntime) -> io::Result<()> {
     let mut all = replay::room();
-    let n = replay::load(&mut all);
-    every(&all[..n]);
+    let n = replay::load(&rt, &mut all);
+    let mut stdout = replay::output(&rt)?;
+    every(&mut stdout, &all[..n])?;
+    stdout.flush()
 }

@@ -1,12 +1,39 @@
 // Replays recorded cases of deblocking, by a map of edge rows and by none. A line of data/cases is a call; the line printed for it is the number that
 // it answers, both passes' edge counts, and the planes and the unit words as it leaves them.
 #![tactic(auto)]
+
 use def::Format;
 use df::Deblocked;
 use df_check::Settings;
+use replay::Output;
+use std::io::{self, Write};
+
+// The picture's sides.
+#[derive(Clone, Copy)]
+struct Size {
+    w: usize,
+    h: usize,
+}
+
+// What lies over the picture: its split bytes, its motion, its references and its keep marks.
+#[derive(Clone, Copy)]
+struct UnitMaps<'a> {
+    splits: &'a [u8],
+    motion: &'a [i16],
+    refs: &'a [i8],
+    keep: &'a [u8],
+}
+
+// The chroma QP tables and the strengths.
+#[derive(Clone, Copy)]
+struct FilterTables<'a> {
+    t0: &'a [i8],
+    t1: &'a [i8],
+    strengths: &'a [u8],
+}
 
 // The picture's size, its planes and its unit words come first in a case.
-fn one(s: &[u8], at: usize) -> usize {
+fn one(stdout: &mut Output, s: &[u8], at: usize) -> io::Result<usize> {
     let w = cases::number(s, at);
     let h = cases::number(s, w.next);
     let mut y = [0u16; 20000];
@@ -17,33 +44,25 @@ fn one(s: &[u8], at: usize) -> usize {
     let pv = cases::slice_u16(s, pu.next, &mut v);
     let mut words = [0u32; 1300];
     let pw = cases::slice_u32(s, pv.next, &mut words);
-    let ny = py.len;
-    let nu = pu.len;
-    let nv = pv.len;
-    let nw = pw.len;
+    let size = Size {
+        w: w.size,
+        h: h.size,
+    };
     maps(
+        stdout,
         s,
         pw.next,
-        Size {
-            w: w.size,
-            h: h.size,
-        },
-        &mut y[..ny],
-        &mut u[..nu],
-        &mut v[..nv],
-        &mut words[..nw],
+        size,
+        &mut y[..py.len],
+        &mut u[..pu.len],
+        &mut v[..pv.len],
+        &mut words[..pw.len],
     )
 }
 
-// The picture's sides.
-#[derive(Drop)]
-struct Size {
-    w: usize,
-    h: usize,
-}
-
-// Then what lies over the picture: its split bytes, its motion, its references and its keep marks.
+// Then what lies over the picture.
 fn maps(
+    stdout: &mut Output,
     s: &[u8],
     at: usize,
     size: Size,
@@ -51,7 +70,7 @@ fn maps(
     u: &mut [u16],
     v: &mut [u16],
     words: &mut [u32],
-) -> usize {
+) -> io::Result<usize> {
     let mut splits = [0u8; 67000];
     let ps = cases::slice_u8(s, at, &mut splits);
     let mut motion = [0i16; 5200];
@@ -60,27 +79,18 @@ fn maps(
     let pr = cases::slice_i8(s, pm.next, &mut refs);
     let mut keep = [0u8; 1300];
     let pk = cases::slice_u8(s, pr.next, &mut keep);
-    let ns = ps.len;
-    let nm = pm.len;
-    let nr = pr.len;
-    let nk = pk.len;
-    tables(
-        s,
-        pk.next,
-        size,
-        y,
-        u,
-        v,
-        words,
-        &splits[..ns],
-        &motion[..nm],
-        &refs[..nr],
-        &keep[..nk],
-    )
+    let maps = UnitMaps {
+        splits: &splits[..ps.len],
+        motion: &motion[..pm.len],
+        refs: &refs[..pr.len],
+        keep: &keep[..pk.len],
+    };
+    tables(stdout, s, pk.next, size, y, u, v, words, maps)
 }
 
 // Then the chroma QP tables and the strengths.
 fn tables(
+    stdout: &mut Output,
     s: &[u8],
     at: usize,
     size: Size,
@@ -88,40 +98,25 @@ fn tables(
     u: &mut [u16],
     v: &mut [u16],
     words: &mut [u32],
-    splits: &[u8],
-    motion: &[i16],
-    refs: &[i8],
-    keep: &[u8],
-) -> usize {
+    maps: UnitMaps<'_>,
+) -> io::Result<usize> {
     let mut t0 = [0i8; 128];
     let p0 = cases::slice_i8(s, at, &mut t0);
     let mut t1 = [0i8; 128];
     let p1 = cases::slice_i8(s, p0.next, &mut t1);
     let mut strengths = [0u8; 256];
     let ps = cases::slice_u8(s, p1.next, &mut strengths);
-    let n0 = p0.len;
-    let n1 = p1.len;
-    let ns = ps.len;
-    deblocked(
-        s,
-        ps.next,
-        size,
-        y,
-        u,
-        v,
-        words,
-        splits,
-        motion,
-        refs,
-        keep,
-        &t0[..n0],
-        &t1[..n1],
-        &strengths[..ns],
-    )
+    let tables = FilterTables {
+        t0: &t0[..p0.len],
+        t1: &t1[..p1.len],
+        strengths: &strengths[..ps.len],
+    };
+    deblocked(stdout, s, ps.next, size, y, u, v, words, maps, tables)
 }
 
-// Then the settings, and whether a map of edge rows is lent; the call is made.
+// Then the settings, and whether a map of edge rows is lent, which comes last in a case; the call is made.
 fn deblocked(
+    stdout: &mut Output,
     s: &[u8],
     at: usize,
     size: Size,
@@ -129,76 +124,45 @@ fn deblocked(
     u: &mut [u16],
     v: &mut [u16],
     words: &mut [u32],
-    splits: &[u8],
-    motion: &[i16],
-    refs: &[i8],
-    keep: &[u8],
-    t0: &[i8],
-    t1: &[i8],
-    strengths: &[u8],
-) -> usize {
+    maps: UnitMaps<'_>,
+    tables: FilterTables<'_>,
+) -> io::Result<usize> {
     let last = settings(s, at);
     let lent = cases::number(s, last.next);
     if lent.size == 1 {
-        return by_rows(
-            s,
-            lent.next,
+        let mut rows = [0u8; 1300];
+        let p = cases::slice_u8(s, lent.next, &mut rows);
+        by_rows(
+            stdout,
             size,
             y,
             u,
             v,
             words,
-            splits,
-            motion,
-            refs,
-            keep,
-            t0,
-            t1,
-            strengths,
+            maps,
+            &rows[..p.len],
+            tables,
             last.settings,
-        );
+        )?;
+        return Ok(p.next);
     }
-    let answer = df::deblock(
-        size.w,
-        size.h,
-        &mut *y,
-        &mut *u,
-        &mut *v,
-        &mut *words,
-        splits,
-        motion,
-        refs,
-        keep,
-        t0,
-        t1,
-        strengths,
-        last.settings,
-    );
-    print(answer, y, u, v, words);
-    lent.next
+    by_none(stdout, size, y, u, v, words, maps, tables, last.settings)?;
+    Ok(lent.next)
 }
 
-// The map comes last in a case.
+// By the map of edge rows.
 fn by_rows(
-    s: &[u8],
-    at: usize,
+    stdout: &mut Output,
     size: Size,
     y: &mut [u16],
     u: &mut [u16],
     v: &mut [u16],
     words: &mut [u32],
-    splits: &[u8],
-    motion: &[i16],
-    refs: &[i8],
-    keep: &[u8],
-    t0: &[i8],
-    t1: &[i8],
-    strengths: &[u8],
+    maps: UnitMaps<'_>,
+    rows: &[u8],
+    tables: FilterTables<'_>,
     settings: Settings,
-) -> usize {
-    let mut rows = [0u8; 1300];
-    let p = cases::slice_u8(s, at, &mut rows);
-    let n = p.len;
+) -> io::Result<()> {
     let answer = df::deblock_by_rows(
         size.w,
         size.h,
@@ -206,18 +170,48 @@ fn by_rows(
         &mut *u,
         &mut *v,
         &mut *words,
-        splits,
-        motion,
-        refs,
-        keep,
-        &rows[..n],
-        t0,
-        t1,
-        strengths,
+        maps.splits,
+        maps.motion,
+        maps.refs,
+        maps.keep,
+        rows,
+        tables.t0,
+        tables.t1,
+        tables.strengths,
         settings,
     );
-    print(answer, y, u, v, words);
-    p.next
+    print(stdout, answer, y, u, v, words)
+}
+
+// By none.
+fn by_none(
+    stdout: &mut Output,
+    size: Size,
+    y: &mut [u16],
+    u: &mut [u16],
+    v: &mut [u16],
+    words: &mut [u32],
+    maps: UnitMaps<'_>,
+    tables: FilterTables<'_>,
+    settings: Settings,
+) -> io::Result<()> {
+    let answer = df::deblock(
+        size.w,
+        size.h,
+        &mut *y,
+        &mut *u,
+        &mut *v,
+        &mut *words,
+        maps.splits,
+        maps.motion,
+        maps.refs,
+        maps.keep,
+        tables.t0,
+        tables.t1,
+        tables.strengths,
+        settings,
+    );
+    print(stdout, answer, y, u, v, words)
 }
 
 // A chroma format by its flag.
@@ -256,40 +250,50 @@ fn settings(s: &[u8], at: usize) -> Last {
 }
 
 // The number and the counts, which are 0 where it refused, and what it may have written.
-fn print(answer: Deblocked, y: &[u16], u: &[u16], v: &[u16], words: &[u32]) {
+fn print(
+    stdout: &mut Output,
+    answer: Deblocked,
+    y: &[u16],
+    u: &[u16],
+    v: &[u16],
+    words: &[u32],
+) -> io::Result<()> {
     match answer {
         Deblocked::Done {
             vertical,
             horizontal,
         } => {
-            replay::print_first(0);
-            replay::print_usize(vertical);
-            replay::print_usize(horizontal);
+            replay::print_first(stdout, 0)?;
+            replay::print_usize(stdout, vertical)?;
+            replay::print_usize(stdout, horizontal)?;
         }
         Deblocked::Refused(r) => {
-            replay::print_first(def::refusal_number(r));
-            replay::print_usize(0);
-            replay::print_usize(0);
+            replay::print_first(stdout, def::refusal_number(r))?;
+            replay::print_usize(stdout, 0)?;
+            replay::print_usize(stdout, 0)?;
         }
     }
-    replay::print_u16(y);
-    replay::print_u16(u);
-    replay::print_u16(v);
-    replay::print_u32(words);
-    replay::print_end();
+    replay::print_u16(stdout, y)?;
+    replay::print_u16(stdout, u)?;
+    replay::print_u16(stdout, v)?;
+    replay::print_u32(stdout, words)?;
+    replay::print_end(stdout)
 }
 
 // Every case in turn.
-fn every(s: &[u8]) {
+fn every(stdout: &mut Output, s: &[u8]) -> io::Result<()> {
     let mut at = 0;
     while at < s.len() {
-        let end = one(s, at);
+        let end = one(stdout, s, at)?;
         at = replay::after(s, at, end);
     }
+    Ok(())
 }
 
-fn main() {
+fn main(rt: HostRuntime) -> io::Result<()> {
     let mut all = replay::room();
-    let n = replay::load(&mut all);
-    every(&all[..n]);
+    let n = replay::load(&rt, &mut all);
+    let mut stdout = replay::output(&rt)?;
+    every(&mut stdout, &all[..n])?;
+    stdout.flush()
 }

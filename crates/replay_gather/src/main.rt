@@ -1,7 +1,10 @@
 // Replays recorded cases of gathering. A line of data/cases is a call; the line printed for it is the number that it answers, and the run
 // as it leaves it.
 #![tactic(auto)]
+
 use def::{Component, Pel};
+use replay::Output;
+use std::io::{self, Write};
 
 fn component(n: usize) -> Component {
     if n == 0 {
@@ -10,7 +13,7 @@ fn component(n: usize) -> Component {
     Component::Chroma
 }
 
-fn one(s: &[u8], at: usize) -> usize {
+fn one(stdout: &mut Output, s: &[u8], at: usize) -> io::Result<usize> {
     let c = cases::number(s, at);
     let w = cases::number(s, c.next);
     let h = cases::number(s, w.next);
@@ -18,20 +21,20 @@ fn one(s: &[u8], at: usize) -> usize {
     let pp = cases::slice_u16(s, h.next, &mut plane);
     let mut words = [0u32; 4096];
     let pw = cases::slice_u32(s, pp.next, &mut words);
-    let np = pp.len;
-    let nw = pw.len;
     gathered(
+        stdout,
         s,
         pw.next,
         component(c.size),
         w.size,
         h.size,
-        &plane[..np],
-        &words[..nw],
+        &plane[..pp.len],
+        &words[..pw.len],
     )
 }
 
 fn gathered(
+    stdout: &mut Output,
     s: &[u8],
     at: usize,
     c: Component,
@@ -39,15 +42,15 @@ fn gathered(
     h: usize,
     plane: &[u16],
     words: &[u32],
-) -> usize {
+) -> io::Result<usize> {
     let x = cases::number(s, at);
     let y = cases::number(s, x.next);
     let side = cases::number(s, y.next);
     let constrained = cases::number(s, side.next);
     let mut run = [0u16; 512];
     let pr = cases::slice_u16(s, constrained.next, &mut run);
-    let nr = pr.len;
     filled(
+        stdout,
         c,
         w,
         h,
@@ -57,12 +60,13 @@ fn gathered(
         Pel(y.size),
         side.size,
         constrained.size == 1,
-        &mut run[..nr],
-    );
-    pr.next
+        &mut run[..pr.len],
+    )?;
+    Ok(pr.next)
 }
 
 fn filled(
+    stdout: &mut Output,
     c: Component,
     w: usize,
     h: usize,
@@ -73,24 +77,27 @@ fn filled(
     side: usize,
     constrained: bool,
     run: &mut [u16],
-) {
+) -> io::Result<()> {
     let answer = nbr::get_nbr(c, w, h, plane, words, x, y, side, constrained, run);
-    replay::print_first(def::answer_number(answer));
-    replay::print_u16(run);
-    replay::print_end();
+    replay::print_first(stdout, def::answer_number(answer))?;
+    replay::print_u16(stdout, run)?;
+    replay::print_end(stdout)
 }
 
 // Every case in turn.
-fn every(s: &[u8]) {
+fn every(stdout: &mut Output, s: &[u8]) -> io::Result<()> {
     let mut at = 0;
     while at < s.len() {
-        let end = one(s, at);
+        let end = one(stdout, s, at)?;
         at = replay::after(s, at, end);
     }
+    Ok(())
 }
 
-fn main() {
+fn main(rt: HostRuntime) -> io::Result<()> {
     let mut all = replay::room();
-    let n = replay::load(&mut all);
-    every(&all[..n]);
+    let n = replay::load(&rt, &mut all);
+    let mut stdout = replay::output(&rt)?;
+    every(&mut stdout, &all[..n])?;
+    stdout.flush()
 }

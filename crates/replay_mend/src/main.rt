@@ -1,31 +1,41 @@
 // Replays recorded cases of mending. A line of data/cases is a call; the line printed for it is the number that it answers, how many changes there are, and
 // the mended map and the list as it leaves them.
 #![tactic(auto)]
+
 use mend::Mended;
+use replay::Output;
+use std::io::{self, Write};
 
 // The number and the count, which is 0 where it refused.
-fn print(answer: Mended) {
+fn print(stdout: &mut Output, answer: Mended) -> io::Result<()> {
     match answer {
         Mended::Done(count) => {
-            replay::print_first(0);
-            replay::print_usize(count);
+            replay::print_first(stdout, 0)?;
+            replay::print_usize(stdout, count)
         }
         Mended::Refused(r) => {
-            replay::print_first(def::refusal_number(r));
-            replay::print_usize(0);
+            replay::print_first(stdout, def::refusal_number(r))?;
+            replay::print_usize(stdout, 0)
         }
     }
 }
 
-fn mended(w: usize, h: usize, splits: &[u8], out: &mut [u8], list: &mut [u16]) {
-    print(mend::mend(w, h, splits, &mut *out, &mut *list));
-    replay::print_u8(out);
-    replay::print_u16(list);
-    replay::print_end();
+fn mended(
+    stdout: &mut Output,
+    w: usize,
+    h: usize,
+    splits: &[u8],
+    out: &mut [u8],
+    list: &mut [u16],
+) -> io::Result<()> {
+    print(stdout, mend::mend(w, h, splits, &mut *out, &mut *list))?;
+    replay::print_u8(stdout, out)?;
+    replay::print_u16(stdout, list)?;
+    replay::print_end(stdout)
 }
 
 // The picture's size, its map, and what stands in the two buffers.
-fn one(s: &[u8], at: usize) -> usize {
+fn one(stdout: &mut Output, s: &[u8], at: usize) -> io::Result<usize> {
     let w = cases::number(s, at);
     let h = cases::number(s, w.next);
     let mut splits = [0u8; 2100];
@@ -34,30 +44,31 @@ fn one(s: &[u8], at: usize) -> usize {
     let po = cases::slice_u8(s, ps.next, &mut out);
     let mut list = [0u16; 900];
     let pl = cases::slice_u16(s, po.next, &mut list);
-    let ns = ps.len;
-    let no = po.len;
-    let nl = pl.len;
     mended(
+        stdout,
         w.size,
         h.size,
-        &splits[..ns],
-        &mut out[..no],
-        &mut list[..nl],
-    );
-    pl.next
+        &splits[..ps.len],
+        &mut out[..po.len],
+        &mut list[..pl.len],
+    )?;
+    Ok(pl.next)
 }
 
 // Every case in turn.
-fn every(s: &[u8]) {
+fn every(stdout: &mut Output, s: &[u8]) -> io::Result<()> {
     let mut at = 0;
     while at < s.len() {
-        let end = one(s, at);
+        let end = one(stdout, s, at)?;
         at = replay::after(s, at, end);
     }
+    Ok(())
 }
 
-fn main() {
+fn main(rt: HostRuntime) -> io::Result<()> {
     let mut all = replay::room();
-    let n = replay::load(&mut all);
-    every(&all[..n]);
+    let n = replay::load(&rt, &mut all);
+    let mut stdout = replay::output(&rt)?;
+    every(&mut stdout, &all[..n])?;
+    stdout.flush()
 }

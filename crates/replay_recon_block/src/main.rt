@@ -2,7 +2,10 @@
 // it answers, and the block as it leaves it.
 #![tactic(auto)]
 
-fn one(s: &[u8], at: usize) -> usize {
+use replay::Output;
+use std::io::{self, Write};
+
+fn one(stdout: &mut Output, s: &[u8], at: usize) -> io::Result<usize> {
     let coded = cases::number(s, at);
     let side = cases::number(s, coded.next);
     let mut pred = [0u16; 5000];
@@ -11,36 +14,47 @@ fn one(s: &[u8], at: usize) -> usize {
     let pc = cases::slice_i16(s, pp.next, &mut coef);
     let mut rec = [0u16; 5000];
     let pr = cases::slice_u16(s, pc.next, &mut rec);
-    let np = pp.len;
-    let nc = pc.len;
-    let nr = pr.len;
     added(
+        stdout,
         coded.size == 1,
         side.size,
-        &pred[..np],
-        &coef[..nc],
-        &mut rec[..nr],
-    );
-    pr.next
+        &pred[..pp.len],
+        &coef[..pc.len],
+        &mut rec[..pr.len],
+    )?;
+    Ok(pr.next)
 }
 
-fn added(coded: bool, side: usize, pred: &[u16], coef: &[i16], rec: &mut [u16]) {
-    replay::print_first(def::answer_number(recon::recon(coded, side, pred, coef, rec)));
-    replay::print_u16(rec);
-    replay::print_end();
+fn added(
+    stdout: &mut Output,
+    coded: bool,
+    side: usize,
+    pred: &[u16],
+    coef: &[i16],
+    rec: &mut [u16],
+) -> io::Result<()> {
+    replay::print_first(
+        stdout,
+        def::answer_number(recon::recon(coded, side, pred, coef, rec)),
+    )?;
+    replay::print_u16(stdout, rec)?;
+    replay::print_end(stdout)
 }
 
 // Every case in turn.
-fn every(s: &[u8]) {
+fn every(stdout: &mut Output, s: &[u8]) -> io::Result<()> {
     let mut at = 0;
     while at < s.len() {
-        let end = one(s, at);
+        let end = one(stdout, s, at)?;
         at = replay::after(s, at, end);
     }
+    Ok(())
 }
 
-fn main() {
+fn main(rt: HostRuntime) -> io::Result<()> {
     let mut all = replay::room();
-    let n = replay::load(&mut all);
-    every(&all[..n]);
+    let n = replay::load(&rt, &mut all);
+    let mut stdout = replay::output(&rt)?;
+    every(&mut stdout, &all[..n])?;
+    stdout.flush()
 }

@@ -1,20 +1,32 @@
 // Replays recorded cases of the map of edge rows. A line of data/cases is a call, its kind first: 0 fills the map, 1 sets a unit's motion, 2 a bit of its
 // word. The line printed for it is the number that it answers, and every slice that it may write, as it leaves it.
 #![tactic(auto)]
+
 use def::Scu;
 use line::Motion;
+use replay::Output;
+use std::io::{self, Write};
 use unit_edits::Flag;
 
 // ---- the calls
 
-fn filled(w: usize, h: usize, words: &[u32], motion: &[i16], refs: &[i8], rows: &mut [u8]) {
+fn filled(
+    stdout: &mut Output,
+    w: usize,
+    h: usize,
+    words: &[u32],
+    motion: &[i16],
+    refs: &[i8],
+    rows: &mut [u8],
+) -> io::Result<()> {
     let answer = rows::fill_rows(w, h, words, motion, refs, &mut *rows);
-    replay::print_first(def::answer_number(answer));
-    replay::print_u8(rows);
-    replay::print_end();
+    replay::print_first(stdout, def::answer_number(answer))?;
+    replay::print_u8(stdout, rows)?;
+    replay::print_end(stdout)
 }
 
 fn moved(
+    stdout: &mut Output,
     w: usize,
     h: usize,
     x: usize,
@@ -24,7 +36,7 @@ fn moved(
     motion: &mut [i16],
     refs: &mut [i8],
     rows: &mut [u8],
-) {
+) -> io::Result<()> {
     let answer = unit_edits::set_motion(
         w,
         h,
@@ -36,11 +48,11 @@ fn moved(
         &mut *refs,
         &mut *rows,
     );
-    replay::print_first(def::answer_number(answer));
-    replay::print_i16(motion);
-    replay::print_i8(refs);
-    replay::print_u8(rows);
-    replay::print_end();
+    replay::print_first(stdout, def::answer_number(answer))?;
+    replay::print_i16(stdout, motion)?;
+    replay::print_i8(stdout, refs)?;
+    replay::print_u8(stdout, rows)?;
+    replay::print_end(stdout)
 }
 
 fn flag_of(coded: usize) -> Flag {
@@ -48,6 +60,7 @@ fn flag_of(coded: usize) -> Flag {
 }
 
 fn flagged(
+    stdout: &mut Output,
     w: usize,
     h: usize,
     x: usize,
@@ -58,7 +71,7 @@ fn flagged(
     motion: &[i16],
     refs: &[i8],
     rows: &mut [u8],
-) {
+) -> io::Result<()> {
     let answer = unit_edits::set_flag(
         w,
         h,
@@ -71,15 +84,15 @@ fn flagged(
         refs,
         &mut *rows,
     );
-    replay::print_first(def::answer_number(answer));
-    replay::print_u32(words);
-    replay::print_u8(rows);
-    replay::print_end();
+    replay::print_first(stdout, def::answer_number(answer))?;
+    replay::print_u32(stdout, words)?;
+    replay::print_u8(stdout, rows)?;
+    replay::print_end(stdout)
 }
 
 // ---- the cases
 
-fn fill_case(s: &[u8], at: usize) -> usize {
+fn fill_case(stdout: &mut Output, s: &[u8], at: usize) -> io::Result<usize> {
     let w = cases::number(s, at);
     let h = cases::number(s, w.next);
     let mut words = [0u32; 1024];
@@ -90,19 +103,16 @@ fn fill_case(s: &[u8], at: usize) -> usize {
     let pr = cases::slice_i8(s, pm.next, &mut refs);
     let mut rows = [0u8; 1024];
     let p = cases::slice_u8(s, pr.next, &mut rows);
-    let nw = pw.len;
-    let nm = pm.len;
-    let nr = pr.len;
-    let n = p.len;
     filled(
+        stdout,
         w.size,
         h.size,
-        &words[..nw],
-        &motion[..nm],
-        &refs[..nr],
-        &mut rows[..n],
-    );
-    p.next
+        &words[..pw.len],
+        &motion[..pm.len],
+        &refs[..pr.len],
+        &mut rows[..p.len],
+    )?;
+    Ok(p.next)
 }
 
 // A motion as a case has it: x and y of list 0 and of list 1, then the references.
@@ -117,7 +127,7 @@ fn motion_from(of: &[i16; 4], by: &[i8; 2]) -> Motion {
     }
 }
 
-fn motion_case(s: &[u8], at: usize) -> usize {
+fn motion_case(stdout: &mut Output, s: &[u8], at: usize) -> io::Result<usize> {
     let w = cases::number(s, at);
     let h = cases::number(s, w.next);
     let x = cases::number(s, h.next);
@@ -134,25 +144,22 @@ fn motion_case(s: &[u8], at: usize) -> usize {
     let pr = cases::slice_i8(s, pm.next, &mut refs);
     let mut rows = [0u8; 1024];
     let p = cases::slice_u8(s, pr.next, &mut rows);
-    let nw = pw.len;
-    let nm = pm.len;
-    let nr = pr.len;
-    let n = p.len;
     moved(
+        stdout,
         w.size,
         h.size,
         x.size,
         y.size,
         motion_from(&of, &by),
-        &words[..nw],
-        &mut motion[..nm],
-        &mut refs[..nr],
-        &mut rows[..n],
-    );
-    p.next
+        &words[..pw.len],
+        &mut motion[..pm.len],
+        &mut refs[..pr.len],
+        &mut rows[..p.len],
+    )?;
+    Ok(p.next)
 }
 
-fn flag_case(s: &[u8], at: usize) -> usize {
+fn flag_case(stdout: &mut Output, s: &[u8], at: usize) -> io::Result<usize> {
     let w = cases::number(s, at);
     let h = cases::number(s, w.next);
     let x = cases::number(s, h.next);
@@ -167,47 +174,47 @@ fn flag_case(s: &[u8], at: usize) -> usize {
     let pr = cases::slice_i8(s, pm.next, &mut refs);
     let mut rows = [0u8; 1024];
     let p = cases::slice_u8(s, pr.next, &mut rows);
-    let nw = pw.len;
-    let nm = pm.len;
-    let nr = pr.len;
-    let n = p.len;
     flagged(
+        stdout,
         w.size,
         h.size,
         x.size,
         y.size,
         coded.size,
         on.size,
-        &mut words[..nw],
-        &motion[..nm],
-        &refs[..nr],
-        &mut rows[..n],
-    );
-    p.next
+        &mut words[..pw.len],
+        &motion[..pm.len],
+        &refs[..pr.len],
+        &mut rows[..p.len],
+    )?;
+    Ok(p.next)
 }
 
-fn one(s: &[u8], at: usize) -> usize {
+fn one(stdout: &mut Output, s: &[u8], at: usize) -> io::Result<usize> {
     let kind = cases::number(s, at);
     let next = kind.next;
     let which = kind.size;
     match which {
-        0 => fill_case(s, next),
-        1 => motion_case(s, next),
-        _ => flag_case(s, next),
+        0 => fill_case(stdout, s, next),
+        1 => motion_case(stdout, s, next),
+        _ => flag_case(stdout, s, next),
     }
 }
 
 // Every case in turn.
-fn every(s: &[u8]) {
+fn every(stdout: &mut Output, s: &[u8]) -> io::Result<()> {
     let mut at = 0;
     while at < s.len() {
-        let end = one(s, at);
+        let end = one(stdout, s, at)?;
         at = replay::after(s, at, end);
     }
+    Ok(())
 }
 
-fn main() {
+fn main(rt: HostRuntime) -> io::Result<()> {
     let mut all = replay::room();
-    let n = replay::load(&mut all);
-    every(&all[..n]);
+    let n = replay::load(&rt, &mut all);
+    let mut stdout = replay::output(&rt)?;
+    every(&mut stdout, &all[..n])?;
+    stdout.flush()
 }

@@ -1,26 +1,29 @@
 // Replays recorded cases of the ward's screen. A line of data/cases is a call; the line printed for it is the number that it answers, the turn that it hands
 // back, how many samples it wrote, and the row's buffer as it leaves it.
 #![tactic(auto)]
+
 use decoder::Format;
+use replay::Output;
+use std::io::{self, Write};
 use ward::{Rowed, Run, Turn, Window};
 
 // ---- the answer
 
-fn print_turn(t: Turn, written: usize) {
-    replay::print_usize(t.plane);
-    replay::print_usize(t.row);
-    replay::print_usize(written);
+fn print_turn(stdout: &mut Output, t: Turn, written: usize) -> io::Result<()> {
+    replay::print_usize(stdout, t.plane)?;
+    replay::print_usize(stdout, t.row)?;
+    replay::print_usize(stdout, written)
 }
 
-fn print_rowed(r: Rowed) {
+fn print_rowed(stdout: &mut Output, r: Rowed) -> io::Result<()> {
     match r {
         Rowed::Given(t, written) => {
-            replay::print_first(0);
-            print_turn(t, written);
+            replay::print_first(stdout, 0)?;
+            print_turn(stdout, t, written)
         }
         Rowed::Refused(r, t) => {
-            replay::print_first(decoder::refusal_number(r));
-            print_turn(t, 0);
+            replay::print_first(stdout, decoder::refusal_number(r))?;
+            print_turn(stdout, t, 0)
         }
     }
 }
@@ -104,15 +107,26 @@ fn read_edges(s: &[u8], at: usize) -> Edges {
     }
 }
 
-fn called(a: Asked, y: &[u16], u: &[u16], v: &[u16], window: Window, out: &mut [u8]) {
+fn called(
+    stdout: &mut Output,
+    a: Asked,
+    y: &[u16],
+    u: &[u16],
+    v: &[u16],
+    window: Window,
+    out: &mut [u8],
+) -> io::Result<()> {
     let turn = a.turn;
     let format = a.format;
-    print_rowed(turn.row(a.plane, a.row, format, a.w, a.h, y, u, v, window, out));
-    replay::print_u8(out);
-    replay::print_end();
+    print_rowed(
+        stdout,
+        turn.row(a.plane, a.row, format, a.w, a.h, y, u, v, window, out),
+    )?;
+    replay::print_u8(stdout, out)?;
+    replay::print_end(stdout)
 }
 
-fn one(s: &[u8], at: usize) -> usize {
+fn one(stdout: &mut Output, s: &[u8], at: usize) -> io::Result<usize> {
     let a = read_asked(s, at);
     let mut y = [0u16; 1024];
     let py = cases::slice_u16(s, a.next, &mut y);
@@ -124,25 +138,32 @@ fn one(s: &[u8], at: usize) -> usize {
     let window = e.window;
     let mut out = [0u8; 1024];
     let p = cases::slice_u8(s, e.next, &mut out);
-    let ny = py.len;
-    let nu = pu.len;
-    let nv = pv.len;
-    let n = p.len;
-    called(a, &y[..ny], &u[..nu], &v[..nv], window, &mut out[..n]);
-    p.next
+    called(
+        stdout,
+        a,
+        &y[..py.len],
+        &u[..pu.len],
+        &v[..pv.len],
+        window,
+        &mut out[..p.len],
+    )?;
+    Ok(p.next)
 }
 
 // Every case in turn.
-fn every(s: &[u8]) {
+fn every(stdout: &mut Output, s: &[u8]) -> io::Result<()> {
     let mut at = 0;
     while at < s.len() {
-        let end = one(s, at);
+        let end = one(stdout, s, at)?;
         at = replay::after(s, at, end);
     }
+    Ok(())
 }
 
-fn main() {
+fn main(rt: HostRuntime) -> io::Result<()> {
     let mut all = replay::room();
-    let n = replay::load(&mut all);
-    every(&all[..n]);
+    let n = replay::load(&rt, &mut all);
+    let mut stdout = replay::output(&rt)?;
+    every(&mut stdout, &all[..n])?;
+    stdout.flush()
 }

@@ -1,7 +1,10 @@
 // Replays recorded cases of YUV4MPEG2 streams. A line of data/cases is a call, its kind first; the line printed for it is the number that it answers, its
 // values, and every slice that it may write, as it leaves it.
 #![tactic(auto)]
+
 use def::Format;
+use replay::Output;
+use std::io::{self, Write};
 use y4m_frame::FrameRead;
 use y4m_header::HeaderRead;
 use y4m_header_out::HeaderWritten;
@@ -9,12 +12,12 @@ use y4m_header_out::HeaderWritten;
 // ---- answers
 
 // The number, the place and the seven numbers of a header's reading.
-fn print_header(r: HeaderRead) {
+fn print_header(stdout: &mut Output, r: HeaderRead) -> io::Result<()> {
     match r {
         HeaderRead::Refused(r, at) => {
-            replay::print_first(def::refusal_number(r));
-            replay::print_usize(at);
-            io::write_all(1, b" 0 0 0 0 0 0 0");
+            replay::print_first(stdout, def::refusal_number(r))?;
+            replay::print_usize(stdout, at)?;
+            stdout.write_all(b" 0 0 0 0 0 0 0")
         }
         HeaderRead::Read {
             w,
@@ -25,41 +28,41 @@ fn print_header(r: HeaderRead) {
             b,
             next,
         } => {
-            io::write_all(1, b"0 0");
-            replay::print_usize(w);
-            replay::print_usize(h);
-            replay::print_usize(f);
-            replay::print_usize(g);
-            replay::print_usize(a);
-            replay::print_usize(b);
-            replay::print_usize(next);
+            stdout.write_all(b"0 0")?;
+            replay::print_usize(stdout, w)?;
+            replay::print_usize(stdout, h)?;
+            replay::print_usize(stdout, f)?;
+            replay::print_usize(stdout, g)?;
+            replay::print_usize(stdout, a)?;
+            replay::print_usize(stdout, b)?;
+            replay::print_usize(stdout, next)
         }
     }
 }
 
-fn print_frame(r: FrameRead) {
+fn print_frame(stdout: &mut Output, r: FrameRead) -> io::Result<()> {
     match r {
         FrameRead::Refused(r, at) => {
-            replay::print_first(def::refusal_number(r));
-            replay::print_usize(at);
-            replay::print_usize(0);
+            replay::print_first(stdout, def::refusal_number(r))?;
+            replay::print_usize(stdout, at)?;
+            replay::print_usize(stdout, 0)
         }
         FrameRead::Read(next) => {
-            io::write_all(1, b"0 0");
-            replay::print_usize(next);
+            stdout.write_all(b"0 0")?;
+            replay::print_usize(stdout, next)
         }
     }
 }
 
-fn print_written(r: HeaderWritten) {
+fn print_written(stdout: &mut Output, r: HeaderWritten) -> io::Result<()> {
     match r {
         HeaderWritten::Refused(r) => {
-            replay::print_first(def::refusal_number(r));
-            replay::print_usize(0);
+            replay::print_first(stdout, def::refusal_number(r))?;
+            replay::print_usize(stdout, 0)
         }
         HeaderWritten::Written(n) => {
-            replay::print_first(0);
-            replay::print_usize(n);
+            replay::print_first(stdout, 0)?;
+            replay::print_usize(stdout, n)
         }
     }
 }
@@ -75,6 +78,7 @@ fn format_of(colour: usize) -> Format {
 // ---- calls on what was read
 
 fn header_written(
+    stdout: &mut Output,
     colour: usize,
     w: usize,
     h: usize,
@@ -83,13 +87,17 @@ fn header_written(
     a: usize,
     b: usize,
     out: &mut [u8],
-) {
-    print_written(y4m_header_out::write_header(format_of(colour), w, h, f, g, a, b, out));
-    replay::print_u8(out);
-    replay::print_end();
+) -> io::Result<()> {
+    print_written(
+        stdout,
+        y4m_header_out::write_header(format_of(colour), w, h, f, g, a, b, out),
+    )?;
+    replay::print_u8(stdout, out)?;
+    replay::print_end(stdout)
 }
 
 fn frame_read(
+    stdout: &mut Output,
     s: &[u8],
     at: usize,
     w: usize,
@@ -97,15 +105,16 @@ fn frame_read(
     y: &mut [u16],
     u: &mut [u16],
     v: &mut [u16],
-) {
-    print_frame(y4m_frame::read_frame(s, at, w, h, y, u, v));
-    replay::print_u16(y);
-    replay::print_u16(u);
-    replay::print_u16(v);
-    replay::print_end();
+) -> io::Result<()> {
+    print_frame(stdout, y4m_frame::read_frame(s, at, w, h, y, u, v))?;
+    replay::print_u16(stdout, y)?;
+    replay::print_u16(stdout, u)?;
+    replay::print_u16(stdout, v)?;
+    replay::print_end(stdout)
 }
 
 fn frame_written(
+    stdout: &mut Output,
     colour: usize,
     w: usize,
     h: usize,
@@ -113,40 +122,40 @@ fn frame_written(
     u: &[u16],
     v: &[u16],
     out: &mut [u8],
-) {
-    replay::print_first(def::answer_number(y4m_frame_out::write_frame(
-        format_of(colour),
-        w,
-        h,
-        y,
-        u,
-        v,
-        out,
-    )));
-    replay::print_u8(out);
-    replay::print_end();
+) -> io::Result<()> {
+    replay::print_first(
+        stdout,
+        def::answer_number(y4m_frame_out::write_frame(format_of(colour), w, h, y, u, v, out)),
+    )?;
+    replay::print_u8(stdout, out)?;
+    replay::print_end(stdout)
 }
 
-fn imported(s: &[u8], y: &mut [u16], u: &mut [u16], v: &mut [u16]) {
-    print_header(y4m::import_frame(s, y, u, v));
-    replay::print_u16(y);
-    replay::print_u16(u);
-    replay::print_u16(v);
-    replay::print_end();
+fn imported(
+    stdout: &mut Output,
+    s: &[u8],
+    y: &mut [u16],
+    u: &mut [u16],
+    v: &mut [u16],
+) -> io::Result<()> {
+    print_header(stdout, y4m::import_frame(s, y, u, v))?;
+    replay::print_u16(stdout, y)?;
+    replay::print_u16(stdout, u)?;
+    replay::print_u16(stdout, v)?;
+    replay::print_end(stdout)
 }
 
 // ---- a case of each kind, after its kind
 
-fn read_header_case(s: &[u8], at: usize) -> usize {
+fn read_header_case(stdout: &mut Output, s: &[u8], at: usize) -> io::Result<usize> {
     let mut bytes = [0u8; 1024];
     let p = cases::slice_u8(s, at, &mut bytes);
-    let n = p.len;
-    print_header(y4m_header::read_header(&bytes[..n]));
-    replay::print_end();
-    p.next
+    print_header(stdout, y4m_header::read_header(&bytes[..p.len]))?;
+    replay::print_end(stdout)?;
+    Ok(p.next)
 }
 
-fn write_header_case(s: &[u8], at: usize) -> usize {
+fn write_header_case(stdout: &mut Output, s: &[u8], at: usize) -> io::Result<usize> {
     let colour = cases::number(s, at);
     let w = cases::number(s, colour.next);
     let h = cases::number(s, w.next);
@@ -156,8 +165,8 @@ fn write_header_case(s: &[u8], at: usize) -> usize {
     let b = cases::number(s, a.next);
     let mut out = [0u8; 1024];
     let p = cases::slice_u8(s, b.next, &mut out);
-    let n = p.len;
     header_written(
+        stdout,
         colour.size,
         w.size,
         h.size,
@@ -165,12 +174,12 @@ fn write_header_case(s: &[u8], at: usize) -> usize {
         g.size,
         a.size,
         b.size,
-        &mut out[..n],
-    );
-    p.next
+        &mut out[..p.len],
+    )?;
+    Ok(p.next)
 }
 
-fn read_frame_case(s: &[u8], at: usize) -> usize {
+fn read_frame_case(stdout: &mut Output, s: &[u8], at: usize) -> io::Result<usize> {
     let mut bytes = [0u8; 1024];
     let p = cases::slice_u8(s, at, &mut bytes);
     let place = cases::number(s, p.next);
@@ -182,23 +191,20 @@ fn read_frame_case(s: &[u8], at: usize) -> usize {
     let pu = cases::slice_u16(s, py.next, &mut u);
     let mut v = [0u16; 1024];
     let pv = cases::slice_u16(s, pu.next, &mut v);
-    let n = p.len;
-    let ny = py.len;
-    let nu = pu.len;
-    let nv = pv.len;
     frame_read(
-        &bytes[..n],
+        stdout,
+        &bytes[..p.len],
         place.size,
         w.size,
         h.size,
-        &mut y[..ny],
-        &mut u[..nu],
-        &mut v[..nv],
-    );
-    pv.next
+        &mut y[..py.len],
+        &mut u[..pu.len],
+        &mut v[..pv.len],
+    )?;
+    Ok(pv.next)
 }
 
-fn write_frame_case(s: &[u8], at: usize) -> usize {
+fn write_frame_case(stdout: &mut Output, s: &[u8], at: usize) -> io::Result<usize> {
     let colour = cases::number(s, at);
     let w = cases::number(s, colour.next);
     let h = cases::number(s, w.next);
@@ -210,23 +216,20 @@ fn write_frame_case(s: &[u8], at: usize) -> usize {
     let pv = cases::slice_u16(s, pu.next, &mut v);
     let mut out = [0u8; 2048];
     let p = cases::slice_u8(s, pv.next, &mut out);
-    let ny = py.len;
-    let nu = pu.len;
-    let nv = pv.len;
-    let n = p.len;
     frame_written(
+        stdout,
         colour.size,
         w.size,
         h.size,
-        &y[..ny],
-        &u[..nu],
-        &v[..nv],
-        &mut out[..n],
-    );
-    p.next
+        &y[..py.len],
+        &u[..pu.len],
+        &v[..pv.len],
+        &mut out[..p.len],
+    )?;
+    Ok(p.next)
 }
 
-fn import_case(s: &[u8], at: usize) -> usize {
+fn import_case(stdout: &mut Output, s: &[u8], at: usize) -> io::Result<usize> {
     let mut bytes = [0u8; 2048];
     let p = cases::slice_u8(s, at, &mut bytes);
     let mut y = [0u16; 1024];
@@ -235,38 +238,43 @@ fn import_case(s: &[u8], at: usize) -> usize {
     let pu = cases::slice_u16(s, py.next, &mut u);
     let mut v = [0u16; 1024];
     let pv = cases::slice_u16(s, pu.next, &mut v);
-    let n = p.len;
-    let ny = py.len;
-    let nu = pu.len;
-    let nv = pv.len;
-    imported(&bytes[..n], &mut y[..ny], &mut u[..nu], &mut v[..nv]);
-    pv.next
+    imported(
+        stdout,
+        &bytes[..p.len],
+        &mut y[..py.len],
+        &mut u[..pu.len],
+        &mut v[..pv.len],
+    )?;
+    Ok(pv.next)
 }
 
-fn one(s: &[u8], at: usize) -> usize {
+fn one(stdout: &mut Output, s: &[u8], at: usize) -> io::Result<usize> {
     let kind = cases::number(s, at);
     let next = kind.next;
     let which = kind.size;
     match which {
-        0 => read_header_case(s, next),
-        1 => write_header_case(s, next),
-        2 => read_frame_case(s, next),
-        3 => write_frame_case(s, next),
-        _ => import_case(s, next),
+        0 => read_header_case(stdout, s, next),
+        1 => write_header_case(stdout, s, next),
+        2 => read_frame_case(stdout, s, next),
+        3 => write_frame_case(stdout, s, next),
+        _ => import_case(stdout, s, next),
     }
 }
 
 // Every case in turn.
-fn every(s: &[u8]) {
+fn every(stdout: &mut Output, s: &[u8]) -> io::Result<()> {
     let mut at = 0;
     while at < s.len() {
-        let end = one(s, at);
+        let end = one(stdout, s, at)?;
         at = replay::after(s, at, end);
     }
+    Ok(())
 }
 
-fn main() {
+fn main(rt: HostRuntime) -> io::Result<()> {
     let mut all = replay::room();
-    let n = replay::load(&mut all);
-    every(&all[..n]);
+    let n = replay::load(&rt, &mut all);
+    let mut stdout = replay::output(&rt)?;
+    every(&mut stdout, &all[..n])?;
+    stdout.flush()
 }

@@ -1,5 +1,6 @@
 // A frame of a YUV4MPEG2 stream, read at a place of its bytes into lent planes. There is no Rust beside it.
 #![tactic(auto)]
+
 ghost use Rattle.std.specs.Prelude.{◌≡◌, ◌+◌, ◌*◌, ◌/◌, ◌≤◌, length};
 ghost use Rattle.laws.specs.Call.{Gives};
 ghost use Rattle.y4m_rules.specs.Frames.{frame_end, planes_ok};

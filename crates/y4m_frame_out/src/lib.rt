@@ -1,5 +1,6 @@
 // A frame of a YUV4MPEG2 stream, written into lent bytes. There is no Rust beside it.
 #![tactic(auto)]
+
 ghost use Rattle.std.specs.Prelude.{◌≡◌, ◌≤◌};
 ghost use Rattle.laws.specs.Call.{Gives};
 ghost use Rattle.def.specs.Answers.{answer_number};

@@ -1,5 +1,6 @@
 // The header line of a YUV4MPEG2 stream, read from its bytes. There is no Rust beside it.
 #![tactic(auto)]
+
 ghost use Rattle.laws.specs.Call.{Gives};
 ghost use Rattle.y4m_header.specs.ReadCall as reading;
 

@@ -1,5 +1,6 @@
 // The header line of a YUV4MPEG2 stream, written into a lent buffer. There is no Rust beside it.
 #![tactic(auto)]
+
 ghost use Rattle.std.specs.Prelude.{◌≡◌};
 ghost use Rattle.laws.specs.Call.{Gives};
 ghost use Rattle.y4m_rules.specs.Numbers.{in_range};
