@@ -33,4 +33,4 @@ returns-2 : tie.Need-returns
 returns-2 c = without _ _ _ c.agree.ensures c.if-agree.false
 
 pub line_place_spec : {M : Type 1} → statement M
-line_place_spec = tie.close (tie.spec (λ c. search rules) (λ c κs. search rules) add_result returns returns-2)
+line_place_spec = tie.close (tie.spec (λ c κs. search rules) add_result returns returns-2)

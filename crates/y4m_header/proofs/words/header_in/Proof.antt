@@ -55,7 +55,6 @@ header_in_spec =
     slice_aggregate_head
     (λ c κs. search rules)
     slice_aggregate_same
-    (λ c. search rules)
     (λ c κs. search rules)
     returns
     words_in_requires

@@ -12,4 +12,4 @@ returns-2 : tie.Need-returns
 returns-2 c = let a = c.args in told_not a.said.sc _ (with_c a.said) _ c.same.ensures c.if-said-same.false
 
 pub told_c_spec : {M : Type 1} → statement M
-told_c_spec = tie.close (tie.spec (λ c. search rules) (λ c κs. search rules) returns returns-2)
+told_c_spec = tie.close (tie.spec (λ c κs. search rules) returns returns-2)

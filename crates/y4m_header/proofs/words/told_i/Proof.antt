@@ -12,4 +12,4 @@ returns-2 : tie.Need-returns
 returns-2 c = let a = c.args in told_not a.said.si _ (with_i a.said) _ c.same.ensures c.if-said-same.false
 
 pub told_i_spec : {M : Type 1} → statement M
-told_i_spec = tie.close (tie.spec (λ c. search rules) (λ c κs. search rules) returns returns-2)
+told_i_spec = tie.close (tie.spec (λ c κs. search rules) returns returns-2)
