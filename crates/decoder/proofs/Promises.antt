@@ -11,7 +11,7 @@ use mathlib.Core.Logic.{inl, inr}
 use mathlib.Core.Path.{◌≡◌, refl, sym, ◌∙◌}
 use mathlib.Core.Bool.{Bool, true, false, not, ◌||◌}
 use mathlib.Core.List.{List, [], ◌∷◌, ◌++◌, map}
-use denote.Ref.{Bor}
+use denote.Ref.{Bor, MutBor}
 use lib.Dec.{ltb, leb, eqb}
 use lib.IntN.{ℤ, pos, negsuc}
 use lib.ListN.{length, set, replicate, take, drop}
@@ -764,7 +764,7 @@ write_map_once = write_sole
 pub read_map_once : (i : Reader) (w h : ℕ) (map : List ℕ) (r r' : Answer) (x x' : Reader) (m m' : List ℕ) → Read i w h map r x m → Read i w h map r' x' m' → (r ≡ r') × (x ≡ x') × (m ≡ m')
 read_map_once = read_sole
 
-pub write_to_once : (b : Bor (List ℕ)) (x x' : Writer) → (x.buf ≡ b) × (x.at ≡ 0) → (x'.buf ≡ b) × (x'.at ≡ 0) → x ≡ x'
+pub write_to_once : (b : MutBor (List ℕ)) (x x' : Writer) → (x.buf ≡ b) × (x.at ≡ 0) → (x'.buf ≡ b) × (x'.at ≡ 0) → x ≡ x'
 write_to_once b x x' p q i = record { buf = (p.0 ∙ sym q.0) i; at = (p.1 ∙ sym q.1) i }
 
 pub read_from_once : (s : Bor (List ℕ)) (x x' : Reader) → (x.src ≡ s) × (x.at ≡ 0) → (x'.src ≡ s) × (x'.at ≡ 0) → x ≡ x'

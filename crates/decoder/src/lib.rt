@@ -23,6 +23,7 @@
 // window_kept, window_chroma, window_chroma_two, motion_row, plan_edges, is_horizontal, filter_luma, filter_chroma, rows_at, checked_maps, checked_by_rows,
 // bits_in, read.
 #![tactic(auto)]
+
 pub use avail::Avail;
 pub use avail::Neighbours;
 pub use avail::get_avail_inter;

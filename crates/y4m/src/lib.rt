@@ -1,5 +1,6 @@
 // The import of a YUV4MPEG2 stream's first frame: its header, and the frame after it. There is no Rust beside it.
 #![tactic(auto)]
+
 ghost use Rattle.std.specs.Prelude.{◌≡◌};
 ghost use Rattle.laws.specs.Call.{Gives};
 ghost use Rattle.y4m_header.specs.ReadCall.{reading_of};
