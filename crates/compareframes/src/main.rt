@@ -1,17 +1,18 @@
 // Compares two YUV4MPEG2 streams: equal, or the first sample that differs, by its frame, plane, place and both values; and draws that frame's differences as a
 // PGM picture over the grid of units. It reads, compares and writes; nothing is decided here.
 #![tactic(auto)]
+
 use decoder::HeaderRead;
-use libc::STDOUT_FILENO;
+use files::{Source, Stream};
+use std::io;
+use std::process::ExitCode;
 
 mod picture; // picture.rt: the picture of a frame's differences
 mod rooms; // rooms.rt: room for a frame of each
 
-// Both files, and what their headers say.
+// What the headers of both files say.
 #[derive(Clone, Copy)]
 struct Job {
-    a: i32,
-    b: i32,
     w: usize,
     h: usize,
     // where the first frames start
@@ -47,24 +48,32 @@ fn wide(v: u16) -> usize {
 }
 
 // A sample of both streams, in a plane of rows of w: `plane=Y x=12 y=7 a=512 b=514`. Answers the exit status.
-fn tell(frame: usize, name: &[u8], w: usize, at: usize, a: &[u16], b: &[u16]) -> u8 {
-    say::field(b"frame=", frame);
-    io::write_all(STDOUT_FILENO, b" plane=");
-    io::write_all(STDOUT_FILENO, name);
+fn tell(
+    rt: &HostRuntime,
+    frame: usize,
+    name: &[u8],
+    w: usize,
+    at: usize,
+    a: &[u16],
+    b: &[u16],
+) -> u8 {
+    say::field(rt, b"frame=", frame);
+    let _ = files::write_all(rt, Stream::Output, b" plane=");
+    let _ = files::write_all(rt, Stream::Output, name);
     if 0 < w {
-        say::field(b" x=", at % w);
-        say::field(b" y=", at / w);
+        say::field(rt, b" x=", at % w);
+        say::field(rt, b" y=", at / w);
     }
-    say::field(b" a=", sample(a, at));
-    say::field(b" b=", sample(b, at));
-    say::shown(say::end_line(), 1)
+    say::field(rt, b" a=", sample(a, at));
+    say::field(rt, b" b=", sample(b, at));
+    say::shown(rt, say::end_line(rt), 1)
 }
 
 // A plane: 255 where it is the same, else the exit status of what was told.
-fn plane(frame: usize, name: &[u8], w: usize, a: &[u16], b: &[u16]) -> u8 {
+fn plane(rt: &HostRuntime, frame: usize, name: &[u8], w: usize, a: &[u16], b: &[u16]) -> u8 {
     let at = differs(a, b);
     if at < a.len() {
-        return tell(frame, name, w, at, a, b);
+        return tell(rt, frame, name, w, at, a, b);
     }
     255
 }
@@ -72,57 +81,65 @@ fn plane(frame: usize, name: &[u8], w: usize, a: &[u16], b: &[u16]) -> u8 {
 // ---- the streams
 
 // Reading a stream failed, that which an argument names.
-fn failed(at: usize, file: i32) -> u8 {
-    words::unreadable(at, file);
+fn failed(rt: &HostRuntime, at: usize, error: io::Error) -> u8 {
+    words::unread(rt, at, error);
     2
 }
 
-fn refused(at: usize, number: u8, place: usize) -> u8 {
-    y4m_file::refused_in(at, number, place);
+fn refused(rt: &HostRuntime, at: usize, number: u8, place: usize) -> u8 {
+    y4m_file::refused_in(rt, at, number, place);
     1
 }
 
-fn ended(name: &[u8], frames: usize) -> u8 {
-    io::write_all(STDOUT_FILENO, name);
-    say::field(b" ends before frame=", frames);
-    say::shown(say::end_line(), 1)
+fn ended(rt: &HostRuntime, name: &[u8], frames: usize) -> u8 {
+    let _ = files::write_all(rt, Stream::Output, name);
+    say::field(rt, b" ends before frame=", frames);
+    say::shown(rt, say::end_line(rt), 1)
 }
 
-fn equal(frames: usize) -> u8 {
-    say::field(b"equal frames=", frames);
-    say::shown(say::end_line(), 0)
+fn equal(rt: &HostRuntime, frames: usize) -> u8 {
+    say::field(rt, b"equal frames=", frames);
+    say::shown(rt, say::end_line(rt), 0)
 }
 
 // What is told where not both streams have a frame more, and the exit status; 255 where both have. `before`: the bytes of the frames before this one.
-fn both(job: Job, a: y4m_file::Turn, b: y4m_file::Turn, frames: usize, before: usize) -> u8 {
-    if a.failed {
-        return failed(1, job.a);
+fn both(
+    rt: &HostRuntime,
+    job: Job,
+    a: y4m_file::Turn,
+    b: y4m_file::Turn,
+    frames: usize,
+    before: usize,
+) -> u8 {
+    if let Some(error) = a.failed {
+        return failed(rt, 1, error);
     }
-    if b.failed {
-        return failed(2, job.b);
+    if let Some(error) = b.failed {
+        return failed(rt, 2, error);
     }
     if a.number != 0 {
         let place = std::num::wrapping_add_usize(job.next_a, before);
-        return refused(1, a.number, std::num::wrapping_add_usize(place, a.at));
+        return refused(rt, 1, a.number, std::num::wrapping_add_usize(place, a.at));
     }
     if b.number != 0 {
         let place = std::num::wrapping_add_usize(job.next_b, before);
-        return refused(2, b.number, std::num::wrapping_add_usize(place, b.at));
+        return refused(rt, 2, b.number, std::num::wrapping_add_usize(place, b.at));
     }
     if a.more & b.more {
         return 255;
     }
     if a.more {
-        return ended(b"b", frames);
+        return ended(rt, b"b", frames);
     }
     if b.more {
-        return ended(b"a", frames);
+        return ended(rt, b"a", frames);
     }
-    equal(frames)
+    equal(rt, frames)
 }
 
 // The first plane of a frame that differs is told: 255 where none does, else the exit status.
 fn told(
+    rt: &HostRuntime,
     job: Job,
     frame: usize,
     ya: &[u16],
@@ -133,19 +150,20 @@ fn told(
     vb: &[u16],
 ) -> u8 {
     let half = job.w / 2;
-    let y = plane(frame, b"Y", job.w, ya, yb);
+    let y = plane(rt, frame, b"Y", job.w, ya, yb);
     if y != 255 {
         return y;
     }
-    let u = plane(frame, b"U", half, ua, ub);
+    let u = plane(rt, frame, b"U", half, ua, ub);
     if u != 255 {
         return u;
     }
-    plane(frame, b"V", half, va, vb)
+    plane(rt, frame, b"V", half, va, vb)
 }
 
 // The planes of a frame: 255 where they are the same, else the exit status. Where they differ the picture is drawn, if one is asked for.
 fn planes(
+    rt: &HostRuntime,
     job: Job,
     frame: usize,
     ya: &[u16],
@@ -155,11 +173,11 @@ fn planes(
     ub: &[u16],
     vb: &[u16],
 ) -> u8 {
-    let status = told(job, frame, ya, ua, va, yb, ub, vb);
+    let status = told(rt, job, frame, ya, ua, va, yb, ub, vb);
     if (status == 255) | (job.picture == 0) {
         return status;
     }
-    if picture::drawn(job, ya, ua, va, yb, ub, vb) {
+    if picture::drawn(rt, job, ya, ua, va, yb, ub, vb) {
         return status;
     }
     2
@@ -173,6 +191,8 @@ struct Got {
 }
 
 fn next(
+    a: &mut Source,
+    b: &mut Source,
     job: Job,
     bytes: &mut [u8],
     ya: &mut [u16],
@@ -182,13 +202,17 @@ fn next(
     ub: &mut [u16],
     vb: &mut [u16],
 ) -> Got {
-    let a = y4m_file::next_frame(job.a, job.w, job.h, bytes, ya, ua, va);
-    let b = y4m_file::next_frame(job.b, job.w, job.h, bytes, yb, ub, vb);
-    Got { a, b }
+    Got {
+        a: y4m_file::next_frame(a, job.w, job.h, bytes, ya, ua, va),
+        b: y4m_file::next_frame(b, job.w, job.h, bytes, yb, ub, vb),
+    }
 }
 
 // The next frame of each: 255 where both have one and they are the same, else the exit status.
 fn one_frame(
+    rt: &HostRuntime,
+    a: &mut Source,
+    b: &mut Source,
     job: Job,
     frame: usize,
     before: usize,
@@ -200,18 +224,19 @@ fn one_frame(
     ub: &mut [u16],
     vb: &mut [u16],
 ) -> u8 {
-    let got = next(job, bytes, ya, ua, va, yb, ub, vb);
-    let a = got.a;
-    let b = got.b;
-    let status = both(job, a, b, frame, before);
+    let got = next(a, b, job, bytes, ya, ua, va, yb, ub, vb);
+    let status = both(rt, job, got.a, got.b, frame, before);
     if status != 255 {
         return status;
     }
-    planes(job, frame, ya, ua, va, yb, ub, vb)
+    planes(rt, job, frame, ya, ua, va, yb, ub, vb)
 }
 
 // Frame by frame. A proved loop has to end, and nothing says that a stream does: it counts frames up to a number that no run uses up.
 fn every(
+    rt: &HostRuntime,
+    a: &mut Source,
+    b: &mut Source,
     job: Job,
     bytes: &mut [u8],
     ya: &mut [u16],
@@ -224,11 +249,11 @@ fn every(
     let mut frames: usize = 0;
     let mut before: usize = 0;
     while frames < 1000000000000 {
-        let status = one_frame(job, frames, before, bytes, ya, ua, va, yb, ub, vb);
+        let status = one_frame(rt, a, b, job, frames, before, bytes, ya, ua, va, yb, ub, vb);
         if status != 255 {
             return status;
         }
-        y4m_file::progress(frames);
+        y4m_file::progress(rt, frames);
         frames += 1;
         before = std::num::wrapping_add_usize(before, bytes.len());
     }
@@ -255,16 +280,16 @@ fn no_head(status: u8) -> Headed {
     }
 }
 
-fn head(name: usize, file: i32) -> Headed {
+fn head(rt: &HostRuntime, name: usize, file: &mut Source) -> Headed {
     let mut line = [0u8; 256];
     let n = y4m_file::first_line(file, &mut line);
     if n == 0 {
-        if words::read_fails(file) {
-            return no_head(failed(name, file));
+        if let Some(error) = files::failure(file) {
+            return no_head(failed(rt, name, error));
         }
     }
     match decoder::read_header(&line[..n]) {
-        HeaderRead::Refused(r, at) => { no_head(refused(name, decoder::refusal_number(r), at)) }
+        HeaderRead::Refused(r, at) => { no_head(refused(rt, name, decoder::refusal_number(r), at)) }
         HeaderRead::Read {
             w,
             h,
@@ -282,30 +307,31 @@ fn head(name: usize, file: i32) -> Headed {
     }
 }
 
-fn sizes_differ(a: Headed, b: Headed) -> u8 {
-    say::field(b"sizes differ: a ", a.w);
-    say::field(b"x", a.h);
-    say::field(b", b ", b.w);
-    say::field(b"x", b.h);
-    say::shown(say::end_line(), 1)
+fn sizes_differ(rt: &HostRuntime, a: Headed, b: Headed) -> u8 {
+    say::field(rt, b"sizes differ: a ", a.w);
+    say::field(rt, b"x", a.h);
+    say::field(rt, b", b ", b.w);
+    say::field(rt, b"x", b.h);
+    say::shown(rt, say::end_line(rt), 1)
 }
 
-fn compared(a: i32, b: i32, picture: usize) -> u8 {
-    let first = head(1, a);
+fn compared(rt: &HostRuntime, a: &mut Source, b: &mut Source, picture: usize) -> u8 {
+    let first = head(rt, 1, a);
     if first.status != 0 {
         return first.status;
     }
-    let second = head(2, b);
+    let second = head(rt, 2, b);
     if second.status != 0 {
         return second.status;
     }
     if (first.w != second.w) | (first.h != second.h) {
-        return sizes_differ(first, second);
+        return sizes_differ(rt, first, second);
     }
     rooms::frames(
+        rt,
+        a,
+        b,
         Job {
-            a,
-            b,
             w: first.w,
             h: first.h,
             next_a: first.next,
@@ -316,45 +342,44 @@ fn compared(a: i32, b: i32, picture: usize) -> u8 {
     )
 }
 
-fn help() {
-    say::line(b"usage: compare-frames A B [--picture FILE]");
+fn help(rt: &HostRuntime) {
+    say::line(rt, b"usage: compare-frames A B [--picture FILE]");
     say::line(
+        rt,
         b"Compares two YUV4MPEG2 streams of 10 bits: equal, or the first sample that differs.",
     );
     say::line(
+        rt,
         b"--picture FILE  writes that frame's differences as a PGM picture over the grid of units",
     );
     say::line(
+        rt,
         b"status: 0 equal, 1 different or refused, 2 bad usage or a failure of input or output",
     );
 }
 
-fn run(picture: usize) -> u8 {
-    let a = words::open(1);
-    if a < 0 {
-        return 2;
+fn run(rt: &HostRuntime, picture: usize) -> u8 {
+    match words::open(rt, 1) {
+        None => 2,
+        Some(mut a) => match words::open(rt, 2) {
+            None => 2,
+            Some(mut b) => compared(rt, &mut a, &mut b, picture),
+        },
     }
-    let b = words::open(2);
-    if b < 0 {
-        libc::close(a);
-        return 2;
-    }
-    let status = compared(a, b, picture);
-    libc::close(a);
-    libc::close(b);
-    status
 }
 
-fn main() {
-    let count = os::arg_count();
-    if (count == 5) & words::asked(3, b"--picture") {
-        say::status(run(4));
-        return;
+fn main(rt: HostRuntime) -> ExitCode {
+    let count = files::arg_count(&rt);
+    if (count == 5) & words::asked(&rt, 3, b"--picture") {
+        return say::status(run(&rt, 4));
     }
     if count == 3 {
-        say::status(run(0));
-        return;
+        return say::status(run(&rt, 0));
     }
-    help();
-    say::status(if words::asked(1, b"--help") { 0 } else { 2 });
+    help(&rt);
+    say::status(if words::asked(&rt, 1, b"--help") {
+        0
+    } else {
+        2
+    })
 }

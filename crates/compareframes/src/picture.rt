@@ -1,6 +1,8 @@
 // The picture of two frames' differences: a PGM as large as the luma plane. A sample that is the same is black, or dark grey on the grid of units; one that
 // differs, or whose colour does, is the brighter the more it does.
 use crate::Job;
+use std::fs::File;
+use std::io;
 
 fn distance(a: u16, b: u16) -> u16 {
     if a < b { b - a } else { a - b }
@@ -61,12 +63,12 @@ fn row(
     }
 }
 
-fn put_head(file: i32, w: usize, h: usize) -> bool {
-    io::write_all(file, b"P5\n");
-    io::print_decimal(file, w as u64);
-    io::write_all(file, b" ");
-    io::print_decimal(file, h as u64);
-    io::write_all(file, b"\n255\n")
+fn put_head(file: &mut File, w: usize, h: usize) -> io::Result<()> {
+    files::put_all(file, b"P5\n")?;
+    files::put_decimal(file, w as u64)?;
+    files::put_all(file, b" ")?;
+    files::put_decimal(file, h as u64)?;
+    files::put_all(file, b"\n255\n")
 }
 
 // What a luma row of n samples moves the chroma samples on by: every second one, by half.
@@ -75,7 +77,7 @@ fn chroma_step(n: usize, y: usize) -> usize {
 }
 
 fn put(
-    file: i32,
+    file: &mut File,
     h: usize,
     ya: &[u16],
     ua: &[u16],
@@ -84,25 +86,23 @@ fn put(
     ub: &[u16],
     vb: &[u16],
     out: &mut [u8],
-) -> bool {
+) -> io::Result<()> {
     let mut start: usize = 0;
     let mut half: usize = 0;
     let mut y = 0;
     while y < h {
         row(ya, ua, va, yb, ub, vb, start, half, y, out);
-        if !io::write_all(file, out) {
-            return false;
-        }
+        files::put_all(file, out)?;
         start = std::num::wrapping_add_usize(start, out.len());
         half = std::num::wrapping_add_usize(half, chroma_step(out.len(), y));
         y += 1;
     }
-    true
+    Ok(())
 }
 
 // The picture into a file.
 fn put_all(
-    file: i32,
+    file: &mut File,
     job: Job,
     ya: &[u16],
     ua: &[u16],
@@ -110,20 +110,35 @@ fn put_all(
     yb: &[u16],
     ub: &[u16],
     vb: &[u16],
-) -> bool {
+) -> io::Result<()> {
     let w = job.w;
     if 4096 < w {
-        return false;
+        return Err(io::Error::from(io::ErrorKind::InvalidInput));
     }
-    if !put_head(file, w, job.h) {
-        return false;
-    }
+    put_head(file, w, job.h)?;
     let mut out = [0u8; 4096];
     put(file, job.h, ya, ua, va, yb, ub, vb, &mut out[..w])
 }
 
+// The picture into the file of a name, made or emptied before.
+fn put_named(
+    rt: &HostRuntime,
+    path: &[u8],
+    job: Job,
+    ya: &[u16],
+    ua: &[u16],
+    va: &[u16],
+    yb: &[u16],
+    ub: &[u16],
+    vb: &[u16],
+) -> io::Result<()> {
+    let mut file = files::open_overwrite(rt, path)?;
+    put_all(&mut file, job, ya, ua, va, yb, ub, vb)
+}
+
 // The picture that is asked for; false where it cannot be written, which is told.
 pub(crate) fn drawn(
+    rt: &HostRuntime,
     job: Job,
     ya: &[u16],
     ua: &[u16],
@@ -132,17 +147,13 @@ pub(crate) fn drawn(
     ub: &[u16],
     vb: &[u16],
 ) -> bool {
-    let mut path = io::buffer();
-    let n = os::arg(job.picture, &mut path);
-    let file = os::open_overwrite(&path[..n]);
-    if file < 0 {
-        os::fail(&path[..n]);
-        return false;
+    let mut path = files::buffer();
+    let n = files::arg(rt, job.picture, &mut path);
+    match put_named(rt, &path[..n], job, ya, ua, va, yb, ub, vb) {
+        Ok(()) => true,
+        Err(error) => {
+            files::fail(rt, &path[..n], error);
+            false
+        }
     }
-    let written = put_all(file, job, ya, ua, va, yb, ub, vb);
-    let closed = libc::close(file) == 0;
-    if !(written & closed) {
-        os::fail(&path[..n]);
-    }
-    written & closed
 }

@@ -2,8 +2,16 @@
 ghost use Rattle.std.specs.Prelude.{◌≤◌};
 
 use crate::{Job, every};
+use files::Source;
 
-fn in_small(job: Job, luma: usize, chroma: usize) -> u8
+fn in_small(
+    rt: &HostRuntime,
+    a: &mut Source,
+    b: &mut Source,
+    job: Job,
+    luma: usize,
+    chroma: usize,
+) -> u8
     requires { (luma ≤ 262144) × (chroma ≤ 65536) }
 {
     let mut bytes = y4m_file::small_bytes();
@@ -15,6 +23,9 @@ fn in_small(job: Job, luma: usize, chroma: usize) -> u8
     let mut vb = y4m_file::small_chroma();
     let size = 6 + 2 * luma + 4 * chroma;
     every(
+        rt,
+        a,
+        b,
         job,
         &mut bytes[..size],
         &mut ya[..luma],
@@ -26,7 +37,16 @@ fn in_small(job: Job, luma: usize, chroma: usize) -> u8
     )
 }
 
-fn in_large(job: Job, luma: usize, chroma: usize) -> u8
+// The large arrays stay in a frame of their own: a function that took them into its own would need the room at each call.
+#[inline(never)]
+fn in_large(
+    rt: &HostRuntime,
+    a: &mut Source,
+    b: &mut Source,
+    job: Job,
+    luma: usize,
+    chroma: usize,
+) -> u8
     requires { (luma ≤ 16777216) × (chroma ≤ 4194304) }
 {
     let mut bytes = y4m_file::large_bytes();
@@ -38,6 +58,9 @@ fn in_large(job: Job, luma: usize, chroma: usize) -> u8
     let mut vb = y4m_file::large_chroma();
     let size = 6 + 2 * luma + 4 * chroma;
     every(
+        rt,
+        a,
+        b,
         job,
         &mut bytes[..size],
         &mut ya[..luma],
@@ -49,9 +72,14 @@ fn in_large(job: Job, luma: usize, chroma: usize) -> u8
     )
 }
 
-// All frames. Pictures that the small room does not hold are gone to by a call of itself, which is not the last thing done: a compiler puts no large array
-// into the frame of a function that does so.
-pub(crate) fn frames(job: Job, large: bool) -> u8 {
+// All frames. Pictures that the small room does not hold are gone to by a call of itself.
+pub(crate) fn frames(
+    rt: &HostRuntime,
+    a: &mut Source,
+    b: &mut Source,
+    job: Job,
+    large: bool,
+) -> u8 {
     let w = job.w;
     let h = job.h;
     if 4096 < w {
@@ -63,16 +91,19 @@ pub(crate) fn frames(job: Job, large: bool) -> u8 {
     let luma = w * h;
     let chroma = (w / 2) * (h / 2);
     if large {
-        return in_large(job, luma, chroma);
+        return in_large(rt, a, b, job, luma, chroma);
     }
     if luma <= 262144 {
         if chroma <= 65536 {
-            return in_small(job, luma, chroma);
+            return in_small(rt, a, b, job, luma, chroma);
         }
     }
-    let status = frames(job, true);
+    let status = frames(rt, a, b, job, true);
     if status == 2 {
-        say::line(b"(the pictures are large: their frames are kept in a room of 150 megabytes)");
+        say::line(
+            rt,
+            b"(the pictures are large: their frames are kept in a room of 150 megabytes)",
+        );
     }
     status
 }

@@ -1,5 +1,5 @@
 // What the arguments ask for: options, and words that are none. No word is a sheet from standard input, one names a sheet, four are W, H, LIMIT and a map.
-#[derive(Drop)]
+#[derive(Clone, Copy)]
 pub(crate) struct Asked {
     pub(crate) good: bool,
     pub(crate) numbers: bool,
@@ -15,9 +15,9 @@ pub(crate) struct Asked {
 }
 
 // 1, 2 and 3 for an option that is known, 4 for one that is not, 0 for a word that is none.
-fn option(at: usize) -> usize {
-    let mut word = io::buffer();
-    let n = os::arg(at, &mut word);
+fn option(rt: &HostRuntime, at: usize) -> usize {
+    let mut word = files::buffer();
+    let n = files::arg(rt, at, &mut word);
     let known = words::which(&word[..n], b"--numbers --torn --digits ");
     if known != 0 {
         return known;
@@ -26,11 +26,11 @@ fn option(at: usize) -> usize {
 }
 
 // Whether an option is among the arguments.
-fn given(number: usize) -> bool {
-    let count = os::arg_count();
+fn given(rt: &HostRuntime, number: usize) -> bool {
+    let count = files::arg_count(rt);
     let mut at: usize = 1;
     while at < count {
-        if option(at) == number {
+        if option(rt, at) == number {
             return true;
         }
         at += 1;
@@ -39,12 +39,12 @@ fn given(number: usize) -> bool {
 }
 
 // Where the n-th word that is no option is, from 1 on; 0 where there are fewer.
-fn place(n: usize) -> usize {
-    let count = os::arg_count();
+fn place(rt: &HostRuntime, n: usize) -> usize {
+    let count = files::arg_count(rt);
     let mut met: usize = 0;
     let mut at: usize = 1;
     while at < count {
-        if option(at) == 0 {
+        if option(rt, at) == 0 {
             met = std::num::wrapping_add_usize(met, 1);
             if met == n {
                 return at;
@@ -56,17 +56,17 @@ fn place(n: usize) -> usize {
 }
 
 // A sheet, or a map with its three numbers.
-fn words_said(numbers: bool, map: bool, file: usize) -> Asked {
-    let w = words::number_arg(place(1));
-    let h = words::number_arg(place(2));
-    let limit = words::number_arg(place(3));
-    let torn = given(2);
-    let digits = given(3);
+fn words_said(rt: &HostRuntime, numbers: bool, map: bool, file: usize) -> Asked {
+    let w = words::number_arg(rt, place(rt, 1));
+    let h = words::number_arg(rt, place(rt, 2));
+    let limit = words::number_arg(rt, place(rt, 3));
+    let torn = given(rt, 2);
+    let digits = given(rt, 3);
     let limit_ok = (limit.value == 5) | (limit.value == 6);
     let sheet_ok = !map & !torn & !digits;
     let map_ok = map & w.good & h.good & limit_ok & !(torn & digits);
     Asked {
-        good: (sheet_ok | map_ok) & !given(4),
+        good: (sheet_ok | map_ok) & !given(rt, 4),
         numbers,
         torn,
         digits,
@@ -92,16 +92,16 @@ fn none() -> Asked {
     }
 }
 
-pub(crate) fn arguments() -> Asked {
-    let fourth = place(4);
-    if place(5) != 0 {
+pub(crate) fn arguments(rt: &HostRuntime) -> Asked {
+    let fourth = place(rt, 4);
+    if place(rt, 5) != 0 {
         return none();
     }
     if fourth != 0 {
-        return words_said(given(1), true, fourth);
+        return words_said(rt, given(rt, 1), true, fourth);
     }
-    if place(2) != 0 {
+    if place(rt, 2) != 0 {
         return none();
     }
-    words_said(given(1), false, place(1))
+    words_said(rt, given(rt, 1), false, place(rt, 1))
 }

@@ -2,7 +2,9 @@
 // of the horizontal in another; numbered in their order, and with the bytes marked that mending a torn map changes, where that is asked for. It reads, calls
 // and writes: each rule is in a call of the face. `edgepicture` is this; the programs beside it are further runs of it, whose output is compared, too.
 #![tactic(auto)]
-use libc::STDIN_FILENO;
+
+use files::Source;
+use std::process::ExitCode;
 
 mod asked; // asked.rt: what the arguments ask for
 mod pen; // pen.rt: the way to standard output
@@ -26,12 +28,12 @@ fn map_room() -> [u8; 4194305] {
 }
 
 // The picture. Answers the exit status.
-fn drawn(job: Job, map: &[u8]) -> u8 {
-    let mut out = io::large_buffer();
-    let p = svg::start(pen::first(), &mut out, job);
+fn drawn(rt: &HostRuntime, job: Job, map: &[u8]) -> u8 {
+    let mut out = files::large_buffer();
+    let p = svg::start(pen::first(rt), &mut out, job);
     let p = roots::bands(p, &mut out, job, map);
     let p = svg::end(p, &mut out, job);
-    say::shown(pen::ended(p, &out), 0)
+    say::shown(rt, pen::ended(p, &out), 0)
 }
 
 fn job_of(tree: tree_file::Tree, a: asked::Asked) -> Job {
@@ -46,14 +48,19 @@ fn job_of(tree: tree_file::Tree, a: asked::Asked) -> Job {
 }
 
 // The tree that is asked for, its map first in a room.
-fn tree_of(a: asked::Asked, file: i32, map: &mut [u8]) -> tree_file::Tree {
+fn tree_of(
+    rt: &HostRuntime,
+    a: asked::Asked,
+    file: &mut Source,
+    map: &mut [u8],
+) -> tree_file::Tree {
     if !a.map {
-        return tree_file::by_sheet(a.file, file, map);
+        return tree_file::by_sheet(rt, a.file, file, map);
     }
     let status = if a.digits {
-        tree_file::by_digits(a.file, file, a.w, a.h, map)
+        tree_file::by_digits(rt, a.file, file, a.w, a.h, map)
     } else {
-        tree_file::by_bytes(a.file, file, a.w, a.h, a.torn, map)
+        tree_file::by_bytes(rt, a.file, file, a.w, a.h, a.torn, map)
     };
     tree_file::Tree {
         status,
@@ -64,31 +71,30 @@ fn tree_of(a: asked::Asked, file: i32, map: &mut [u8]) -> tree_file::Tree {
 }
 
 // The picture of the tree in a file. Answers the exit status.
-fn file_drawn(a: asked::Asked, file: i32) -> u8 {
+fn file_drawn(rt: &HostRuntime, a: asked::Asked, file: &mut Source) -> u8 {
     let mut map = map_room();
-    let tree = tree_of(a, file, &mut map);
+    let tree = tree_of(rt, a, file, &mut map);
     if tree.status != 0 {
         return tree.status;
     }
     let n = tree_file::map_bytes(tree.w, tree.h);
-    drawn(job_of(tree, a), &map[..n])
+    drawn(rt, job_of(tree, a), &map[..n])
 }
 
-fn opened(a: asked::Asked) -> u8 {
+fn opened(rt: &HostRuntime, a: asked::Asked) -> u8 {
     if a.file == 0 {
-        return file_drawn(a, STDIN_FILENO);
+        let mut input = files::standard_input(rt);
+        return file_drawn(rt, a, &mut input);
     }
-    let file = words::open(a.file);
-    if file < 0 {
-        return 2;
+    match words::open(rt, a.file) {
+        None => 2,
+        Some(mut file) => file_drawn(rt, a, &mut file),
     }
-    let status = file_drawn(a, file);
-    libc::close(file);
-    status
 }
 
-fn help() {
+fn help(rt: &HostRuntime) {
     say::words(
+        rt,
         b"usage: edgepicture [--numbers] [SHEET]
        edgepicture [--numbers] [--torn] W H LIMIT MAP
        edgepicture [--numbers] --digits W H LIMIT DIGITS
@@ -104,12 +110,11 @@ status: 0 done, 1 refused, 2 bad usage or a failure of input or output
 }
 
 // The program, by its arguments.
-pub fn run() {
-    let a = asked::arguments();
+pub fn run(rt: &HostRuntime) -> ExitCode {
+    let a = asked::arguments(rt);
     if a.good {
-        say::status(opened(a));
-        return;
+        return say::status(opened(rt, a));
     }
-    help();
-    say::status(if words::asked(1, b"--help") { 0 } else { 2 });
+    help(rt);
+    say::status(if words::asked(rt, 1, b"--help") { 0 } else { 2 })
 }

@@ -1,21 +1,24 @@
 // What is drawn goes to standard output by way of a buffer. The pen is a value that each call takes and hands back.
-use libc::STDOUT_FILENO;
+use files::Stream;
+use std::io;
 
-// How much of the buffer is used, whether all before it was written, and what was drawn so far.
-#[derive(Drop)]
+// The way to standard output, how much of the buffer is used, why what stood before it could not be written, if it could not, and what was drawn so far.
+#[derive(Clone, Copy)]
 pub(crate) struct Pen {
+    rt: HostRuntime,
     used: usize,
-    pub(crate) good: bool,
+    failed: Option<io::Error>,
     pub(crate) leaves: usize,
     pub(crate) vertical: usize,
     pub(crate) horizontal: usize,
     pub(crate) changes: usize,
 }
 
-pub(crate) fn first() -> Pen {
+pub(crate) fn first(rt: &HostRuntime) -> Pen {
     Pen {
+        rt: *rt,
         used: 0,
-        good: true,
+        failed: None,
         leaves: 0,
         vertical: 0,
         horizontal: 0,
@@ -23,35 +26,52 @@ pub(crate) fn first() -> Pen {
     }
 }
 
+// The first n bytes of the buffer.
+fn last(rt: &HostRuntime, out: &[u8], n: usize) -> io::Result<()> {
+    if out.len() < n {
+        return Err(io::Error::from(io::ErrorKind::InvalidInput));
+    }
+    files::write_all(rt, Stream::Output, &out[..n])
+}
+
+// They go out. Where that fails the pen keeps why.
+fn send(pen: &mut Pen, out: &[u8], n: usize) {
+    if let Err(error) = last(&pen.rt, out, n) {
+        pen.failed = Some(error);
+    }
+}
+
 // The buffer goes out once it is full.
-fn byte(mut pen: Pen, out: &mut [u8; 65536], b: u8) -> Pen {
+fn byte(pen: &mut Pen, out: &mut [u8; 65536], b: u8) {
     let at = pen.used;
     if at < 65536 {
         out[at] = b;
         pen.used = at + 1;
-        return pen;
+        return;
     }
-    let written = io::write_all(STDOUT_FILENO, out);
+    send(pen, &*out, 65536);
     out[0] = b;
     pen.used = 1;
-    pen.good = pen.good & written;
-    pen
+}
+
+fn put(pen: &mut Pen, out: &mut [u8; 65536], text: &[u8]) {
+    let mut i = 0;
+    while i < text.len() {
+        byte(pen, out, text[i]);
+        i += 1;
+    }
+}
+
+fn number(pen: &mut Pen, out: &mut [u8; 65536], n: usize) {
+    let mut digits = [0u8; 20];
+    let count = files::decimal(n as u64, &mut digits);
+    put(pen, out, &digits[..count]);
 }
 
 pub(crate) fn words(pen: Pen, out: &mut [u8; 65536], text: &[u8]) -> Pen {
     let mut p = pen;
-    let mut i = 0;
-    while i < text.len() {
-        p = byte(p, out, text[i]);
-        i += 1;
-    }
+    put(&mut p, out, text);
     p
-}
-
-fn number(pen: Pen, out: &mut [u8; 65536], n: usize) -> Pen {
-    let mut digits = [0u8; 20];
-    let count = io::decimal(n as u64, &mut digits);
-    words(pen, out, &digits[..count])
 }
 
 // Some words, in which each `@` stands for the next number.
@@ -62,26 +82,27 @@ pub(crate) fn form(pen: Pen, out: &mut [u8; 65536], text: &[u8], numbers: &[usiz
     while i < text.len() {
         let b = text[i];
         if b == b'@' {
-            p = number(p, out, say::number_at(numbers, met));
+            number(&mut p, out, say::number_at(numbers, met));
             met = std::num::wrapping_add_usize(met, 1);
         } else {
-            p = byte(p, out, b);
+            byte(&mut p, out, b);
         }
         i += 1;
     }
     p
 }
 
-// The first n bytes of the buffer.
-fn last(out: &[u8], n: usize) -> bool {
-    if out.len() < n {
-        return false;
-    }
-    io::write_all(STDOUT_FILENO, &out[..n])
+// Whether all that went out so far was written.
+pub(crate) fn good(pen: Pen) -> bool {
+    pen.failed.is_none()
 }
 
-// What is left in the buffer goes out. Answers whether all was written.
-pub(crate) fn ended(pen: Pen, out: &[u8; 65536]) -> bool {
-    let written = last(out, pen.used);
-    pen.good & written
+// What is left in the buffer goes out. Answers why not all was written, where it was not.
+pub(crate) fn ended(pen: Pen, out: &[u8; 65536]) -> io::Result<()> {
+    let mut p = pen;
+    send(&mut p, out, pen.used);
+    match p.failed {
+        None => Ok(()),
+        Some(error) => Err(error),
+    }
 }

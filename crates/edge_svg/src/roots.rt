@@ -3,7 +3,7 @@ ghost use Rattle.std.specs.Prelude.{◌≤◌};
 
 use crate::pen::Pen;
 use crate::svg::plus;
-use crate::{Job, svg};
+use crate::{Job, pen, svg};
 use decoder::{Mended, Pel, Walked};
 
 // A band of the picture: its rows of luma samples, and how many bands lie above.
@@ -312,7 +312,7 @@ pub(crate) fn bands(pen: Pen, out: &mut [u8; 65536], job: Job, map: &[u8]) -> Pe
         if map.len() < end {
             return p;
         }
-        if !p.good {
+        if !pen::good(p) {
             return p;
         }
         let band = Band {

@@ -1,24 +1,29 @@
 // Reads a sheet from standard input, at most 4,096 bytes and one more to tell that there are more, and prints its listing. A refused sheet is an answer, too.
 #![tactic(auto)]
-use libc::STDIN_FILENO;
+
+use files::Source;
+use std::process::ExitCode;
 
 // Whether standard input cannot be read, which is told: reading none of it fails where it is closed, or a folder.
-fn unreadable() -> bool {
+fn unreadable(rt: &HostRuntime, file: &mut Source) -> bool {
     let mut none = [0u8; 1];
-    if libc::read(STDIN_FILENO, &mut none[..0]) >= 0 {
-        return false;
+    match files::read_some(file, &mut none[..0]) {
+        Ok(_) => false,
+        Err(error) => {
+            files::fail(rt, b"standard input", error);
+            true
+        }
     }
-    os::fail(b"standard input");
-    true
 }
 
-fn main() {
-    if unreadable() {
-        say::status(2);
-        return;
+fn main(rt: HostRuntime) -> ExitCode {
+    let mut file = files::standard_input(&rt);
+    if unreadable(&rt, &mut file) {
+        return say::status(2);
     }
     let mut input = [0u8; 4097];
-    let n = io::read_full(STDIN_FILENO, &mut input);
+    let n = files::read_full(&mut file, &mut input);
     let mut out = sheet_out::room();
-    say::status(say::shown(sheet_out::print(&input[..n], &mut out), 0));
+    let written = sheet_out::print(&rt, &input[..n], &mut out);
+    say::status(say::shown(&rt, written, 0))
 }

@@ -1,5 +1,8 @@
 // Draws a split tree as an SVG picture. All it does is in `edge_svg`.
 #![tactic(auto)]
-fn main() {
-    edge_svg::run();
+
+use std::process::ExitCode;
+
+fn main(rt: HostRuntime) -> ExitCode {
+    edge_svg::run(&rt)
 }

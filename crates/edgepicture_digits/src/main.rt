@@ -1,5 +1,8 @@
 // `edgepicture` once more, on a map by its digits.
 #![tactic(auto)]
-fn main() {
-    edge_svg::run();
+
+use std::process::ExitCode;
+
+fn main(rt: HostRuntime) -> ExitCode {
+    edge_svg::run(&rt)
 }

@@ -1,5 +1,8 @@
 // Deblocks every frame of a stream. All it does is in `finish_file`.
 #![tactic(auto)]
-fn main() {
-    finish_file::run();
+
+use std::process::ExitCode;
+
+fn main(rt: HostRuntime) -> ExitCode {
+    finish_file::run(&rt)
 }

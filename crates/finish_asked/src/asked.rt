@@ -23,7 +23,7 @@ const NO_QP: u8 = 255;
 const NO_LIMIT: u8 = 0;
 
 // What a word is.
-#[derive(Drop)]
+#[derive(Clone, Copy)]
 pub(crate) enum Word {
     Sheet,
     Digits,
@@ -92,9 +92,9 @@ fn word_of(word: &[u8]) -> Word {
 }
 
 // What argument `at` is.
-pub(crate) fn word_at(at: usize) -> Word {
-    let mut word = io::buffer();
-    let n = os::arg(at, &mut word);
+pub(crate) fn word_at(rt: &HostRuntime, at: usize) -> Word {
+    let mut word = files::buffer();
+    let n = files::arg(rt, at, &mut word);
     word_of(&word[..n])
 }
 
@@ -120,61 +120,61 @@ pub(crate) fn next(word: Word, at: usize, count: usize) -> usize
 }
 
 // Whether the first argument asks for help.
-pub fn help() -> bool {
-    words::asked(1, b"--help") | words::asked(1, b"-h")
+pub fn help(rt: &HostRuntime) -> bool {
+    words::asked(rt, 1, b"--help") | words::asked(rt, 1, b"-h")
 }
 
 // ---- what is told
 
 // Some words of argument `at`, between quotes.
-pub(crate) fn quote(at: usize) {
-    let mut word = io::buffer();
-    let n = os::arg(at, &mut word);
-    say::words(b"'");
-    say::words(&word[..n]);
-    say::words(b"'");
+pub(crate) fn quote(rt: &HostRuntime, at: usize) {
+    let mut word = files::buffer();
+    let n = files::arg(rt, at, &mut word);
+    say::words(rt, b"'");
+    say::words(rt, &word[..n]);
+    say::words(rt, b"'");
 }
 
 // What is wrong with argument `at`; nothing is asked for then.
-fn wrong(mut a: Asked, at: usize, what: &[u8]) -> Asked {
-    say::words(b"finish: ");
-    quote(at);
-    say::line(what);
+fn wrong(rt: &HostRuntime, mut a: Asked, at: usize, what: &[u8]) -> Asked {
+    say::words(rt, b"finish: ");
+    quote(rt, at);
+    say::line(rt, what);
     a.good = false;
     a
 }
 
-fn lacks(mut a: Asked, what: &[u8]) -> Asked {
-    say::words(b"finish: ");
-    say::line(what);
+fn lacks(rt: &HostRuntime, mut a: Asked, what: &[u8]) -> Asked {
+    say::words(rt, b"finish: ");
+    say::line(rt, what);
     a.good = false;
     a
 }
 
 // ---- values
 
-fn with_qp(mut a: Asked, at: usize) -> Asked {
-    let n = words::number_arg(at);
+fn with_qp(rt: &HostRuntime, mut a: Asked, at: usize) -> Asked {
+    let n = words::number_arg(rt, at);
     if !n.good {
-        return wrong(a, at, b" is no QP: a number from 0 to 51 is asked for");
+        return wrong(rt, a, at, b" is no QP: a number from 0 to 51 is asked for");
     }
     if 51 < n.value {
-        return wrong(a, at, b" is no QP: a number from 0 to 51 is asked for");
+        return wrong(rt, a, at, b" is no QP: a number from 0 to 51 is asked for");
     }
     a.qp = n.value as u8;
     a
 }
 
-fn with_limit(mut a: Asked, at: usize) -> Asked {
-    if words::asked(at, b"5") {
+fn with_limit(rt: &HostRuntime, mut a: Asked, at: usize) -> Asked {
+    if words::asked(rt, at, b"5") {
         a.limit = 5;
         return a;
     }
-    if words::asked(at, b"6") {
+    if words::asked(rt, at, b"6") {
         a.limit = 6;
         return a;
     }
-    wrong(a, at, b" is no transform limit: 5 or 6 is asked for")
+    wrong(rt, a, at, b" is no transform limit: 5 or 6 is asked for")
 }
 
 // Whether a tree is named already.
@@ -190,9 +190,9 @@ pub(crate) fn tree(a: Asked) -> usize {
     if a.digits != 0 { a.digits } else { a.map }
 }
 
-fn with_tree(mut a: Asked, word: Word, at: usize) -> Asked {
+fn with_tree(rt: &HostRuntime, mut a: Asked, word: Word, at: usize) -> Asked {
     if has_tree(a) {
-        return wrong(a, at, b" is a second split tree: one is asked for");
+        return wrong(rt, a, at, b" is a second split tree: one is asked for");
     }
     match word {
         Word::Sheet => a.sheet = at,
@@ -202,9 +202,9 @@ fn with_tree(mut a: Asked, word: Word, at: usize) -> Asked {
     a
 }
 
-fn with_stream(mut a: Asked, at: usize) -> Asked {
+fn with_stream(rt: &HostRuntime, mut a: Asked, at: usize) -> Asked {
     if a.stream != 0 {
-        return wrong(a, at, b" is a second stream: one is asked for");
+        return wrong(rt, a, at, b" is a second stream: one is asked for");
     }
     a.stream = at;
     a
@@ -213,32 +213,37 @@ fn with_stream(mut a: Asked, at: usize) -> Asked {
 // ---- all arguments
 
 // One word more, and the value after it where it has one. The rectangles of --keep are read where the picture's size is known.
-fn with(mut a: Asked, word: Word, at: usize, value: usize) -> Asked {
+fn with(rt: &HostRuntime, mut a: Asked, word: Word, at: usize, value: usize) -> Asked {
     match word {
-        Word::Sheet | Word::Digits | Word::Map => return with_tree(a, word, value),
+        Word::Sheet | Word::Digits | Word::Map => return with_tree(rt, a, word, value),
         Word::Strengths => a.strengths = value,
-        Word::Qp => return with_qp(a, value),
-        Word::Limit => return with_limit(a, value),
+        Word::Qp => return with_qp(rt, a, value),
+        Word::Limit => return with_limit(rt, a, value),
         Word::Keep => (),
         Word::Bands => a.bands = true,
         Word::Grey => a.grey = true,
         Word::Moved => a.moved = true,
-        Word::Unknown => return wrong(a, at, b" is no option"),
-        Word::Name => return with_stream(a, at),
+        Word::Unknown => return wrong(rt, a, at, b" is no option"),
+        Word::Name => return with_stream(rt, a, at),
     }
     a
 }
 
 // What has to be said, and what a sheet says itself.
-fn complete(mut a: Asked) -> Asked {
+fn complete(rt: &HostRuntime, mut a: Asked) -> Asked {
     if !has_tree(a) {
-        return lacks(a, b"the split tree is missing: --sheet, --digits or --map");
+        return lacks(
+            rt,
+            a,
+            b"the split tree is missing: --sheet, --digits or --map",
+        );
     }
     if a.qp == NO_QP {
-        return lacks(a, b"the QP is missing: --qp");
+        return lacks(rt, a, b"the QP is missing: --qp");
     }
     if (a.sheet != 0) & (a.limit != NO_LIMIT) {
         return lacks(
+            rt,
             a,
             b"a sheet has its own transform limit: --limit is not for it",
         );
@@ -249,20 +254,20 @@ fn complete(mut a: Asked) -> Asked {
     a
 }
 
-pub fn arguments() -> Asked {
-    let count = os::arg_count();
+pub fn arguments(rt: &HostRuntime) -> Asked {
+    let count = files::arg_count(rt);
     let mut a = nothing();
     let mut at: usize = 1;
     while at < count {
-        let word = word_at(at);
+        let word = word_at(rt, at);
         if has_value(word) & (count == at + 1) {
-            return wrong(a, at, b" asks for a value after it");
+            return wrong(rt, a, at, b" asks for a value after it");
         }
-        a = with(a, word, at, at + 1);
+        a = with(rt, a, word, at, at + 1);
         if !a.good {
             return a;
         }
         at = next(word, at, count);
     }
-    complete(a)
+    complete(rt, a)
 }

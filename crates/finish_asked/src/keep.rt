@@ -57,9 +57,9 @@ fn rectangle_of(text: &[u8]) -> Rectangle {
     }
 }
 
-fn rectangle_at(at: usize) -> Rectangle {
-    let mut word = io::buffer();
-    let n = os::arg(at, &mut word);
+fn rectangle_at(rt: &HostRuntime, at: usize) -> Rectangle {
+    let mut word = files::buffer();
+    let n = files::arg(rt, at, &mut word);
     rectangle_of(&word[..n])
 }
 
@@ -99,19 +99,22 @@ fn inside(from: usize, count: usize, side: usize) -> bool {
 }
 
 // Argument `at` says a rectangle: its units are kept. Answers the exit status.
-fn one(at: usize, w: usize, h: usize, keep: &mut [u8]) -> u8 {
-    let r = rectangle_at(at);
+fn one(rt: &HostRuntime, at: usize, w: usize, h: usize, keep: &mut [u8]) -> u8 {
+    let r = rectangle_at(rt, at);
     if !r.good {
-        say::words(b"finish: ");
-        asked::quote(at);
-        say::line(b" is no rectangle: X,Y,W,H is asked for, in luma samples");
+        say::words(rt, b"finish: ");
+        asked::quote(rt, at);
+        say::line(
+            rt,
+            b" is no rectangle: X,Y,W,H is asked for, in luma samples",
+        );
         return 2;
     }
     if !(inside(r.x, r.w, w) & inside(r.y, r.h, h)) {
-        say::words(b"finish: --keep ");
-        asked::quote(at);
-        say::words(b": ");
-        say::refused(8);
+        say::words(rt, b"finish: --keep ");
+        asked::quote(rt, at);
+        say::words(rt, b": ");
+        say::refused(rt, 8);
         return 1;
     }
     mark(keep, w / 4, r);
@@ -119,20 +122,20 @@ fn one(at: usize, w: usize, h: usize, keep: &mut [u8]) -> u8 {
 }
 
 // The value after a word, where that is --keep.
-fn after(word: Word, value: usize, w: usize, h: usize, keep: &mut [u8]) -> u8 {
+fn after(rt: &HostRuntime, word: Word, value: usize, w: usize, h: usize, keep: &mut [u8]) -> u8 {
     match word {
-        Word::Keep => one(value, w, h, keep),
+        Word::Keep => one(rt, value, w, h, keep),
         _ => 0,
     }
 }
 
 // Every rectangle that the arguments name. Answers the exit status.
-pub(crate) fn all(w: usize, h: usize, keep: &mut [u8]) -> u8 {
-    let count = os::arg_count();
+pub(crate) fn all(rt: &HostRuntime, w: usize, h: usize, keep: &mut [u8]) -> u8 {
+    let count = files::arg_count(rt);
     let mut at: usize = 1;
     while at < count {
-        let word = asked::word_at(at);
-        let status = after(word, at + 1, w, h, keep);
+        let word = asked::word_at(rt, at);
+        let status = after(rt, word, at + 1, w, h, keep);
         if status != 0 {
             return status;
         }

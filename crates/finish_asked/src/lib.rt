@@ -1,6 +1,7 @@
 // What `finish` is asked: its arguments, and the files that are read once, before the first frame. It is for that program alone.
 // No contract can say what is read or written: what stands here is proved safe.
 #![tactic(auto)]
+
 mod asked; // asked.rt: the arguments
 mod keep; // keep.rt: the blocks that are kept
 mod lent; // lent.rt: what is lent beside a frame
@@ -12,11 +13,10 @@ pub use lent::lend;
 pub use strengths::{entry, largest};
 pub use tree::Tree;
 
-// What is asked for, the stream and what its header says. The transform limit that is asked for is the tree's, once that is read.
+// What is asked for, and what the stream's header says. The transform limit that is asked for is the tree's, once that is read.
 #[derive(Clone, Copy)]
 pub struct Job {
     pub asked: Asked,
-    pub file: i32,
     pub w: usize,
     pub h: usize,
     pub f: usize,

@@ -2,6 +2,8 @@
 // (src/tbl.rs), four rows of 52 entries by QP. There each row is that of intra blocks less the row's number, and none is below 0; the last is 0.
 ghost use Rattle.std.specs.Prelude.{◌≤◌};
 
+use files::Source;
+
 // The entry of intra blocks at a QP.
 fn intra(qp: usize) -> u8 {
     match qp {
@@ -36,45 +38,45 @@ fn put_baseline(table: &mut [u8; 208]) {
 }
 
 // The entries of an open file. Answers the exit status.
-fn put_bytes(at: usize, file: i32, table: &mut [u8; 208]) -> u8 {
-    let n = io::read_full(file, table);
+fn put_bytes(rt: &HostRuntime, at: usize, file: &mut Source, table: &mut [u8; 208]) -> u8 {
+    let n = files::read_full(file, table);
     let more = goes_on(file);
-    if words::unreadable(at, file) {
+    if words::unreadable(rt, at, file) {
         return 2;
     }
     if more | (n < 208) {
-        words::name(at);
-        say::words(b"a strength table has 208 bytes: ");
-        say::refused(2);
+        words::name(rt, at);
+        say::words(rt, b"a strength table has 208 bytes: ");
+        say::refused(rt, 2);
         return 1;
     }
     0
 }
 
 // Whether a file has a byte more.
-fn goes_on(file: i32) -> bool {
+fn goes_on(file: &mut Source) -> bool {
     let mut byte = [0u8; 1];
-    0 < libc::read(file, &mut byte)
+    match files::read_some(file, &mut byte) {
+        Ok(n) => 0 < n,
+        Err(_) => false,
+    }
 }
 
 // Those of the file that argument `at` names. Answers the exit status.
-fn put_file(at: usize, table: &mut [u8; 208]) -> u8 {
-    let file = words::open(at);
-    if file < 0 {
-        return 2;
+fn put_file(rt: &HostRuntime, at: usize, table: &mut [u8; 208]) -> u8 {
+    match words::open(rt, at) {
+        None => 2,
+        Some(mut file) => put_bytes(rt, at, &mut file, table),
     }
-    let status = put_bytes(at, file, table);
-    libc::close(file);
-    status
 }
 
 // The entries that are lent; 0 names no file. Answers the exit status.
-pub(crate) fn put(at: usize, table: &mut [u8; 208]) -> u8 {
+pub(crate) fn put(rt: &HostRuntime, at: usize, table: &mut [u8; 208]) -> u8 {
     if at == 0 {
         put_baseline(table);
         return 0;
     }
-    put_file(at, table)
+    put_file(rt, at, table)
 }
 
 fn wide(b: u8) -> usize

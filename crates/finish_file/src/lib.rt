@@ -2,9 +2,11 @@
 // chroma has luma's QP. It reads, calls the face and writes; each rule of deblocking is there. `finish` is this; the program beside it is a further run of
 // it, whose output is compared, too.
 #![tactic(auto)]
+
 use decoder::HeaderRead;
+use files::Source;
 use finish_asked::{Asked, Job};
-use libc::STDIN_FILENO;
+use std::process::ExitCode;
 
 mod rooms; // rooms.rt: room for a frame and its maps
 mod stream; // stream.rt: every frame
@@ -12,17 +14,17 @@ mod stream; // stream.rt: every frame
 // ---- the stream
 
 // The stream of an open file: its header, and then its frames.
-fn opened(asked: Asked, file: i32) -> u8 {
+fn opened(rt: &HostRuntime, asked: Asked, file: &mut Source) -> u8 {
     let mut head = [0u8; 256];
     let n = y4m_file::first_line(file, &mut head);
     if n == 0 {
-        if words::unreadable(asked.stream, file) {
+        if words::unreadable(rt, asked.stream, file) {
             return 2;
         }
     }
     match decoder::read_header(&head[..n]) {
         HeaderRead::Refused(r, at) => {
-            y4m_file::refused_in(asked.stream, decoder::refusal_number(r), at);
+            y4m_file::refused_in(rt, asked.stream, decoder::refusal_number(r), at);
             1
         }
         HeaderRead::Read {
@@ -34,9 +36,10 @@ fn opened(asked: Asked, file: i32) -> u8 {
             b,
             next,
         } => rooms::finished(
+            rt,
+            file,
             Job {
                 asked,
-                file,
                 w,
                 h,
                 f,
@@ -52,8 +55,9 @@ fn opened(asked: Asked, file: i32) -> u8 {
 
 // ---- the call
 
-fn help() {
+fn help(rt: &HostRuntime) {
     say::words(
+        rt,
         b"usage: finish (--sheet FILE | --digits FILE | --map FILE) --qp N [OPTION..] [STREAM]
 Deblocks every frame of a YUV4MPEG2 stream of 10 bits (C420p10) and writes it as a stream to standard output.
 Every unit counts as intra, and chroma has luma's QP.
@@ -73,33 +77,30 @@ status: 0 done, 1 refused, 2 bad usage or a failure of input or output
     );
 }
 
-fn by_name(a: Asked) -> u8 {
-    let file = words::open(a.stream);
-    if file < 0 {
-        return 2;
+fn by_name(rt: &HostRuntime, a: Asked) -> u8 {
+    match words::open(rt, a.stream) {
+        None => 2,
+        Some(mut file) => opened(rt, a, &mut file),
     }
-    let status = opened(a, file);
-    libc::close(file);
-    status
 }
 
-fn finished_as(a: Asked) -> u8 {
+fn finished_as(rt: &HostRuntime, a: Asked) -> u8 {
     if !a.good {
-        say::line(b"(finish --help tells how it is used)");
+        say::line(rt, b"(finish --help tells how it is used)");
         return 2;
     }
     if a.stream == 0 {
-        return opened(a, STDIN_FILENO);
+        let mut input = files::standard_input(rt);
+        return opened(rt, a, &mut input);
     }
-    by_name(a)
+    by_name(rt, a)
 }
 
 // The program, by its arguments.
-pub fn run() {
-    if finish_asked::help() {
-        help();
-        say::status(0);
-        return;
+pub fn run(rt: &HostRuntime) -> ExitCode {
+    if finish_asked::help(rt) {
+        help(rt);
+        return say::status(0);
     }
-    say::status(finished_as(finish_asked::arguments()));
+    say::status(finished_as(rt, finish_asked::arguments(rt)))
 }

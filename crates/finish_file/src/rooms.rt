@@ -4,6 +4,7 @@
 ghost use Rattle.std.specs.Prelude.{◌≤◌};
 
 use crate::stream;
+use files::Source;
 use finish_asked::Job;
 
 // The word of every unit: intra, of the QP that is asked for.
@@ -65,6 +66,8 @@ fn with_limit(mut job: Job, limit: u8) -> Job {
 
 // The frames, by what is lent beside them. Motion and references are not looked at between intra units.
 fn small_frames(
+    rt: &HostRuntime,
+    file: &mut Source,
     job: Job,
     units: usize,
     map: &[u8],
@@ -82,40 +85,41 @@ fn small_frames(
     let motion = small_motion();
     let refs = small_refs();
     let size = 6 + 48 * units;
-    let luma = 16 * units;
     let four = 4 * units;
-    let two = 2 * units;
-    let t = stream::every(
+    stream::finished(
+        rt,
+        file,
         job,
         &mut bytes[..size],
-        &mut y[..luma],
+        &mut y[..16 * units],
         &mut u[..four],
         &mut v[..four],
         &mut words[..units],
         map,
         &motion[..four],
-        &refs[..two],
+        &refs[..2 * units],
         keep,
         table,
         entries,
-    );
-    stream::told(job, t, entries)
+    )
 }
 
 // What is lent beside the frames, and then the frames. Answers the exit status.
-fn in_small(job: Job, units: usize, roots: usize) -> u8
+fn in_small(rt: &HostRuntime, file: &mut Source, job: Job, units: usize, roots: usize) -> u8
     requires { (units ≤ 16384) × (roots ≤ 256) }
 {
     let mut map = small_map();
     let mut keep = small_keep();
     let mut table = [0i8; 70];
     let mut entries = [0u8; 208];
-    let tree = finish_asked::lend(job, &mut map, &mut keep, &mut table, &mut entries);
+    let tree = finish_asked::lend(rt, job, &mut map, &mut keep, &mut table, &mut entries);
     if tree.status != 0 {
         return tree.status;
     }
     let splits = 1024 * roots;
     small_frames(
+        rt,
+        file,
         with_limit(job, tree.limit),
         units,
         &map[..splits],
@@ -127,6 +131,8 @@ fn in_small(job: Job, units: usize, roots: usize) -> u8
 
 // The same for a large picture.
 fn large_frames(
+    rt: &HostRuntime,
+    file: &mut Source,
     job: Job,
     units: usize,
     map: &[u8],
@@ -144,39 +150,42 @@ fn large_frames(
     let motion = large_motion();
     let refs = large_refs();
     let size = 6 + 48 * units;
-    let luma = 16 * units;
     let four = 4 * units;
-    let two = 2 * units;
-    let t = stream::every(
+    stream::finished(
+        rt,
+        file,
         job,
         &mut bytes[..size],
-        &mut y[..luma],
+        &mut y[..16 * units],
         &mut u[..four],
         &mut v[..four],
         &mut words[..units],
         map,
         &motion[..four],
-        &refs[..two],
+        &refs[..2 * units],
         keep,
         table,
         entries,
-    );
-    stream::told(job, t, entries)
+    )
 }
 
-fn in_large(job: Job, units: usize, roots: usize) -> u8
+// The large arrays stay in a frame of their own: a function that took them into its own would need the room at each call.
+#[inline(never)]
+fn in_large(rt: &HostRuntime, file: &mut Source, job: Job, units: usize, roots: usize) -> u8
     requires { (units ≤ 1048576) × (roots ≤ 4096) }
 {
     let mut map = large_map();
     let mut keep = large_keep();
     let mut table = [0i8; 70];
     let mut entries = [0u8; 208];
-    let tree = finish_asked::lend(job, &mut map, &mut keep, &mut table, &mut entries);
+    let tree = finish_asked::lend(rt, job, &mut map, &mut keep, &mut table, &mut entries);
     if tree.status != 0 {
         return tree.status;
     }
     let splits = 1024 * roots;
     large_frames(
+        rt,
+        file,
         with_limit(job, tree.limit),
         units,
         &map[..splits],
@@ -186,25 +195,27 @@ fn in_large(job: Job, units: usize, roots: usize) -> u8
     )
 }
 
-// The stream. A picture that the small room does not hold is gone to by a call of itself, which is not the last thing done: a compiler puts no large array
-// into the frame of a function that does so.
-pub(crate) fn finished(job: Job, large: bool) -> u8 {
+// The stream. A picture that the small room does not hold is gone to by a call of itself.
+pub(crate) fn finished(rt: &HostRuntime, file: &mut Source, job: Job, large: bool) -> u8 {
     let units = finish_frame::units(job.h / 4, job.w);
     let roots = decoder::root_count(job.w, job.h);
     if 4096 < roots {
         return 2;
     }
     if large {
-        return in_large(job, units, roots);
+        return in_large(rt, file, job, units, roots);
     }
     if units <= 16384 {
         if roots <= 256 {
-            return in_small(job, units, roots);
+            return in_small(rt, file, job, units, roots);
         }
     }
-    let status = finished(job, true);
+    let status = finished(rt, file, job, true);
     if status == 2 {
-        say::line(b"(the picture is large: its frames are kept in a room of 120 megabytes)");
+        say::line(
+            rt,
+            b"(the picture is large: its frames are kept in a room of 120 megabytes)",
+        );
     }
     status
 }

@@ -5,7 +5,7 @@ use decoder::{Banded, Bands, Deblocked, Format, Settings};
 use finish_asked::Job;
 
 // How many edges each pass filtered, or a refusal by its number.
-#[derive(Drop)]
+#[derive(Clone, Copy)]
 pub struct Counts {
     pub number: u8,
     pub vertical: usize,

@@ -1,6 +1,8 @@
 // A frame of the stream that `finish` goes through: read, deblocked and written, with the counts of its edges and how far its samples moved. It is for that
 // program alone. No contract can say what is read or written: what stands here is proved safe.
 #![tactic(auto)]
+
+use files::Source;
 use finish_asked::Job;
 
 mod frame; // frame.rt: a frame, deblocked
@@ -10,7 +12,7 @@ pub use frame::{Counts, units};
 pub use moved::Moved;
 
 // What the frames came to so far. The counts are those of one frame: each has the same tree.
-#[derive(Drop)]
+#[derive(Clone, Copy)]
 pub struct Sum {
     pub frames: usize,
     // where the next one starts in the stream
@@ -47,22 +49,23 @@ pub fn ended(status: u8, sum: Sum) -> Turn {
 // ---- where it ends
 
 // The stream is refused, at a byte.
-fn refused(job: Job, number: u8, place: usize, sum: Sum) -> Turn {
-    words::name(job.asked.stream);
-    y4m_file::refused(number, place);
+fn refused(rt: &HostRuntime, job: Job, number: u8, place: usize, sum: Sum) -> Turn {
+    words::name(rt, job.asked.stream);
+    y4m_file::refused(rt, number, place);
     ended(1, sum)
 }
 
 // No frame was read.
-fn unread(job: Job, t: y4m_file::Turn, sum: Sum) -> Turn {
-    if t.failed {
-        words::unreadable(job.asked.stream, job.file);
+fn unread(rt: &HostRuntime, job: Job, t: y4m_file::Turn, sum: Sum) -> Turn {
+    if let Some(error) = t.failed {
+        words::unread(rt, job.asked.stream, error);
         return ended(2, sum);
     }
     if t.number == 0 {
         return ended(0, sum);
     }
     refused(
+        rt,
         job,
         t.number,
         std::num::wrapping_add_usize(sum.place, t.at),
@@ -71,13 +74,13 @@ fn unread(job: Job, t: y4m_file::Turn, sum: Sum) -> Turn {
 }
 
 // What writing the frame from a place on came to.
-fn written(job: Job, t: y4m_file::Turn, place: usize, sum: Sum) -> Turn {
-    if t.failed {
-        os::fail(b"finish: standard output");
+fn written(rt: &HostRuntime, job: Job, t: y4m_file::Turn, place: usize, sum: Sum) -> Turn {
+    if let Some(error) = t.failed {
+        files::fail(rt, b"finish: standard output", error);
         return ended(2, sum);
     }
     if !t.more {
-        return refused(job, t.number, place, sum);
+        return refused(rt, job, t.number, place, sum);
     }
     Turn {
         more: true,
@@ -105,6 +108,7 @@ fn with(job: Job, s: Sum, counts: Counts, bytes: &[u8], y: &[u16], u: &[u16], v:
 
 // A finished frame is written.
 fn put(
+    rt: &HostRuntime,
     job: Job,
     sum: Sum,
     counts: Counts,
@@ -114,12 +118,13 @@ fn put(
     v: &[u16],
 ) -> Turn {
     let s = with(job, sum, counts, &*bytes, y, u, v);
-    let t = y4m_file::put_frame(job.w, job.h, y, u, v, bytes);
-    written(job, t, sum.place, s)
+    let t = y4m_file::put_frame(rt, job.w, job.h, y, u, v, bytes);
+    written(rt, job, t, sum.place, s)
 }
 
 // A frame that was read is finished and written.
 fn put_finished(
+    rt: &HostRuntime,
     job: Job,
     sum: Sum,
     bytes: &mut [u8],
@@ -149,13 +154,15 @@ fn put_finished(
         entries,
     );
     if c.number != 0 {
-        return refused(job, c.number, sum.place, sum);
+        return refused(rt, job, c.number, sum.place, sum);
     }
-    put(job, sum, c, bytes, y, u, v)
+    put(rt, job, sum, c, bytes, y, u, v)
 }
 
 // The next frame.
 pub fn one_frame(
+    rt: &HostRuntime,
+    file: &mut Source,
     job: Job,
     sum: Sum,
     bytes: &mut [u8],
@@ -170,11 +177,11 @@ pub fn one_frame(
     table: &[i8; 70],
     entries: &[u8; 208],
 ) -> Turn {
-    let t = y4m_file::next_frame(job.file, job.w, job.h, bytes, y, u, v);
+    let t = y4m_file::next_frame(file, job.w, job.h, bytes, y, u, v);
     if !t.more {
-        return unread(job, t, sum);
+        return unread(rt, job, t, sum);
     }
     put_finished(
-        job, sum, bytes, y, u, v, words, map, motion, refs, keep, table, entries,
+        rt, job, sum, bytes, y, u, v, words, map, motion, refs, keep, table, entries,
     )
 }

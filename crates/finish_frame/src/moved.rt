@@ -1,7 +1,7 @@
 // How many samples deblocking moved, and by how much at most: a finished frame's planes beside the bytes that it was read from.
 ghost use Rattle.std.specs.Prelude.{◌≤◌};
 
-#[derive(Drop)]
+#[derive(Clone, Copy)]
 pub struct Moved {
     pub count: usize,
     pub most: u16,

@@ -1,5 +1,8 @@
 // `finish` once more, whole and in grey, on a map by its digits.
 #![tactic(auto)]
-fn main() {
-    finish_file::run();
+
+use std::process::ExitCode;
+
+fn main(rt: HostRuntime) -> ExitCode {
+    finish_file::run(&rt)
 }

@@ -40,19 +40,19 @@ fn torn(w: usize, h: usize, map: &[u8], root: usize) -> usize {
 }
 
 // A byte of a root, by its place in the map, with the root and the block.
-fn tell_byte(w: usize, root: usize, place: usize) {
-    say::form(b"byte @, ", &[1024 * (root % 4096) + place % 1024]);
-    tell_block(w, root, place);
+fn tell_byte(rt: &HostRuntime, w: usize, root: usize, place: usize) {
+    say::form(rt, b"byte @, ", &[1024 * (root % 4096) + place % 1024]);
+    tell_block(rt, w, root, place);
 }
 
 // Tells the first such byte of a map.
-fn tell_torn(w: usize, h: usize, map: &[u8]) {
+fn tell_torn(rt: &HostRuntime, w: usize, h: usize, map: &[u8]) {
     let count = root_count(w, h);
     let mut root: usize = 0;
     while root < count {
         let place = torn(w, h, map, root);
         if place < 1024 {
-            tell_byte(w, root, place);
+            tell_byte(rt, w, root, place);
             return;
         }
         root += 1;
@@ -62,29 +62,30 @@ fn tell_torn(w: usize, h: usize, map: &[u8]) {
 // ---- its length
 
 // How long a map is and has to be, and the root in which a short one ends.
-fn tell_lengths(w: usize, h: usize, n: usize) {
+fn tell_lengths(rt: &HostRuntime, w: usize, h: usize, n: usize) {
     let asked = 1024 * root_count(w, h);
     say::form(
+        rt,
         b"the map has @ bytes, and that of the picture @",
         &[n, asked],
     );
     if n < asked {
-        say::words(b", it ends in ");
-        tell_root(w, n / 1024);
+        say::words(rt, b", it ends in ");
+        tell_root(rt, w, n / 1024);
     }
-    say::words(b": ");
+    say::words(rt, b": ");
 }
 
 // ---- the call
 
 // Tells where the map of a picture of w by h, from the file that an argument names, is refused, and for what. Answers the exit status.
-pub fn refused_map(at: usize, w: usize, h: usize, map: &[u8], number: u8) -> u8 {
-    words::name(at);
+pub fn refused_map(rt: &HostRuntime, at: usize, w: usize, h: usize, map: &[u8], number: u8) -> u8 {
+    words::name(rt, at);
     match number {
-        1 => tell_size(w, h),
-        2 => tell_lengths(w, h, map.len()),
-        _ => tell_torn(w, h, map),
+        1 => tell_size(rt, w, h),
+        2 => tell_lengths(rt, w, h, map.len()),
+        _ => tell_torn(rt, w, h, map),
     }
-    say::refused(number);
+    say::refused(rt, number);
     1
 }

@@ -117,8 +117,8 @@ pub fn offending(w: usize, h: usize, src: &[u8], to: usize) -> Digit {
 // ---- a file of digits
 
 // A bit by its byte and its place there, the high one first: `byte 20, bit 0`.
-fn tell_bit(at: usize) {
-    say::form(b"byte @, bit @", &[at / 8, at % 8]);
+fn tell_bit(rt: &HostRuntime, at: usize) {
+    say::form(rt, b"byte @, bit @", &[at / 8, at % 8]);
 }
 
 // The first bit of the last byte that is set behind the last digit.
@@ -140,29 +140,36 @@ fn bits_of(bytes: usize) -> usize {
     8 * (bytes % 65536)
 }
 
-fn tell_digit(w: usize, h: usize, src: &[u8]) {
+fn tell_digit(rt: &HostRuntime, w: usize, h: usize, src: &[u8]) {
     let to = bits_of(src.len());
     let d = offending(w, h, src, to);
     if !d.refused {
-        tell_bit(set_behind(src, d.at));
-        say::words(b", behind the last digit: ");
+        tell_bit(rt, set_behind(src, d.at));
+        say::words(rt, b", behind the last digit: ");
         return;
     }
-    tell_bit(d.at);
+    tell_bit(rt, d.at);
     if to <= d.at {
-        say::words(b", where the file ends");
+        say::words(rt, b", where the file ends");
     }
-    say::words(b", ");
-    tell_block(w, d.root, d.place);
+    say::words(rt, b", ");
+    tell_block(rt, w, d.root, d.place);
 }
 
 // Tells where the digits of a picture's map, from the file that an argument names, are refused, and for what. Answers the exit status.
-pub fn refused_digits(at: usize, w: usize, h: usize, src: &[u8], number: u8) -> u8 {
-    words::name(at);
+pub fn refused_digits(
+    rt: &HostRuntime,
+    at: usize,
+    w: usize,
+    h: usize,
+    src: &[u8],
+    number: u8,
+) -> u8 {
+    words::name(rt, at);
     match number {
-        1 => tell_size(w, h),
-        _ => tell_digit(w, h, src),
+        1 => tell_size(rt, w, h),
+        _ => tell_digit(rt, w, h, src),
     }
-    say::refused(number);
+    say::refused(rt, number);
     1
 }

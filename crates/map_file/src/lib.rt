@@ -1,7 +1,10 @@
 // What the programs over split maps in files share: where a root and a block of a map lie, where a map or its digits are refused, and a file that is written.
 // No contract can say what is read or written: what stands here is proved safe. It is for the programs alone.
 #![tactic(auto)]
+
 ghost use Rattle.std.specs.Prelude.{◌≤◌};
+
+use std::io;
 
 mod bytes; // bytes.rt: where a map is refused
 mod digits; // digits.rt: where its digits are refused
@@ -74,43 +77,49 @@ pub fn root_count(w: usize, h: usize) -> usize
 // ---- what is told of it
 
 // Root n of a picture of width w: `root 1 at 64 0`.
-pub fn tell_root(w: usize, n: usize) {
+pub fn tell_root(rt: &HostRuntime, w: usize, n: usize) {
     let across = def::roots_along(w);
-    say::form(b"root @ at @ @", &[n, root_x(across, n), root_y(across, n)]);
+    say::form(
+        rt,
+        b"root @ at @ @",
+        &[n, root_x(across, n), root_y(across, n)],
+    );
 }
 
 // The block of root n that has a place among its root's bytes: `root 1 at 64 0, block of 16 at 96 0: `.
-pub fn tell_block(w: usize, n: usize, place: usize) {
+pub fn tell_block(rt: &HostRuntime, w: usize, n: usize, place: usize) {
     let across = def::roots_along(w);
     let x = root_x(across, n);
     let y = root_y(across, n);
     let b = block_at(x, y, place / 256, place % 256);
     say::form(
+        rt,
         b"root @ at @ @, block of @ at @ @: ",
         &[n, x, y, b.side, b.x, b.y],
     );
 }
 
 // The size of a picture that there is not.
-fn tell_size(w: usize, h: usize) {
-    say::form(b"a picture of @x@: ", &[w, h]);
+fn tell_size(rt: &HostRuntime, w: usize, h: usize) {
+    say::form(rt, b"a picture of @x@: ", &[w, h]);
 }
 
 // ---- a file
 
 // Writes the file that argument i names, made or emptied before; false where that fails, which is told.
-pub fn save(i: usize, bytes: &[u8]) -> bool {
-    let mut path = io::buffer();
-    let n = os::arg(i, &mut path);
-    let file = os::open_overwrite(&path[..n]);
-    if file < 0 {
-        os::fail(&path[..n]);
-        return false;
+pub fn save(rt: &HostRuntime, i: usize, bytes: &[u8]) -> bool {
+    let mut path = files::buffer();
+    let n = files::arg(rt, i, &mut path);
+    match written(rt, &path[..n], bytes) {
+        Ok(()) => true,
+        Err(error) => {
+            files::fail(rt, &path[..n], error);
+            false
+        }
     }
-    let written = io::write_all(file, bytes);
-    let closed = libc::close(file) == 0;
-    if !(written & closed) {
-        os::fail(&path[..n]);
-    }
-    written & closed
+}
+
+fn written(rt: &HostRuntime, path: &[u8], bytes: &[u8]) -> io::Result<()> {
+    let mut file = files::open_overwrite(rt, path)?;
+    files::put_all(&mut file, bytes)
 }

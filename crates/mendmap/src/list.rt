@@ -1,8 +1,9 @@
 // The list of changes as text: `root=0 level=0 place=136 old=255 new=1: root at 0 0, block of 64 at 0 0`.
 use say::{end_line, field};
+use std::io;
 
 // One change; the picture has so many roots across.
-fn change(across: usize, root: u16, level: u16, place: u16, old: u16, new: u16) {
+fn change(rt: &HostRuntime, across: usize, root: u16, level: u16, place: u16, old: u16, new: u16) {
     let n = root as usize;
     let at = place as usize;
     let x = map_file::root_x(across, n);
@@ -10,6 +11,7 @@ fn change(across: usize, root: u16, level: u16, place: u16, old: u16, new: u16) 
     let depth = level as usize;
     let b = map_file::block_at(x, y, depth, at);
     say::fields(
+        rt,
         b"root=@ level=@ place=@ old=@ new=@: root at @ @, block of @ at @ @\n",
         &[
             n,
@@ -26,15 +28,16 @@ fn change(across: usize, root: u16, level: u16, place: u16, old: u16, new: u16) 
     );
 }
 
-// So many changes of a list, and how many there are; false where they cannot be written.
-pub fn print(across: usize, list: &[u16], count: usize) -> bool {
+// So many changes of a list, and how many there are; or why they cannot be written.
+pub fn print(rt: &HostRuntime, across: usize, list: &[u16], count: usize) -> io::Result<()> {
     let mut from = 0;
     let mut i = 0;
     while i < count {
         if list.len() - from < 5 {
-            return false;
+            return Err(io::Error::from(io::ErrorKind::InvalidInput));
         }
         change(
+            rt,
             across,
             list[from],
             list[from + 1],
@@ -45,6 +48,6 @@ pub fn print(across: usize, list: &[u16], count: usize) -> bool {
         from += 5;
         i += 1;
     }
-    field(b"changes=", count);
-    end_line()
+    field(rt, b"changes=", count);
+    end_line(rt)
 }

@@ -4,6 +4,7 @@
 ghost use Rattle.std.specs.Prelude.{◌≤◌};
 
 use crate::list;
+use files::Source;
 use mend::Mended;
 
 // ---- arrays: a call for each keeps the checker from looking into it
@@ -27,24 +28,32 @@ fn large_list() -> [u16; 1740800] {
 // ---- a map, in such a room
 
 // Reads the map, mends it, writes it and lists the changes. Answers the exit status.
-fn one_map(file: i32, w: usize, h: usize, map: &mut [u8], out: &mut [u8], list: &mut [u16]) -> u8 {
-    let n = io::read_full(file, map);
-    if words::unreadable(3, file) {
+fn one_map(
+    rt: &HostRuntime,
+    file: &mut Source,
+    w: usize,
+    h: usize,
+    map: &mut [u8],
+    out: &mut [u8],
+    list: &mut [u16],
+) -> u8 {
+    let n = files::read_full(&mut *file, &mut *map);
+    if words::unreadable(rt, 3, file) {
         return 2;
     }
     match mend::mend(w, h, &map[..n], &mut *out, &mut *list) {
-        Mended::Refused(r) => map_file::refused_map(3, w, h, &map[..n], def::refusal_number(r)),
+        Mended::Refused(r) => map_file::refused_map(rt, 3, w, h, &map[..n], def::refusal_number(r)),
         Mended::Done(count) => {
-            if !map_file::save(4, out) {
+            if !map_file::save(rt, 4, out) {
                 return 2;
             }
-            let printed = list::print(def::roots_along(w), list, count);
-            say::shown(printed, if count == 0 { 0 } else { 3 })
+            let printed = list::print(rt, def::roots_along(w), list, count);
+            say::shown(rt, printed, if count == 0 { 0 } else { 3 })
         }
     }
 }
 
-fn in_small(file: i32, w: usize, h: usize, roots: usize) -> u8
+fn in_small(rt: &HostRuntime, file: &mut Source, w: usize, h: usize, roots: usize) -> u8
     requires { roots ≤ 256 }
 {
     let mut map = small_bytes();
@@ -54,6 +63,7 @@ fn in_small(file: i32, w: usize, h: usize, roots: usize) -> u8
     let more = bytes + 1;
     let numbers = 425 * roots;
     one_map(
+        rt,
         file,
         w,
         h,
@@ -63,7 +73,9 @@ fn in_small(file: i32, w: usize, h: usize, roots: usize) -> u8
     )
 }
 
-fn in_large(file: i32, w: usize, h: usize, roots: usize) -> u8
+// The large arrays stay in a frame of their own: a function that took them into its own would need the room at each call.
+#[inline(never)]
+fn in_large(rt: &HostRuntime, file: &mut Source, w: usize, h: usize, roots: usize) -> u8
     requires { roots ≤ 4096 }
 {
     let mut map = large_bytes();
@@ -73,6 +85,7 @@ fn in_large(file: i32, w: usize, h: usize, roots: usize) -> u8
     let more = bytes + 1;
     let numbers = 425 * roots;
     one_map(
+        rt,
         file,
         w,
         h,
@@ -82,22 +95,24 @@ fn in_large(file: i32, w: usize, h: usize, roots: usize) -> u8
     )
 }
 
-// The map of a picture of w by h. One that the small room does not hold is gone to by a call of itself: a compiler puts no large array into the frame of a
-// function that does so.
-pub fn mended(file: i32, w: usize, h: usize, large: bool) -> u8 {
+// The map of a picture of w by h. One that the small room does not hold is gone to by a call of itself.
+pub fn mended(rt: &HostRuntime, file: &mut Source, w: usize, h: usize, large: bool) -> u8 {
     let roots = marks::root_count(w, h);
     if roots <= 256 {
-        return in_small(file, w, h, roots);
+        return in_small(rt, file, w, h, roots);
     }
     if large {
         if roots <= 4096 {
-            return in_large(file, w, h, roots);
+            return in_large(rt, file, w, h, roots);
         }
         return 2;
     }
-    let status = mended(file, w, h, true);
+    let status = mended(rt, file, w, h, true);
     if status == 2 {
-        say::line(b"(the map is large: it is mended in a room of 12 megabytes)");
+        say::line(
+            rt,
+            b"(the map is large: it is mended in a room of 12 megabytes)",
+        );
     }
     status
 }

@@ -2,30 +2,32 @@
 // programs alone.
 #![tactic(auto)]
 
-use libc::{STDERR_FILENO, STDOUT_FILENO};
+use files::Stream;
+use std::io;
+use std::process::ExitCode;
 
 // ---- words
 
 // Some words.
-pub fn words(text: &[u8]) {
-    io::write_all(STDERR_FILENO, text);
+pub fn words(rt: &HostRuntime, text: &[u8]) {
+    let _ = files::write_all(rt, Stream::Errors, text);
 }
 
 // Some words, and the end of their line.
-pub fn line(text: &[u8]) {
-    words(text);
-    words(b"\n");
+pub fn line(rt: &HostRuntime, text: &[u8]) {
+    words(rt, text);
+    words(rt, b"\n");
 }
 
 // A number.
-pub fn number(n: usize) {
-    io::print_decimal(STDERR_FILENO, n as u64);
+pub fn number(rt: &HostRuntime, n: usize) {
+    let _ = files::print_decimal(rt, Stream::Errors, n as u64);
 }
 
 // Words, and a number after them.
-pub fn counted(text: &[u8], n: usize) {
-    words(text);
-    number(n);
+pub fn counted(rt: &HostRuntime, text: &[u8], n: usize) {
+    words(rt, text);
+    number(rt, n);
 }
 
 // ---- numbers among words
@@ -38,95 +40,93 @@ pub fn number_at(list: &[usize], i: usize) -> usize {
     list[i]
 }
 
-// A part of a text, to a descriptor.
-fn part(fd: i32, text: &[u8], from: usize, to: usize) {
+// A part of a text, to a stream.
+fn part(rt: &HostRuntime, stream: Stream, text: &[u8], from: usize, to: usize) {
     if to < from {
         return;
     }
     if text.len() < to {
         return;
     }
-    io::write_all(fd, &text[from..to]);
+    let _ = files::write_all(rt, stream, &text[from..to]);
 }
 
-// Some words to a descriptor, in which each `@` stands for the next number.
-fn put(fd: i32, text: &[u8], numbers: &[usize]) {
+// Some words to a stream, in which each `@` stands for the next number.
+fn put(rt: &HostRuntime, stream: Stream, text: &[u8], numbers: &[usize]) {
     let mut met: usize = 0;
     let mut from: usize = 0;
     let mut i = 0;
     while i < text.len() {
         if text[i] == b'@' {
-            part(fd, text, from, i);
-            io::print_decimal(fd, number_at(numbers, met) as u64);
+            part(rt, stream, text, from, i);
+            let n = number_at(numbers, met);
+            let _ = files::print_decimal(rt, stream, n as u64);
             met = std::num::wrapping_add_usize(met, 1);
             from = std::num::wrapping_add_usize(i, 1);
         }
         i += 1;
     }
-    part(fd, text, from, i);
+    part(rt, stream, text, from, i);
 }
 
 // Words with numbers in them.
-pub fn form(text: &[u8], numbers: &[usize]) {
-    put(STDERR_FILENO, text, numbers);
+pub fn form(rt: &HostRuntime, text: &[u8], numbers: &[usize]) {
+    put(rt, Stream::Errors, text, numbers);
 }
 
 // ---- on standard output
 
 // The same there.
-pub fn fields(text: &[u8], numbers: &[usize]) {
-    put(STDOUT_FILENO, text, numbers);
+pub fn fields(rt: &HostRuntime, text: &[u8], numbers: &[usize]) {
+    put(rt, Stream::Output, text, numbers);
 }
 
 // A number after its name.
-pub fn field(name: &[u8], n: usize) {
-    io::write_all(STDOUT_FILENO, name);
-    io::print_decimal(STDOUT_FILENO, n as u64);
+pub fn field(rt: &HostRuntime, name: &[u8], n: usize) {
+    let _ = files::write_all(rt, Stream::Output, name);
+    let _ = files::print_decimal(rt, Stream::Output, n as u64);
 }
 
-// The end of a line; false where it cannot be written. What is full or closed stays so: then the line before it was not written whole, either.
-pub fn end_line() -> bool {
-    io::write_all(STDOUT_FILENO, b"\n")
+// The end of a line, or why it cannot be written. What is full or closed stays so: then the line before it was not written whole, either.
+pub fn end_line(rt: &HostRuntime) -> io::Result<()> {
+    files::write_all(rt, Stream::Output, b"\n")
 }
 
-// Why standard output cannot be written, where that is what failed last. Answers the exit status.
-pub fn unwritten() -> u8 {
-    os::fail(b"standard output");
+// Tells why standard output cannot be written. Answers the exit status.
+pub fn unwritten(rt: &HostRuntime, error: io::Error) -> u8 {
+    files::fail(rt, b"standard output", error);
     2
 }
 
 // The exit status of something told on standard output: 2 where it could not be written, which is told.
-pub fn shown(written: bool, n: u8) -> u8 {
-    if written {
-        return n;
+pub fn shown(rt: &HostRuntime, written: io::Result<()>, n: u8) -> u8 {
+    match written {
+        Ok(()) => n,
+        Err(error) => unwritten(rt, error),
     }
-    unwritten()
 }
 
 // ---- the exit status
 
-// 0 is done, 1 refused, 2 bad usage or a failure of input or output, 3 done with something to look at. A program has no status of its own: it writes a digit to descriptor 3, which bin/program
-// turns into one. It is told last, when every file that the program opened is closed: where nobody has opened descriptor 3, a file could have that number.
-pub fn status(n: u8) {
+// 0 is done, 1 refused, 2 bad usage or a failure of input or output, 3 done with something to look at. Any other number is a failure.
+pub fn status(n: u8) -> ExitCode {
     match n {
-        0 => io::write_all(3, b"0"),
-        1 => io::write_all(3, b"1"),
-        3 => io::write_all(3, b"3"),
-        _ => io::write_all(3, b"2"),
-    };
+        0 | 1 | 3 => ExitCode::from(n),
+        _ => ExitCode::from(2),
+    }
 }
 
 // ---- refusals
 
 // Line n of some, from 1 on; false where there are fewer.
-fn line_of(lines: &[u8], n: usize) -> bool {
+fn line_of(rt: &HostRuntime, lines: &[u8], n: usize) -> bool {
     let mut met: usize = 1;
     let mut from: usize = 0;
     let mut i = 0;
     while i < lines.len() {
         if lines[i] == b'\n' {
             if met == n {
-                part(STDERR_FILENO, lines, from, i);
+                part(rt, Stream::Errors, lines, from, i);
                 return true;
             }
             met = std::num::wrapping_add_usize(met, 1);
@@ -138,8 +138,9 @@ fn line_of(lines: &[u8], n: usize) -> bool {
 }
 
 // What a number means: a line for each, from 1 on.
-pub fn meaning(number: u8) {
+pub fn meaning(rt: &HostRuntime, number: u8) {
     let known = line_of(
+        rt,
         b"a side of the picture that is not a multiple of 4 from 4 to 4096
 something of the wrong length
 a setting outside its range
@@ -166,15 +167,15 @@ a row out of turn
         number as usize,
     );
     if !known {
-        words(b"refused");
+        words(rt, b"refused");
     }
 }
 
 // The line of a refusal: `refused=7: a sample over 1023`.
-pub fn refused(number: u8) {
-    words(b"refused=");
-    io::print_decimal(STDERR_FILENO, number as u64);
-    words(b": ");
-    meaning(number);
-    words(b"\n");
+pub fn refused(rt: &HostRuntime, number: u8) {
+    words(rt, b"refused=");
+    let _ = files::print_decimal(rt, Stream::Errors, number as u64);
+    words(rt, b": ");
+    meaning(rt, number);
+    words(rt, b"\n");
 }

@@ -4,6 +4,7 @@ ghost use Rattle.std.specs.Prelude.{◌≤◌};
 use crate::sheet_place::tell_where;
 use crate::{Tree, map_bytes, no_tree};
 use decoder::{Answer, Printed, Sheet};
+use files::Source;
 
 // ---- what it is refused for
 
@@ -36,7 +37,7 @@ fn refused_by(text: &[u8]) -> u8 {
 }
 
 // The listing of a refusal, n bytes with its newline, and what its number means.
-fn tell(text: &[u8], n: usize, number: u8) {
+fn tell(rt: &HostRuntime, text: &[u8], n: usize, number: u8) {
     if n == 0 {
         return;
     }
@@ -44,14 +45,14 @@ fn tell(text: &[u8], n: usize, number: u8) {
     if text.len() < end {
         return;
     }
-    say::words(&text[..end]);
-    say::words(b": ");
-    say::meaning(number);
-    say::line(b"");
+    say::words(rt, &text[..end]);
+    say::words(rt, b": ");
+    say::meaning(rt, number);
+    say::line(rt, b"");
 }
 
 // Whether the sheet of a file that an argument names is refused, which is told.
-fn refused(at: usize, input: &[u8]) -> bool {
+fn refused(rt: &HostRuntime, at: usize, input: &[u8]) -> bool {
     let mut text = listing_room();
     match decoder::listing(input, &mut text) {
         Printed::Refused(_) => true,
@@ -60,9 +61,9 @@ fn refused(at: usize, input: &[u8]) -> bool {
             if number == 0 {
                 return false;
             }
-            words::name(at);
-            tell_where(input, number);
-            tell(&text, n, number);
+            words::name(rt, at);
+            tell_where(rt, input, number);
+            tell(rt, &text, n, number);
             true
         }
     }
@@ -80,35 +81,35 @@ pub(crate) fn put_digits(digits: &[u8], bits: &mut [u8]) {
 }
 
 // What an answer came to. Answers the exit status.
-fn answered(at: usize, answer: Answer) -> u8 {
+fn answered(rt: &HostRuntime, at: usize, answer: Answer) -> u8 {
     match answer {
         Answer::Done => 0,
         Answer::Refused(r) => {
-            words::name(at);
-            say::refused(decoder::refusal_number(r));
+            words::name(rt, at);
+            say::refused(rt, decoder::refusal_number(r));
             1
         }
     }
 }
 
 // The map of a picture that is not refused, by its digits, first in a room.
-fn mapped(at: usize, w: usize, h: usize, digits: &[u8], map: &mut [u8]) -> u8 {
+fn mapped(rt: &HostRuntime, at: usize, w: usize, h: usize, digits: &[u8], map: &mut [u8]) -> u8 {
     let n = map_bytes(w, h);
     if map.len() < n {
-        words::name(at);
-        say::line(b"there is no room for the sheet's map");
+        words::name(rt, at);
+        say::line(rt, b"there is no room for the sheet's map");
         return 2;
     }
     let mut bits = [0u8; 512];
     put_digits(digits, &mut bits);
     let placed = decoder::take_map(w, h, &bits, 0, digits.len(), &mut map[..n]);
     let answer = placed.answer;
-    answered(at, answer)
+    answered(rt, at, answer)
 }
 
 // The tree of a sheet's text.
-fn tree(at: usize, input: &[u8], map: &mut [u8]) -> Tree {
-    if refused(at, input) {
+fn tree(rt: &HostRuntime, at: usize, input: &[u8], map: &mut [u8]) -> Tree {
+    if refused(rt, at, input) {
         return no_tree(1);
     }
     match decoder::read(input) {
@@ -127,7 +128,7 @@ fn tree(at: usize, input: &[u8], map: &mut [u8]) -> Tree {
             if input.len() < to {
                 return no_tree(1);
             }
-            let status = mapped(at, w, h, &input[from..to], map);
+            let status = mapped(rt, at, w, h, &input[from..to], map);
             Tree {
                 status,
                 w,
@@ -140,11 +141,11 @@ fn tree(at: usize, input: &[u8], map: &mut [u8]) -> Tree {
 
 // The tree of the sheet in a file: the one that an argument names, or standard input for argument 0. At most 4,096 bytes count, and one more tells that
 // there are more. Its map comes first in a room, which has 16,384 bytes for the largest picture of a sheet.
-pub fn by_sheet(at: usize, file: i32, map: &mut [u8]) -> Tree {
+pub fn by_sheet(rt: &HostRuntime, at: usize, file: &mut Source, map: &mut [u8]) -> Tree {
     let mut input = [0u8; 4097];
-    let n = io::read_full(file, &mut input);
-    if words::unreadable(at, file) {
+    let n = files::read_full(file, &mut input);
+    if words::unreadable(rt, at, file) {
         return no_tree(2);
     }
-    tree(at, &input[..n], map)
+    tree(rt, at, &input[..n], map)
 }

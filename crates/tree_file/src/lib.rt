@@ -1,6 +1,7 @@
 // A picture's split tree from a file: a sheet, a split map by its bytes, or one by its digits. Each is judged by the call of the face that takes it; what is
 // refused is told with its file and its place. No contract can say what is read or written: what stands here is proved safe. It is for the programs alone.
 #![tactic(auto)]
+
 ghost use Rattle.std.specs.Prelude.{◌≤◌};
 
 mod from_digits; // from_digits.rt: a map by its digits

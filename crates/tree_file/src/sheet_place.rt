@@ -3,8 +3,8 @@ use crate::from_sheet::put_digits;
 use decoder::Sheet;
 
 // A line and a character of it.
-fn tell_character(line: usize, character: usize) {
-    say::form(b"line @, character @", &[line, character]);
+fn tell_character(rt: &HostRuntime, line: usize, character: usize) {
+    say::form(rt, b"line @, character @", &[line, character]);
 }
 
 // ---- a line that is malformed
@@ -57,61 +57,62 @@ fn departs_in(text: &[u8], line: usize) -> usize {
 }
 
 // What the line has to be.
-fn tell_asked(line: usize) {
+fn tell_asked(rt: &HostRuntime, line: usize) {
     match line {
-        1 => say::words(b"'width=' and one to four digits are asked for: "),
-        2 => say::words(b"'height=' and one to four digits are asked for: "),
-        3 => say::words(b"'tr_log2=' and one to four digits are asked for: "),
-        4 => say::words(b"'v_edge=own' is asked for: "),
-        5 => say::words(b"'splits=' and digits 0 and 1 are asked for: "),
-        _ => say::words(b"nothing is asked for behind the fifth line: "),
+        1 => say::words(rt, b"'width=' and one to four digits are asked for: "),
+        2 => say::words(rt, b"'height=' and one to four digits are asked for: "),
+        3 => say::words(rt, b"'tr_log2=' and one to four digits are asked for: "),
+        4 => say::words(rt, b"'v_edge=own' is asked for: "),
+        5 => say::words(rt, b"'splits=' and digits 0 and 1 are asked for: "),
+        _ => say::words(rt, b"nothing is asked for behind the fifth line: "),
     }
 }
 
-fn tell_line(input: &[u8], line: usize) {
+fn tell_line(rt: &HostRuntime, input: &[u8], line: usize) {
     let start = line_start(input, line);
     let end = input.len();
     if end < start {
         return;
     }
     let at = departs_in(&input[start..end], line);
-    tell_character(line, std::num::wrapping_add_usize(at, 1));
-    say::words(b": ");
-    tell_asked(line);
+    tell_character(rt, line, std::num::wrapping_add_usize(at, 1));
+    say::words(rt, b": ");
+    tell_asked(rt, line);
 }
 
 // ---- a digit
 
 // The digit of a picture of w by h that is refused: it stands in the fifth line, behind seven characters.
-fn tell_digit(w: usize, h: usize, digits: &[u8]) {
+fn tell_digit(rt: &HostRuntime, w: usize, h: usize, digits: &[u8]) {
     let mut bits = [0u8; 512];
     put_digits(digits, &mut bits);
     let d = map_file::offending(w, h, &bits, digits.len());
-    tell_character(5, std::num::wrapping_add_usize(d.at, 8));
+    tell_character(rt, 5, std::num::wrapping_add_usize(d.at, 8));
     if !d.refused {
-        say::words(b", behind the last digit: ");
+        say::words(rt, b", behind the last digit: ");
         return;
     }
     if digits.len() <= d.at {
-        say::words(b", where the line ends");
+        say::words(rt, b", where the line ends");
     }
-    say::words(b", ");
-    map_file::tell_block(w, d.root, d.place);
+    say::words(rt, b", ");
+    map_file::tell_block(rt, w, d.root, d.place);
 }
 
 // ---- the sheet
 
-fn tell_size(w: usize, h: usize) {
+fn tell_size(rt: &HostRuntime, w: usize, h: usize) {
     say::form(
+        rt,
         b"lines 1 and 2, a picture of @x@, and a sheet's have at most 256x256: ",
         &[w, h],
     );
 }
 
 // Where a sheet is refused, by the number that it is refused for.
-pub(crate) fn tell_where(input: &[u8], number: u8) {
+pub(crate) fn tell_where(rt: &HostRuntime, input: &[u8], number: u8) {
     match decoder::read(input) {
-        Sheet::Malformed(line) => tell_line(input, line),
+        Sheet::Malformed(line) => tell_line(rt, input, line),
         Sheet::Read {
             w,
             h,
@@ -127,10 +128,10 @@ pub(crate) fn tell_where(input: &[u8], number: u8) {
                 return;
             }
             match number {
-                1 => tell_size(w, h),
-                3 => say::words(b"line 3: "),
-                20 => say::words(b"line 4: "),
-                _ => tell_digit(w, h, &input[from..to]),
+                1 => tell_size(rt, w, h),
+                3 => say::words(rt, b"line 3: "),
+                20 => say::words(rt, b"line 4: "),
+                _ => tell_digit(rt, w, h, &input[from..to]),
             }
         }
     }

@@ -1,6 +1,7 @@
 // The ward screen before a row is put: its two runs, a crop window, how large both are in a plane, and what a row's call refuses, in which order.
 // There is no Rust beside it. It stands above the face and goes by the latter's statements.
 #![tactic(auto)]
+
 ghost use Rattle.std.specs.Prelude.{◌≡◌, ◌≤◌, ◌<◌};
 ghost use Rattle.decoder.specs.Face.answers.{Done};
 ghost use Rattle.ward_check.specs.Sizes.{across, planes_of, in_plane, plane_length};

@@ -2,8 +2,16 @@
 ghost use Rattle.std.specs.Prelude.{◌≤◌};
 
 use crate::{Job, every};
+use files::Source;
 
-fn in_small(file: i32, job: Job, w: usize, luma: usize, chroma: usize) -> u8
+fn in_small(
+    rt: &HostRuntime,
+    file: &mut Source,
+    job: Job,
+    w: usize,
+    luma: usize,
+    chroma: usize,
+) -> u8
     requires { (luma ≤ 262144) × (chroma ≤ 65536) × (w ≤ 4096) }
 {
     let mut bytes = y4m_file::small_bytes();
@@ -13,6 +21,7 @@ fn in_small(file: i32, job: Job, w: usize, luma: usize, chroma: usize) -> u8
     let mut out = [0u8; 4096];
     let size = 6 + 2 * luma + 4 * chroma;
     every(
+        rt,
         file,
         job,
         &mut bytes[..size],
@@ -23,7 +32,16 @@ fn in_small(file: i32, job: Job, w: usize, luma: usize, chroma: usize) -> u8
     )
 }
 
-fn in_large(file: i32, job: Job, w: usize, luma: usize, chroma: usize) -> u8
+// The large arrays stay in a frame of their own: a function that took them into its own would need the room at each call.
+#[inline(never)]
+fn in_large(
+    rt: &HostRuntime,
+    file: &mut Source,
+    job: Job,
+    w: usize,
+    luma: usize,
+    chroma: usize,
+) -> u8
     requires { (luma ≤ 16777216) × (chroma ≤ 4194304) × (w ≤ 4096) }
 {
     let mut bytes = y4m_file::large_bytes();
@@ -33,6 +51,7 @@ fn in_large(file: i32, job: Job, w: usize, luma: usize, chroma: usize) -> u8
     let mut out = [0u8; 4096];
     let size = 6 + 2 * luma + 4 * chroma;
     every(
+        rt,
         file,
         job,
         &mut bytes[..size],
@@ -43,9 +62,8 @@ fn in_large(file: i32, job: Job, w: usize, luma: usize, chroma: usize) -> u8
     )
 }
 
-// All frames. A picture that the small room does not hold is gone to by a call of itself, which is not the last thing done: a compiler puts no large array
-// into the frame of a function that does so.
-pub(crate) fn frames(file: i32, job: Job, large: bool) -> u8 {
+// All frames. A picture that the small room does not hold is gone to by a call of itself.
+pub(crate) fn frames(rt: &HostRuntime, file: &mut Source, job: Job, large: bool) -> u8 {
     let w = job.w;
     let h = job.h;
     if 4096 < w {
@@ -57,16 +75,19 @@ pub(crate) fn frames(file: i32, job: Job, large: bool) -> u8 {
     let luma = w * h;
     let chroma = (w / 2) * (h / 2);
     if large {
-        return in_large(file, job, w, luma, chroma);
+        return in_large(rt, file, job, w, luma, chroma);
     }
     if luma <= 262144 {
         if chroma <= 65536 {
-            return in_small(file, job, w, luma, chroma);
+            return in_small(rt, file, job, w, luma, chroma);
         }
     }
-    let status = frames(file, job, true);
+    let status = frames(rt, file, job, true);
     if status == 2 {
-        say::line(b"(the picture is large: its frames are kept in a room of 100 megabytes)");
+        say::line(
+            rt,
+            b"(the picture is large: its frames are kept in a room of 100 megabytes)",
+        );
     }
     status
 }

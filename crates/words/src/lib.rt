@@ -4,7 +4,8 @@
 
 ghost use Rattle.std.specs.Prelude.{◌≤◌};
 
-use libc::STDERR_FILENO;
+use files::{Source, Stream};
+use std::io;
 
 // Whether a word is this one.
 pub fn is(word: &[u8], name: &[u8]) -> bool {
@@ -93,61 +94,69 @@ pub fn number(word: &[u8]) -> Counted {
 // ---- arguments
 
 // Whether an argument is this word.
-pub fn asked(at: usize, name: &[u8]) -> bool {
-    let mut word = io::buffer();
-    let n = os::arg(at, &mut word);
+pub fn asked(rt: &HostRuntime, at: usize, name: &[u8]) -> bool {
+    let mut word = files::buffer();
+    let n = files::arg(rt, at, &mut word);
     is(&word[..n], name)
 }
 
 // An argument as a number.
-pub fn number_arg(at: usize) -> Counted {
-    let mut word = io::buffer();
-    let n = os::arg(at, &mut word);
+pub fn number_arg(rt: &HostRuntime, at: usize) -> Counted {
+    let mut word = files::buffer();
+    let n = files::arg(rt, at, &mut word);
     number(&word[..n])
 }
 
 // ---- files
 
 // The name of a file and a colon, before what is told of it: that which argument `at` has, or standard input for argument 0.
-pub fn name(at: usize) {
+pub fn name(rt: &HostRuntime, at: usize) {
     if at == 0 {
-        io::write_all(STDERR_FILENO, b"standard input: ");
+        let _ = files::write_all(rt, Stream::Errors, b"standard input: ");
         return;
     }
-    let mut path = io::buffer();
-    let n = os::arg(at, &mut path);
-    io::write_all(STDERR_FILENO, &path[..n]);
-    io::write_all(STDERR_FILENO, b": ");
+    let mut path = files::buffer();
+    let n = files::arg(rt, at, &mut path);
+    let _ = files::write_all(rt, Stream::Errors, &path[..n]);
+    let _ = files::write_all(rt, Stream::Errors, b": ");
 }
 
-// Opens the file that an argument names, to be read; below 0 where that fails, which is told.
-pub fn open(at: usize) -> i32 {
-    let mut path = io::buffer();
-    let n = os::arg(at, &mut path);
-    let file = os::open_read(&path[..n]);
-    if file < 0 {
-        os::fail(&path[..n]);
+// Opens the file that an argument names, to be read; none where that fails, which is told.
+pub fn open(rt: &HostRuntime, at: usize) -> Option<Source> {
+    let mut path = files::buffer();
+    let n = files::arg(rt, at, &mut path);
+    match files::open_read(rt, &path[..n]) {
+        Ok(file) => Some(file),
+        Err(error) => {
+            files::fail(rt, &path[..n], error);
+            None
+        }
     }
-    file
 }
 
 // Whether a read fails where a file seems to end, as it does where the file is a directory.
-pub fn read_fails(file: i32) -> bool {
-    let mut byte = [0u8; 1];
-    libc::read(file, &mut byte) < 0
+pub fn read_fails(file: &mut Source) -> bool {
+    files::failure(file).is_some()
 }
 
 // The same of the file that an argument names, or of standard input for argument 0; it is told.
-pub fn unreadable(at: usize, file: i32) -> bool {
-    let mut path = io::buffer();
-    let n = os::arg(at, &mut path);
-    if !read_fails(file) {
-        return false;
+pub fn unreadable(rt: &HostRuntime, at: usize, file: &mut Source) -> bool {
+    match files::failure(file) {
+        None => false,
+        Some(error) => {
+            unread(rt, at, error);
+            true
+        }
     }
+}
+
+// Tells why the file that an argument names, or standard input for argument 0, cannot be read.
+pub fn unread(rt: &HostRuntime, at: usize, error: io::Error) {
     if at == 0 {
-        os::fail(b"standard input");
-    } else {
-        os::fail(&path[..n]);
+        files::fail(rt, b"standard input", error);
+        return;
     }
-    true
+    let mut path = files::buffer();
+    let n = files::arg(rt, at, &mut path);
+    files::fail(rt, &path[..n], error);
 }

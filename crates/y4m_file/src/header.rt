@@ -1,10 +1,24 @@
 // The header of a stream that is written, and how far a long one has come.
 use def::Format;
-use libc::STDOUT_FILENO;
+use files::Stream;
+use std::io;
 use y4m_header_out::HeaderWritten;
 
-// Writes the header of a stream: F is 25:1 and A is 1:1 where the one that was read has none. False where it cannot be written.
-pub fn put_header(w: usize, h: usize, f: usize, g: usize, a: usize, b: usize) -> bool {
+// There is no header of such numbers.
+fn no_header() -> io::Result<()> {
+    Err(io::Error::from(io::ErrorKind::InvalidInput))
+}
+
+// Writes the header of a stream: F is 25:1 and A is 1:1 where the one that was read has none.
+pub fn put_header(
+    rt: &HostRuntime,
+    w: usize,
+    h: usize,
+    f: usize,
+    g: usize,
+    a: usize,
+    b: usize,
+) -> io::Result<()> {
     let mut head = [0u8; 256];
     match y4m_header_out::write_header(
         Format::Colour,
@@ -16,20 +30,20 @@ pub fn put_header(w: usize, h: usize, f: usize, g: usize, a: usize, b: usize) ->
         crate::or_else(b, 1),
         &mut head,
     ) {
-        HeaderWritten::Refused(_) => false,
+        HeaderWritten::Refused(_) => no_header(),
         HeaderWritten::Written(n) => {
             if 256 < n {
-                return false;
+                return no_header();
             }
-            io::write_all(STDOUT_FILENO, &head[..n])
+            files::write_all(rt, Stream::Output, &head[..n])
         }
     }
 }
 
 // Every hundredth frame is told.
-pub fn progress(frames: usize) {
+pub fn progress(rt: &HostRuntime, frames: usize) {
     if frames % 100 == 99 {
-        say::counted(b"frames=", frames + 1);
-        say::line(b"");
+        say::counted(rt, b"frames=", frames + 1);
+        say::line(rt, b"");
     }
 }

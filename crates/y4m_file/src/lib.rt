@@ -1,11 +1,13 @@
 // What the programs over YUV4MPEG2 files share: a file's header line, its frames one after the other, and what is told of a refusal.
 // No contract can say what is read or written: what stands here is proved safe. Memory is that of one frame, however long the file is.
 #![tactic(auto)]
+
 ghost use Rattle.std.specs.Prelude.{◌≤◌, length};
 
 use def::{Answer, Format};
-use libc::{STDERR_FILENO, STDOUT_FILENO};
+use files::{Source, Stream};
 use say::{end_line, field};
+use std::io;
 use y4m_frame::FrameRead;
 
 mod header; // header.rt: a stream that is written
@@ -27,31 +29,35 @@ struct Ended {
     failed: bool,
 }
 
-// What one frame came to: whether there may be more; else the number of its refusal and where it offends, from its own start on, or a failure.
+// What one frame came to: whether there may be more; else the number of its refusal and where it offends, from its own start on, or why reading or writing it
+// failed.
 #[derive(Drop)]
 pub struct Turn {
     pub more: bool,
     pub number: u8,
     pub at: usize,
-    pub failed: bool,
+    pub failed: Option<io::Error>,
 }
 
 // ---- reading
 
 // Whether there is one byte more: not at the end, and not where the read failed.
-fn one_more(file: i32, byte: &mut [u8; 1]) -> bool {
-    libc::read(file, byte) > 0
+fn one_more(file: &mut Source, byte: &mut [u8; 1]) -> bool {
+    match files::read_some(file, byte) {
+        Ok(n) => 0 < n,
+        Err(_) => false,
+    }
 }
 
 // The first line of a file, up to its newline or to as many bytes as there is room for: how many there are. Byte by byte, so that what stands after
 // it is not read yet.
-pub fn first_line(file: i32, room: &mut [u8]) -> usize
+pub fn first_line(file: &mut Source, room: &mut [u8]) -> usize
     ensures { result ≤ length room.new }
 {
     let mut byte = [0u8; 1];
     let mut i = 0;
     while i < room.len() {
-        if !one_more(file, &mut byte) {
+        if !one_more(&mut *file, &mut byte) {
             return i;
         }
         let b = byte[0];
@@ -65,11 +71,11 @@ pub fn first_line(file: i32, room: &mut [u8]) -> usize
 }
 
 // Whether a file's first line has no bytes because the file cannot be read, as a directory cannot. That is told, of the file that an argument names.
-pub fn unreadable(at: usize, file: i32, n: usize) -> bool {
+pub fn unreadable(rt: &HostRuntime, at: usize, file: &mut Source, n: usize) -> bool {
     if n != 0 {
         return false;
     }
-    words::unreadable(at, file)
+    words::unreadable(rt, at, file)
 }
 
 // ---- a frame
@@ -83,31 +89,59 @@ fn place_in(number: u8, at: usize, n: usize) -> usize {
     }
 }
 
-fn after(more: bool, number: u8, at: usize, failed: bool) -> Turn {
+fn more() -> Turn {
     Turn {
-        more,
+        more: true,
+        number: 0,
+        at: 0,
+        failed: None,
+    }
+}
+
+fn no_more() -> Turn {
+    stops_at(0, 0)
+}
+
+fn stops_at(number: u8, at: usize) -> Turn {
+    Turn {
+        more: false,
         number,
         at,
-        failed,
+        failed: None,
+    }
+}
+
+fn failed(error: io::Error) -> Turn {
+    Turn {
+        more: false,
+        number: 0,
+        at: 0,
+        failed: Some(error),
     }
 }
 
 // Writes a frame.
-pub fn put_frame(w: usize, h: usize, y: &[u16], u: &[u16], v: &[u16], bytes: &mut [u8]) -> Turn {
+pub fn put_frame(
+    rt: &HostRuntime,
+    w: usize,
+    h: usize,
+    y: &[u16],
+    u: &[u16],
+    v: &[u16],
+    bytes: &mut [u8],
+) -> Turn {
     match y4m_frame_out::write_frame(Format::Colour, w, h, y, u, v, bytes) {
-        Answer::Refused(r) => after(false, def::refusal_number(r), 0, false),
-        Answer::Done => {
-            if io::write_all(STDOUT_FILENO, bytes) {
-                return after(true, 0, 0, false);
-            }
-            after(false, 0, 0, true)
-        }
+        Answer::Refused(r) => stops_at(def::refusal_number(r), 0),
+        Answer::Done => match files::write_all(rt, Stream::Output, bytes) {
+            Ok(()) => more(),
+            Err(error) => failed(error),
+        },
     }
 }
 
 // Reads the next frame and checks it: no more, no number and no failure at the end of the file.
 pub fn next_frame(
-    file: i32,
+    file: &mut Source,
     w: usize,
     h: usize,
     bytes: &mut [u8],
@@ -115,42 +149,43 @@ pub fn next_frame(
     u: &mut [u16],
     v: &mut [u16],
 ) -> Turn {
-    let n = io::read_full(file, bytes);
+    let n = files::read_full(&mut *file, &mut *bytes);
     if n < bytes.len() {
-        if words::read_fails(file) {
-            return after(false, 0, 0, true);
+        if let Some(error) = files::failure(file) {
+            return failed(error);
         }
         if n == 0 {
-            return after(false, 0, 0, false);
+            return no_more();
         }
     }
     match y4m_frame::read_frame(&bytes[..n], 0, w, h, y, u, v) {
         FrameRead::Refused(r, at) => {
             let number = def::refusal_number(r);
-            after(false, number, place_in(number, at, n), false)
+            stops_at(number, place_in(number, at, n))
         }
-        FrameRead::Read(_) => after(true, 0, 0, false),
+        FrameRead::Read(_) => more(),
     }
 }
 
 // A failure to read a frame, or to write one, is told where it comes from. The programs whose files are gone through here name them by their first argument.
-fn read_told(file: i32, t: Turn) -> Turn {
-    if t.failed {
-        words::unreadable(1, file);
+fn read_told(rt: &HostRuntime, t: Turn) -> Turn {
+    if let Some(error) = t.failed {
+        words::unread(rt, 1, error);
     }
     t
 }
 
-fn write_told(t: Turn) -> Turn {
-    if t.failed {
-        say::unwritten();
+fn write_told(rt: &HostRuntime, t: Turn) -> Turn {
+    if let Some(error) = t.failed {
+        say::unwritten(rt, error);
     }
     t
 }
 
 // The next frame, where it is to be copied written again.
 fn one_frame(
-    file: i32,
+    rt: &HostRuntime,
+    file: &mut Source,
     w: usize,
     h: usize,
     copy: bool,
@@ -159,9 +194,12 @@ fn one_frame(
     u: &mut [u16],
     v: &mut [u16],
 ) -> Turn {
-    let t = read_told(file, next_frame(file, w, h, bytes, y, u, v));
+    let t = read_told(
+        rt,
+        next_frame(file, w, h, &mut *bytes, &mut *y, &mut *u, &mut *v),
+    );
     if copy & t.more {
-        return write_told(put_frame(w, h, y, u, v, bytes));
+        return write_told(rt, put_frame(rt, w, h, y, u, v, bytes));
     }
     t
 }
@@ -170,7 +208,8 @@ fn one_frame(
 
 // A proved loop has to end, and nothing says that a file does: it counts frames up to a number that no run uses up.
 fn each_frame(
-    file: i32,
+    rt: &HostRuntime,
+    file: &mut Source,
     w: usize,
     h: usize,
     start: usize,
@@ -183,10 +222,20 @@ fn each_frame(
     let mut frames: usize = 0;
     let mut place = start;
     while frames < usize::MAX {
-        let t = one_frame(file, w, h, copy, bytes, y, u, v);
+        let t = one_frame(
+            rt,
+            &mut *file,
+            w,
+            h,
+            copy,
+            &mut *bytes,
+            &mut *y,
+            &mut *u,
+            &mut *v,
+        );
         if !t.more {
             let end = std::num::wrapping_add_usize(place, t.at);
-            return stopped(frames, t.number, end, t.failed);
+            return stopped(frames, t.number, end, t.failed.is_some());
         }
         frames += 1;
         place = std::num::wrapping_add_usize(place, bytes.len());
@@ -211,37 +260,37 @@ pub fn or_else(n: usize, other: usize) -> usize {
 }
 
 // A refusal with its place, on standard error: `byte 9301: refused=18: a stream that ends before its frame does`.
-pub fn refused(number: u8, place: usize) {
-    io::write_all(STDERR_FILENO, b"byte ");
-    say::number(place);
-    say::words(b": ");
-    say::refused(number);
+pub fn refused(rt: &HostRuntime, number: u8, place: usize) {
+    say::words(rt, b"byte ");
+    say::number(rt, place);
+    say::words(rt, b": ");
+    say::refused(rt, number);
 }
 
 // The same of the file that an argument names: `LOOP.y4m: byte 9301: ..`.
-pub fn refused_in(at: usize, number: u8, place: usize) {
-    words::name(at);
-    refused(number, place);
+pub fn refused_in(rt: &HostRuntime, at: usize, number: u8, place: usize) {
+    words::name(rt, at);
+    refused(rt, number, place);
 }
 
 // How many frames there are, or the refusal of the next; a copy has standard output for itself. Answers the exit status.
-fn told(e: Ended, copy: bool) -> u8 {
+fn told(rt: &HostRuntime, e: Ended, copy: bool) -> u8 {
     if e.failed {
         return 2;
     }
-    let mut written = true;
+    let mut written = Ok(());
     if !copy {
-        field(b"frames=", e.frames);
-        written = end_line();
+        field(rt, b"frames=", e.frames);
+        written = end_line(rt);
     }
     if e.number == 0 {
-        return say::shown(written, 0);
+        return say::shown(rt, written, 0);
     }
     if !copy {
-        field(b"refused=", e.number as usize);
-        field(b" place=", e.place);
-        written = end_line();
+        field(rt, b"refused=", e.number as usize);
+        field(rt, b" place=", e.place);
+        written = end_line(rt);
     }
-    refused_in(1, e.number, e.place);
-    say::shown(written, 1)
+    refused_in(rt, 1, e.number, e.place);
+    say::shown(rt, written, 1)
 }

@@ -3,6 +3,7 @@
 ghost use Rattle.std.specs.Prelude.{◌≡◌, ◌+◌, ◌*◌, ◌≤◌};
 
 use crate::{Ended, each_frame, told};
+use files::Source;
 
 // ---- arrays: a call for each keeps the checker from looking into it
 
@@ -70,7 +71,15 @@ pub fn lengths_of(w: usize, h: usize) -> Lengths
 
 // ---- all frames of a file, in such a room
 
-fn in_small(file: i32, w: usize, h: usize, n: Lengths, start: usize, copy: bool) -> Ended
+fn in_small(
+    rt: &HostRuntime,
+    file: &mut Source,
+    w: usize,
+    h: usize,
+    n: Lengths,
+    start: usize,
+    copy: bool,
+) -> Ended
     requires { (n.size ≤ 786438) × (n.luma ≤ 262144) × (n.chroma ≤ 65536) }
 {
     let size = n.size;
@@ -81,6 +90,7 @@ fn in_small(file: i32, w: usize, h: usize, n: Lengths, start: usize, copy: bool)
     let mut u = small_chroma();
     let mut v = small_chroma();
     each_frame(
+        rt,
         file,
         w,
         h,
@@ -93,7 +103,17 @@ fn in_small(file: i32, w: usize, h: usize, n: Lengths, start: usize, copy: bool)
     )
 }
 
-fn in_large(file: i32, w: usize, h: usize, n: Lengths, start: usize, copy: bool) -> Ended
+// The large arrays stay in a frame of their own: a function that took them into its own would need the room at each call.
+#[inline(never)]
+fn in_large(
+    rt: &HostRuntime,
+    file: &mut Source,
+    w: usize,
+    h: usize,
+    n: Lengths,
+    start: usize,
+    copy: bool,
+) -> Ended
     requires { (n.size ≤ 50331654) × (n.luma ≤ 16777216) × (n.chroma ≤ 4194304) }
 {
     let size = n.size;
@@ -104,6 +124,7 @@ fn in_large(file: i32, w: usize, h: usize, n: Lengths, start: usize, copy: bool)
     let mut u = large_chroma();
     let mut v = large_chroma();
     each_frame(
+        rt,
         file,
         w,
         h,
@@ -117,23 +138,34 @@ fn in_large(file: i32, w: usize, h: usize, n: Lengths, start: usize, copy: bool)
 }
 
 // The frames of a file from here on, of pictures of w by h. The first starts at the byte `start`. Where they are to be copied each is written again. A
-// picture that the small room does not hold is gone to by a call of itself: a compiler puts no large array into the frame of a function that does so.
-pub fn frames(file: i32, w: usize, h: usize, start: usize, copy: bool, large: bool) -> u8 {
+// picture that the small room does not hold is gone to by a call of itself.
+pub fn frames(
+    rt: &HostRuntime,
+    file: &mut Source,
+    w: usize,
+    h: usize,
+    start: usize,
+    copy: bool,
+    large: bool,
+) -> u8 {
     let n = lengths_of(w, h);
     if n.size == 0 {
         return 2;
     }
     if large {
-        return told(in_large(file, w, h, n, start, copy), copy);
+        return told(rt, in_large(rt, file, w, h, n, start, copy), copy);
     }
     if n.luma <= 262144 {
         if n.chroma <= 65536 {
-            return told(in_small(file, w, h, n, start, copy), copy);
+            return told(rt, in_small(rt, file, w, h, n, start, copy), copy);
         }
     }
-    let status = frames(file, w, h, start, copy, true);
+    let status = frames(rt, file, w, h, start, copy, true);
     if status == 2 {
-        say::line(b"(the picture is large: its frames are read in a room of 100 megabytes)");
+        say::line(
+            rt,
+            b"(the picture is large: its frames are read in a room of 100 megabytes)",
+        );
     }
     status
 }

@@ -1,0 +1,50 @@
+// A number as text, in ASCII.
+ghost use Rattle.std.specs.Prelude.{◌≡◌, ◌+◌, ◌<◌, ◌≤◌, length, take, drop};
+ghost use Rattle.files.specs.Counts.{IsPrefixLen};
+ghost use Rattle.files.specs.Digits.{last_digits, IsDigitCount};
+
+// Puts a number's decimal digits at the start of the room: how many there are.
+pub fn decimal(n: u64, out: &mut [u8; 20]) -> usize
+    ensures in_bounds { IsPrefixLen result out.new }
+    ensures len { IsDigitCount n result }
+    ensures digits { take result out.new ≡ last_digits result n }
+    ensures rest { drop result out.new ≡ drop result out.old }
+{
+    let k = digit_count(n);
+    write_digits(n, k, out);
+    k
+}
+
+fn digit_count(n: u64) -> usize
+    ensures { IsDigitCount n result }
+{
+    let mut k = 1;
+    let mut rest = n / 10;
+    while rest > 0 {
+        rest /= 10;
+        k += 1;
+    }
+    k
+}
+
+// Puts the last k digits of a number at the start of the room.
+fn write_digits(n: u64, k: usize, out: &mut [u8])
+    requires in_bounds { k ≤ length out.old }
+    ensures digits { take k out.new ≡ last_digits k n }
+    ensures rest { drop k out.new ≡ drop k out.old }
+{
+    let mut i = k;
+    let mut rest = n;
+    while i > 0 {
+        i -= 1;
+        out[i] = digit_to_ascii(rest % 10);
+        rest /= 10;
+    }
+}
+
+fn digit_to_ascii(d: u64) -> u8
+    requires { d < 10 }
+    ensures { result ≡ 48 + d }
+{
+    b'0' + d as u8
+}

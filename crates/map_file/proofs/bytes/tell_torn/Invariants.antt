@@ -1,0 +1,5 @@
+use Rattle.std.proofs.Common.{◌-◌}
+use Rattle.map_file.proofs.bytes.tell_torn.Given as goal
+
+abbrev pub decreases-loop-root : goal.decreases-loop-root
+decreases-loop-root l = l.count - l.root
