@@ -2,6 +2,7 @@
 // What it refuses is in `ward_check`, and the samples of a row are in `ward_rows`.
 // There is no Rust beside it. It stands above the face and goes by the latter's statements.
 #![tactic(auto)]
+
 ghost use Rattle.std.specs.Prelude.{◌≡◌, ◌<◌, length};
 ghost use Rattle.laws.specs.Call.{Gives};
 ghost use Rattle.ward_check.specs.Sizes.{rows_of};

@@ -1,6 +1,7 @@
 // A row of what a run shows, from the samples of a plane: one row of them, or two for a preview. A row that does not lie in the plane or in the buffer is not put.
 // There is no Rust beside it. It stands above the face and goes by the latter's statements.
 #![tactic(auto)]
+
 ghost use Rattle.std.specs.Prelude.{◌≡◌, ℕ, ◌+◌, ◌*◌, ◌/◌, ◌<◌, ◌≤◌, ◌&&◌, length, slice_index};
 ghost use Rattle.laws.specs.Index.{pick, tabulate};
 ghost use Rattle.laws.specs.Plane.{with_row};

@@ -64,7 +64,7 @@ unfolding AskedOf
 given_requires_3 c κs =
     let i = input c.before.before.before.before.before.before.before.before in
     let a = asked c.before.before in
-    let r = c.in-0.rest in
+    let r = c.in_default.in_default-own.rest in
     fits i.turn i.plane i.row i.format i.w i.h (length i.y) (length i.u) (length i.v) i.window (length i.out) a _
     (long_2 i.turn i.plane i.row i.format i.w i.h (length i.y) (length i.u) (length i.v) i.window (length i.out) a
     (λ e. r.0.1 (sym (same i a) ∙ e)) (λ e. r.1 (sym (same i a) ∙ e)))
@@ -91,7 +91,7 @@ returns-4 : tie.Need-returns-in_default
 returns-4 c =
     let i = input c.before.before.before.before.before.before.before.before.before.before.before in
     let s = same i (asked c.before.before.before.before.before) in
-    let r = c.in-0.rest in
+    let r = c.in_default.in_default-own.rest in
     row_given i _ c.checked_row-found.ensures c.in-Done.is _
     (lent_2 i.y i.u i.v i.turn.plane (λ e. r.0.1 (sym s ∙ e)) (λ e. r.1 (sym s ∙ e))) _ c.given-in_default.ensures
 
