@@ -1,6 +1,7 @@
 // The calls for C and Rust to link: numbers and slices alone, the number as the answer, values by `&mut`. Each is one call of the crate that it
 // names, and its contract is that call's own. A slice is passed as a pointer and a length. On a refusal a value is 0, and no slice is written.
 #![tactic(auto)]
+
 ghost use Rattle.std.specs.Prelude.{◌≡◌};
 ghost use Rattle.decoder_c.specs.Flags.{component_of, format_of};
 
