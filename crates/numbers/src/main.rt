@@ -215,7 +215,7 @@ fn qps(stdout: &mut Output) -> io::Result<()> {
 }
 
 fn main(rt: HostRuntime) -> io::Result<()> {
-    let mut stdout = replay::output(&rt)?;
+    let mut stdout = replay::output(&rt);
     lines(&mut stdout)?;
     rows(&mut stdout)?;
     modes(&mut stdout)?;

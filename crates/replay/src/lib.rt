@@ -4,24 +4,20 @@
 // holds has gained; after an error it may hold a part of them.
 #![tactic(auto)]
 
-ghost use Rattle.std.specs.Prelude.{◌≡◌, ◌-◌, ◌≤◌, length, IfOk, OnOk, [], ◌∷◌};
+ghost use Rattle.std.specs.Prelude.{◌≡◌, ◌-◌, ◌≤◌, length, OnOk, [], ◌∷◌};
 ghost use Rattle.std.specs.Fmt.{decimal, signed_decimal};
 ghost use Rattle.std.specs.Io.KnownBytes.{Appends};
-ghost use Rattle.std.specs.Io.Buffered.{writer_buffer};
 ghost use Rattle.std.specs.List.{flat_map};
 
 use std::fs::File;
-use std::io::{self, BufWriter, Eprint, Read, Stdout, Write};
+use std::io::{self, Eprint, Read, Stdout, Write};
 use std::rt::Files;
 
-// Standard output behind a buffer: some programs print megabytes, a few bytes at a time.
-pub type Output = BufWriter<Stdout>;
+// What the answers are printed to: standard output as it is, so that no program needs memory of its own for it.
+pub type Output = Stdout;
 
-// What the answers are printed to, with nothing in its buffer. The program flushes it at its end, so that a write that fails there is seen.
-pub fn output(rt: &HostRuntime) -> io::Result<Output>
-    ensures { IfOk result (λ w. writer_buffer w ≡ []) }
-{
-    BufWriter::new(rt.alloc(), rt.stdout())
+pub fn output(rt: &HostRuntime) -> Output {
+    rt.stdout()
 }
 
 // Room for the largest file of cases. A call keeps the checker from looking into the array.
@@ -39,7 +35,7 @@ pub fn load(rt: &(impl Files<File = File> + Eprint), room: &mut [u8]) -> usize
         Ok(file) => read_full(rt, file, room),
         Err(error) => {
             say(rt, error);
-            0
+            return 0;
         }
     }
 }

@@ -100,7 +100,7 @@ fn every(stdout: &mut Output, s: &[u8]) -> io::Result<()> {
 fn main(rt: HostRuntime) -> io::Result<()> {
     let mut all = replay::room();
     let n = replay::load(&rt, &mut all);
-    let mut stdout = replay::output(&rt)?;
+    let mut stdout = replay::output(&rt);
     every(&mut stdout, &all[..n])?;
     stdout.flush()
 }
