@@ -6,17 +6,14 @@ use Rattle.mend.proofs.Lists.{listed_none, listed_as, listed_one, change_none, c
 use Rattle.mend.proofs.put_change.Statement.{statement}
 use Rattle.mend.proofs.put_change.Tie as tie
 
-returns : tie.Need-returns-then-old-new
-returns c = listed_as (change_none _ _ _ _ c.if-old-new.true) (listed_none _ _)
-
 returns-2 : tie.Need-returns
-returns-2 c = listed_as (change_one _ _ _ _ c.if-old-new.false) (rw (c.wide.ensures, c.wide-2.ensures) (listed_one _ _ _))
+returns-2 c = listed_as (change_one _ _ _ _ (omega arith)) (rw (c.wide.ensures, c.wide-2.ensures) (listed_one _ _ _))
 
 pub put_change_spec : {M : Type 1} → statement M
 put_change_spec =
     tie.close
     (tie.spec
-    returns
+    (λ c. listed_as (change_none _ _ _ _ (omega arith)) (listed_none _ _))
     (λ c. search rules)
     (λ c. search rules)
     (λ c. search rules)

@@ -1,5 +1,6 @@
 -- `rank::visiting_rank` meets its contract. That the table's 256 entries are the interleaved bits is one test, `table_test`, which the checker computes:
 -- there the code's table stands for `ranks`, the table by its rule. Assumes nothing.
+use native.Mathlib.Omega.{arith}
 use borrow.Author.Rules.{rules}
 use borrow.Author.Tests.{le-ltb}
 use Rattle.laws.specs.Index.{tabulate_from}
@@ -8,17 +9,11 @@ use Rattle.rank.proofs.Ranks.{ranks, rank_at, rank_refused, rank_done}
 use Rattle.rank.proofs.visiting_rank.Statement.{statement}
 use Rattle.rank.proofs.visiting_rank.Tie as tie
 
-returns : tie.Need-returns-then-column-ge16
-returns c = rank_refused _ 0 (le-ltb _ _ c.if-column-ge16.true)
-
-returns-2 : tie.Need-returns-then-row-ge16
-returns-2 c = rank_refused _ 1 (le-ltb _ _ c.if-row-ge16.true)
-
 table_test : tie.Need-returns
 unfolding ranks tabulate_from spread
 table_test c =
     let a = c.args in
-    rank_done _ _ c.if-column-ge16.false c.if-row-ge16.false (rank_at a.x.0 a.y.0 c.if-column-ge16.false c.if-row-ge16.false)
+    rank_done _ _ (omega arith) (omega arith) (rank_at a.x.0 a.y.0 (omega arith) (omega arith))
 
 pub visiting_rank_spec : {M : Type 1} → statement M
-visiting_rank_spec = tie.close (tie.spec returns returns-2 (λ c. search rules) (λ c. search rules) (λ c. search rules) table_test)
+visiting_rank_spec = tie.close (tie.spec (λ c. rank_refused _ 0 (le-ltb _ _ (omega arith))) (λ c. rank_refused _ 1 (le-ltb _ _ (omega arith))) (λ c. search rules) (λ c. search rules) (λ c. search rules) table_test)

@@ -6,18 +6,10 @@ use Rattle.recon.proofs.Residuals.{held_low, held_high, held_within}
 use Rattle.recon.proofs.held.Statement.{statement}
 use Rattle.recon.proofs.held.Tie as tie
 
-returns : tie.Need-returns-then-r-ltminus1023
-returns c =
-    held_low c.args.r (rw (back w16 _ c.ranges.r) at c.if-r-ltminus1023.true)
-
-returns-2 : tie.Need-returns-then-r-gt1023
-returns-2 c =
-    held_high c.args.r (rw (back w16 _ c.ranges.r) at c.if-r-gt1023.true)
-
-returns-3 : tie.Need-returns-else-r-gt1023
-returns-3 c =
-    let e = back w16 _ c.ranges.r in
-    e ∙ held_within c.args.r (rw e at c.if-r-ltminus1023.false) (rw e at c.if-r-gt1023.false)
-
 pub held_spec : {M : Type 1} → statement M
-held_spec = tie.close (tie.spec returns returns-2 returns-3)
+held_spec =
+    tie.close
+    (tie.spec
+    (λ c. held_low c.args.r (cc (back w16 c.args.r c.ranges.r)))
+    (λ c. held_high c.args.r (cc (back w16 c.args.r c.ranges.r)))
+    (λ c. back w16 c.args.r c.ranges.r ∙ held_within c.args.r (cc (back w16 c.args.r c.ranges.r)) (cc (back w16 c.args.r c.ranges.r))))

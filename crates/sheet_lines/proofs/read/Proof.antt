@@ -64,10 +64,6 @@ returns-5 c =
     gives _ _ (bad_4 _ (line_0 c.before.before.before.before.before.before.before.before).ok (line_1 c.before.before.before.before.before.before).ok (line_2 c.before.before.before.before).ok c₃.ok
     (unsaid Splits _ 4 _ _ c₃.next c.line_at-5.ensures c.in_default-line_at-4.is))
 
-returns-6 : tie.Need-returns-then-end-input
-returns-6 c =
-    gives _ _ (extra _ (line_0 c.before.before.before.before.before.before.before.before.before).ok (line_1 c.before.before.before.before.before.before.before).ok (line_2 c.before.before.before.before.before).ok (line_3 c.before.before.before).ok (line_4 c.before).ok _ (line_4 c.before).next c.if-end-input.true)
-
 add_from : tie.Need-overflow_add-from
 add_from c = omega (arith, (line_3 c.before.before.before).inside)
 
@@ -77,7 +73,7 @@ sub_to c = (line_4 c.before).some
 returns-7 : tie.Need-returns
 returns-7 c =
     gives _ _ (whole _ (line_0 c.before.before.before.before.before.before.before.before.before).ok (line_1 c.before.before.before.before.before.before.before).ok (line_2 c.before.before.before.before.before).ok (line_3 c.before.before.before).ok (line_4 c.before).ok _ _ _ _ _ _ (line_0 c.before.before.before.before.before.before.before.before.before).value (line_1 c.before.before.before.before.before.before.before).value
-    (line_2 c.before.before.before.before.before).value (line_3 c.before.before.before).value (line_3 c.before.before.before).next (line_4 c.before).next c.if-end-input.false)
+    (line_2 c.before.before.before.before.before).value (line_3 c.before.before.before).value (line_3 c.before.before.before).next (line_4 c.before).next (omega arith))
 
 pub read_spec : {M : Type 1} → statement M
 read_spec =
@@ -103,7 +99,7 @@ read_spec =
     (λ c. search rules)
     (λ c. search rules)
     returns-5
-    returns-6
+    (λ c. gives _ _ (extra _ (line_0 c.before.before.before.before.before.before.before.before.before).ok (line_1 c.before.before.before.before.before.before.before).ok (line_2 c.before.before.before.before.before).ok (line_3 c.before.before.before).ok (line_4 c.before).ok _ (line_4 c.before).next (omega arith)))
     add_from
     sub_to
     returns-7)
