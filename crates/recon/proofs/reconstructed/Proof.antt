@@ -8,7 +8,7 @@ use lib.Signed.{mag}
 use mir.Syntax.{w16}
 use mir.Val.{to_z, of_z}
 use Rattle.laws.specs.Clip.{sample_z}
-use Rattle.laws.proofs.Held.{held_low, held_high, Within, held_within}
+use Rattle.laws.proofs.Held.{held_low, held_high, held_within}
 use Rattle.laws.proofs.Widths.{back}
 use Rattle.recon.proofs.Residuals.{held_z, held_same, held_small, sum_fits, machine_terms, machine_sum}
 use Rattle.recon.proofs.reconstructed.Statement.{statement}
@@ -34,25 +34,23 @@ same c = ap (λ (z : ℤ). sample_z (pos c.args.p +ℤ z)) (held_at c) ∙ held_
 add_t : tie.Need-overflow_add-t
 add_t c = rw (machine_terms _ c.held.result c.requires (small c)) (sum_fits _ c.held.result c.requires (small c))
 
-within : (c : tie.Else-t-gt1023) → Within 1023 (sum c.before.before)
-within c = held_within 1023 (sum c.before.before) (rw (sum_at c.before.before) at c.if-t-lt0.false) (rw (sum_at c.before.before) at c.if-t-gt1023.false)
-
 cast_result : tie.Need-overflow_cast-result
-cast_result c = rw (sum_at c.before.before) ((within c).some, record { fits = omega (arith, (within c).most) })
-
-returns : tie.Need-returns-then-t-lt0
-unfolding sample_z
-returns c = held_low 1023 (sum c.before) (rw (sum_at c.before) at c.if-t-lt0.true) ∙ same c.before
-
-returns-2 : tie.Need-returns-then-t-gt1023
-unfolding sample_z
-returns-2 c = held_high 1023 (sum c.before.before) (rw (sum_at c.before.before) at c.if-t-gt1023.true) ∙ same c.before.before
-
-returns-3 : tie.Need-returns-else-t-gt1023
-unfolding sample_z
-returns-3 c = ap nat_abs (sum_at c.before.before) ∙ (within c).same ∙ same c.before.before
+cast_result c =
+    let e = sum_at c.before.before in
+    let w = held_within 1023 (sum c.before.before) (cc e) (cc e) in
+    rw e (w.some, record { fits = omega (arith, w.most) })
 
 pub reconstructed_spec : {M : Type 1} → statement M
+unfolding sample_z
 reconstructed_spec =
     tie.close
-    (tie.spec (λ c. search rules) (λ c κs. search rules) add_t cast_result returns returns-2 returns-3)
+    (tie.spec
+    (λ c. search rules)
+    (λ c κs. search rules)
+    add_t
+    cast_result
+    (λ c. held_low 1023 (sum c.before) (cc (sum_at c.before)) ∙ same c.before)
+    (λ c. held_high 1023 (sum c.before.before) (cc (sum_at c.before.before)) ∙ same c.before.before)
+    (λ c.
+    let e = sum_at c.before.before in
+    ap nat_abs e ∙ (held_within 1023 (sum c.before.before) (cc e) (cc e)).same ∙ same c.before.before))

@@ -6,7 +6,6 @@ use native.Mathlib.Omega.{arith}
 use borrow.Author.Rules.{rules}
 use lib.ListN.{length}
 use lib.Seq.{length-take-le}
-use Rattle.split.specs.ListCall.{limit_ok}
 use Rattle.sheet.specs.Text.{sides_ok}
 use Rattle.sheet.proofs.Founds.{sided, limit_test, size_no, limit_no, old_no, not_old}
 use Rattle.sheet.proofs.Puts.{starts_as}
@@ -17,10 +16,6 @@ use Rattle.sheet.proofs.print_digits.Tie as tie
 sides : (c : tie.Else-not-sides_ok) → let a = c.args in sides_ok a.w a.h ≡ true
 sides c = sym c.sides_ok.ensures ∙ c.if-not-sides_ok.false
 
--- and the limit
-limited : (c : tie.Else-not-limit) → let a = c.args in limit_ok a.limit ≡ true
-limited c = limit_test _ ∙ c.if-not-limit.false
-
 -- the map has room for the roots
 room : (c : tie.After-map_room-map) → 1024 * c.root_count-n.result ≤ length c.map_room-map.result
 room c = omega (arith, c.root_count-n.ensures.1, c.map_room-map.ensures)
@@ -29,15 +24,6 @@ returns : tie.Need-returns-then-not-sides_ok
 returns c = starts_as (size_no _ _ _ _ _
     (sym c.sides_ok.ensures ∙ c.if-not-sides_ok.true)) c.put_refusal.ensures
 
-returns-2 : tie.Need-returns-then-not-limit
-returns-2 c =
-    starts_as (limit_no _ _ _ _ (sides c.before.before.before.before.before) _
-    (limit_test _ ∙ c.if-not-limit.true)) c.put_refusal-then-not-limit.ensures
-
-returns-3 : tie.Need-returns-then-old
-returns-3 c = starts_as (old_no _ _ _ _ (sides c.before.before.before.before.before.before) (limited c.before.before.before.before.before) _
-    c.if-old.true) c.put_refusal-then-old.ensures
-
 root_count_requires : tie.Need-root_count-n-requires
 root_count_requires c κs = sided _ _ (sides c.before.before)
 
@@ -45,7 +31,7 @@ print_tree_requires : tie.Need-print_tree-requires
 print_tree_requires c κs =
     let p = c.requires in (
       sides c.before.before.before.before.before.before,
-      limited c.before.before.before.before.before,
+      (cc (limit_test c.args.limit)),
       p.0,
       p.1,
       length-take-le _ _ (room c.before.before) ∙ ap (λ (n : ℕ). 1024 * n) c.root_count-n.ensures.0,
@@ -54,8 +40,8 @@ print_tree_requires c κs =
 
 returns-4 : tie.Need-returns
 returns-4 c = starts_as (not_old _ _ _ _ (sides c.before.before.before.before.before.before.before.before.before.before)
-    (limited c.before.before.before.before.before.before.before.before.before) _
-    c.if-old.false) c.print_tree.ensures
+    (cc (limit_test c.args.limit)) _
+    (cc)) c.print_tree.ensures
 
 pub print_digits_spec : {M : Type 1} → statement M
 print_digits_spec =
@@ -67,10 +53,10 @@ print_digits_spec =
     returns
     (λ c κs. search rules)
     (λ c. search rules)
-    returns-2
+    (λ c. starts_as (limit_no _ _ _ _ (sides c.before.before.before.before.before) _ (cc (limit_test c.args.limit))) (search rules))
     (λ c κs. search rules)
     (λ c. search rules)
-    returns-3
+    (λ c. starts_as (old_no _ _ _ _ (sides c.before.before.before.before.before.before) (cc (limit_test c.args.limit)) _ (cc)) (search rules))
     root_count_requires
     (λ c. search rules)
     (λ c κs. search rules)

@@ -1,6 +1,7 @@
 -- `sheet::print_tree` meets its contract: a refusal of the walk, digits left over, or the edges. Assumes nothing.
 use mathlib.Core.Path.{subst, ◌∙◌}
 use Prim.Native.Nat.{◌/◌}
+use native.Mathlib.Omega.{arith}
 use borrow.Author.Rules.{rules}
 use Rattle.sheet.specs.Taken.{Pictured, Met}
 use Rattle.sheet.proofs.Founds.{sided, walk_no, left_over, walked, all_listed}
@@ -18,11 +19,6 @@ met c =
 
 take_picture_requires : tie.Need-take_picture-requires
 take_picture_requires c κs = let p = c.requires in (sided _ _ p.0, p.2, p.3, p.4)
-
-returns : tie.Need-returns-then-next-digits
-returns c =
-    let p = c.requires in
-    starts_as (left_over _ _ _ _ p.0 p.1 _ _ (met c.before.before.before.before.before) c.if-next-digits.true) c.put_refusal-then-next-digits.ensures
 
 print_edges_requires : tie.Need-print_edges-requires
 print_edges_requires c κs =
@@ -44,11 +40,6 @@ returns-2 c =
     (subst (Pictured (c.args.w / 4) (c.args.h / 4) c.args.digits.now t.new.map) c.in-Refused.is t.ensures))
     c.put_refusal.ensures
 
-returns-3 : tie.Need-returns-else-next-digits
-returns-3 c =
-    let p = c.requires in
-    starts_as (all_listed _ _ _ _ p.0 p.1 _ _ (met c.before.before.before.before.before) c.if-next-digits.false) c.print_edges.ensures
-
 pub print_tree_spec : {M : Type 1} → statement M
 print_tree_spec =
     tie.close
@@ -60,11 +51,11 @@ print_tree_spec =
     (λ c κs. search rules)
     (λ c. search rules)
     (λ c. search rules)
-    returns
+    (λ c. starts_as (left_over _ _ _ _ c.requires.0 c.requires.1 _ _ (met c.before.before.before.before.before) (omega arith)) (search rules))
     print_edges_requires
     (λ c. search rules)
     (λ c. search rules)
     returns-2
     (λ c. search rules)
     (λ c. search rules)
-    returns-3)
+    (λ c. starts_as (all_listed _ _ _ _ c.requires.0 c.requires.1 _ _ (met c.before.before.before.before.before) (omega arith)) c.print_edges.ensures))

@@ -28,35 +28,41 @@ cast_sum_2 c = offset_fits c.args.qp c.args.offset (small c) c.ranges.offset
 add_sum : tie.Need-overflow_add-sum
 add_sum c = rw (machine_terms c.args.qp c.args.offset (small c) c.ranges.offset) (sum_fits c.args.qp c.args.offset (small c) c.ranges.offset)
 
-between : (c : tie.Else-sum-gt57) → Between (sum c.before.before)
-between c = index_within (sum c.before.before) (rw (sum_at c.before.before) at c.if-sum-ltminus12.false) (rw (sum_at c.before.before) at c.if-sum-gt57.false)
-
-more_fits : (c : tie.Else-sum-gt57) → SFits w16 (pos (between c).n)
-more_fits c = sfits w16 69 (between c).few tt
+more_fits : (s : tie.Start) (b : Between (sum s)) → SFits w16 (pos b.n)
+more_fits s b = sfits w16 69 b.few tt
 
 -- 12 more, as the machine reads it
-more_at : (c : tie.Else-sum-gt57) → to_z w16 (of_z w16 (sum c.before.before +ℤ pos 12)) ≡ pos (between c).n
-more_at c = rw (between c).more (back w16 (pos (between c).n) (more_fits c))
+more_at : (s : tie.Start) (b : Between (sum s)) → to_z w16 (of_z w16 (sum s +ℤ pos 12)) ≡ pos b.n
+more_at s b = rw b.more (back w16 (pos b.n) (more_fits s b))
 
 add_result : tie.Need-overflow_add-result
-add_result c = rw (sum_at c.before.before, (between c).more) (more_fits c)
+add_result c =
+    let s = c.before.before in
+    let e = sum_at s in
+    let b = index_within (sum s) (cc e) (cc e) in
+    rw (e, b.more) (more_fits s b)
 
 cast_result : tie.Need-overflow_cast-result
-cast_result c = rw (sum_at c.before.before, more_at c) (tt, record { fits = omega (arith, (between c).few) })
-
-returns : tie.Need-returns-then-sum-ltminus12
-unfolding index_of
-returns c = index_low (sum c.before) (rw (sum_at c.before) at c.if-sum-ltminus12.true)
-
-returns-2 : tie.Need-returns-then-sum-gt57
-unfolding index_of
-returns-2 c = index_high (sum c.before.before) (rw (sum_at c.before.before) at c.if-sum-gt57.true)
-
-returns-3 : tie.Need-returns-else-sum-gt57
-unfolding index_of
-returns-3 c = rw (sum_at c.before.before, more_at c) (between c).same
+cast_result c =
+    let s = c.before.before in
+    let e = sum_at s in
+    let b = index_within (sum s) (cc e) (cc e) in
+    rw (e, more_at s b) (tt, record { fits = omega (arith, b.few) })
 
 pub index_of_spec : {M : Type 1} → statement M
+unfolding index_of
 index_of_spec =
     tie.close
-    (tie.spec (λ c. search rules) cast_sum_2 add_sum add_result cast_result returns returns-2 returns-3)
+    (tie.spec
+    (λ c. search rules)
+    cast_sum_2
+    add_sum
+    add_result
+    cast_result
+    (λ c. index_low (sum c.before) (cc (sum_at c.before)))
+    (λ c. index_high (sum c.before.before) (cc (sum_at c.before.before)))
+    (λ c.
+    let s = c.before.before in
+    let e = sum_at s in
+    let b = index_within (sum s) (cc e) (cc e) in
+    rw (e, more_at s b) b.same))

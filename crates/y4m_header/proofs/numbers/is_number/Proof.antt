@@ -28,14 +28,8 @@ module _ (l : List ℕ) where
   unfolding is_number
   rest b e p q = rw (e, le-leb 1 (length l) p, le-leb (length l) 5 q)
 
-returns : tie.Need-returns-then-n-lt1
-returns c = no_digit _ c.if-n-lt1.true
-
-returns-2 : tie.Need-returns-then-n-gt5
-returns-2 c = too_many _ c.if-n-gt5.true
-
 returns-3 : tie.Need-returns
 returns-3 c = rest _ _ c.all_digits.ensures (omega arith) (omega arith)
 
 pub is_number_spec : {M : Type 1} → statement M
-is_number_spec = tie.close (tie.spec returns returns-2 (λ c. search rules) (λ c κs. search rules) returns-3)
+is_number_spec = tie.close (tie.spec (λ c. no_digit _ (omega arith)) (λ c. too_many _ (omega arith)) (λ c. search rules) (λ c κs. search rules) returns-3)
