@@ -10,11 +10,11 @@
  * No call allocates or keeps anything from one call to the next: what it works on is lent to it or lies on its stack. So calls on different
  * slices may run on different threads at the same time; a slice that is only read may be lent to several.
  *
- * Bytes of stack that each call was measured to need, its arguments and its return address among them (tools/stack/run, docs/SPEED.md):
- * derived_chroma_qp_mapping_tables 336, get_avail_intra 72, get_avail_inter 80, get_mpm 56, get_nbr 560, ipred_b 144, recon 24, recon_plane
- * 241, check 2,224, leaves 2,280, put_map 465, get_map 1,008, mend 465, visiting_rank 272, list_edges 4,040, reconstruct 12,048, deblock 7,904,
- * deblock_band 7,344, fill_rows 776, set_motion 392, set_flag 344, deblock_by_rows 7,904, listing 53,264, read_header 408, write_header 352,
- * read_frame 224, write_frame 64, import_frame 472, ward_row 288.
+ * Bytes of stack that each call was measured to need, its arguments and its return address among them (tools/stack/run):
+ * derived_chroma_qp_mapping_tables 448, get_avail_intra 80, get_avail_inter 85, get_mpm 105, get_nbr 480, ipred_b 136, recon 72, recon_plane 241,
+ * check 2,064, leaves 2,152, put_map 488, get_map 992, mend 472, visiting_rank 8, list_edges 3,880, reconstruct 11,968, deblock 7,120, deblock_band
+ * 6,832, fill_rows 728, set_motion 312, set_flag 280, deblock_by_rows 7,152, listing 53,056, read_header 408, write_header 232, read_frame 240,
+ * write_frame 112, import_frame 536, ward_row 457.
  *
  * Sizes, lengths and their order are in specs/ of the crate that each call names; w and h are the picture's sides in luma samples. */
 #ifndef LOMSAKEUN_DECODER_H
