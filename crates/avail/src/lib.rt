@@ -1,17 +1,16 @@
 // Which neighbours of a block are there, for intra and for inter prediction: evc_get_avail_intra and evc_get_avail_inter of util.rs.
 #![tactic(auto)]
 
-ghost use Rattle.std.specs.Prelude.{◌≡◌};
+ghost use Rattle.std.specs.Prelude.{◌≡◌, Ok};
 ghost use Rattle.laws.specs.Call.{Gives};
 ghost use Rattle.def.specs.Word.{done_of, intra_of};
-ghost use Rattle.def.specs.declared.Answer.{Answer};
 ghost use Rattle.avail.specs.Around.{done_not_intra};
 ghost use Rattle.avail.specs.Near.{word_near, Reach};
 ghost use Rattle.avail.specs.Intra.{intra_neighbours};
 ghost use Rattle.avail.specs.Inter.{inter_neighbours};
 ghost use Rattle.avail.specs.Calls.{check_of, check, reading_of, intra_outcome, inter_outcome};
 
-use def::{Answer, Pel, Refusal};
+use def::{Pel, Refusal};
 
 // The neighbours that are there. `right_up` is the one above the block's last column.
 #[derive(Drop)]
@@ -26,25 +25,19 @@ pub struct Neighbours {
     pub right_up: bool,
 }
 
-#[derive(Drop)]
-pub enum Avail {
-    Done(Neighbours),
-    Refused(Refusal),
-}
-
-fn checked(w: usize, h: usize, words: usize, x: Pel, y: Pel, side: usize) -> Answer
+fn checked(w: usize, h: usize, words: usize, x: Pel, y: Pel, side: usize) -> Result<(), Refusal>
     ensures { result ≡ check_of w h words x.0 y.0 side }
 {
     if !def::size_ok(w, h) {
-        return Answer::Refused(Refusal::Size);
+        return Err(Refusal::Size);
     }
     if words != (w / 4) * (h / 4) {
-        return Answer::Refused(Refusal::Length);
+        return Err(Refusal::Length);
     }
     if !def::block_ok(w, h, x, y, side) {
-        return Answer::Refused(Refusal::Block);
+        return Err(Refusal::Block);
     }
-    Answer::Done
+    Ok(())
 }
 
 // The word of the unit a columns and b rows from the one up-left of the block at (x, y). Where the picture has no such unit it is 0, which is not done.
@@ -97,7 +90,7 @@ fn cod_nif_near(w: usize, h: usize, words: &[u32], x: Pel, y: Pel, a: usize, b: 
 
 // evc_get_avail_intra, past the checks. The low row is that of the last unit of a run of twice the side.
 fn intra_neighbours(w: usize, h: usize, words: &[u32], x: Pel, y: Pel, side: usize) -> Neighbours
-    requires { check (record { w = w; h = h; words = words.now; x = x.0; y = y.0; side = side }) ≡ Answer.Done }
+    requires { check (record { w = w; h = h; words = words.now; x = x.0; y = y.0; side = side }) ≡ Ok tt }
     ensures { result ≡ intra_neighbours (record { w = w; h = h; words = words.now; x = x.0; y = y.0; side = side }) }
 {
     let sy = def::pel2scu(y);
@@ -118,7 +111,7 @@ fn intra_neighbours(w: usize, h: usize, words: &[u32], x: Pel, y: Pel, side: usi
 
 // evc_get_avail_inter, past the checks. The low row is the one below the block; above it the Rust does not ask for done.
 fn inter_neighbours(w: usize, h: usize, words: &[u32], x: Pel, y: Pel, side: usize) -> Neighbours
-    requires { check (record { w = w; h = h; words = words.now; x = x.0; y = y.0; side = side }) ≡ Answer.Done }
+    requires { check (record { w = w; h = h; words = words.now; x = x.0; y = y.0; side = side }) ≡ Ok tt }
     ensures { result ≡ inter_neighbours (record { w = w; h = h; words = words.now; x = x.0; y = y.0; side = side }) }
 {
     let sy = def::pel2scu(y);
@@ -137,24 +130,34 @@ fn inter_neighbours(w: usize, h: usize, words: &[u32], x: Pel, y: Pel, side: usi
     }
 }
 
-pub fn get_avail_intra(w: usize, h: usize, words: &[u32], x: Pel, y: Pel, side: usize) -> Avail
+pub fn get_avail_intra(
+    w: usize,
+    h: usize,
+    words: &[u32],
+    x: Pel,
+    y: Pel,
+    side: usize,
+) -> Result<Neighbours, Refusal>
     ensures { Gives intra_outcome
         (record { w = w; h = h; words = words.now; x = x.0; y = y.0; side = side })
         (record { reading = reading_of result }) }
 {
-    match checked(w, h, words.len(), x, y, side) {
-        Answer::Refused(r) => Avail::Refused(r),
-        Answer::Done => Avail::Done(intra_neighbours(w, h, words, x, y, side)),
-    }
+    checked(w, h, words.len(), x, y, side)?;
+    Ok(intra_neighbours(w, h, words, x, y, side))
 }
 
-pub fn get_avail_inter(w: usize, h: usize, words: &[u32], x: Pel, y: Pel, side: usize) -> Avail
+pub fn get_avail_inter(
+    w: usize,
+    h: usize,
+    words: &[u32],
+    x: Pel,
+    y: Pel,
+    side: usize,
+) -> Result<Neighbours, Refusal>
     ensures { Gives inter_outcome
         (record { w = w; h = h; words = words.now; x = x.0; y = y.0; side = side })
         (record { reading = reading_of result }) }
 {
-    match checked(w, h, words.len(), x, y, side) {
-        Answer::Refused(r) => Avail::Refused(r),
-        Answer::Done => Avail::Done(inter_neighbours(w, h, words, x, y, side)),
-    }
+    checked(w, h, words.len(), x, y, side)?;
+    Ok(inter_neighbours(w, h, words, x, y, side))
 }

@@ -1,5 +1,6 @@
 -- The walk of a band by itself is the walk of its root row in the picture, further up.
 -- Assumes nothing.
+use Rattle.std.specs.Prelude.{Ok, Err}
 use mathlib.Core.Bool.{Bool, true, false}
 use mathlib.Core.Path.{◌≡◌, refl, sym, ap, ap₂, ◌∙◌, subst}
 use mathlib.Core.List.{List, [], ◌∷◌, ◌++◌, map, append_assoc, append-nil}
@@ -12,8 +13,7 @@ use lib.Dec.{ltb, leb}
 use lib.ListN.{get_or, take, drop, length}
 use lib.Pow.{pow_pos}
 use lib.Seq.{take-take, drop-drop}
-use Rattle.def.specs.declared.Answer.{Answer}
-use Rattle.def.specs.declared.Answer.TheVariants.{Done, Refused}
+use Rattle.def.specs.Answers.{Answer}
 use Rattle.def.specs.declared.Refusal.TheVariants.{Split, Leaf as PastPicture}
 use Rattle.laws.specs.Call.{unless}
 use Rattle.laws.specs.Index.{pick}
@@ -53,8 +53,8 @@ module _ (t : ℕ) where
 
   down_onward : (a : Answer) (l : List Leaf) (v : Walk) → onward a (map (leaf_down t) l) (walk_down t v) ≡ walk_down t (onward a l v)
   unfolding onward
-  down_onward Done l v = ap (λ (r : List Leaf). met r v.answer) (sym (map_append (leaf_down t) l v.list))
-  down_onward (Refused r) l v = refl
+  down_onward (Ok _) l v = ap (λ (r : List Leaf). met r v.answer) (sym (map_append (leaf_down t) l v.list))
+  down_onward (Err r) l v = refl
 
   down_turn : (f g : ℕ → Walk) (n : ℕ) → ((i : ℕ) → i < n → f i ≡ walk_down t (g i)) → in_turn f n ≡ walk_down t (in_turn g n)
   unfolding in_turn
@@ -70,9 +70,9 @@ module _ (w h n t : ℕ) (fit : Fit h t n) where
   leaf_down_lem m x y l =
       let e : y + t + m ≡ y + m + t = omega arith in
       let b : leb (y + t + m) h ≡ leb (y + m) n = ap (λ (z : ℕ). leb z h) e ∙ fit.ends (y + m) l in
-      ap (λ (q : Bool). unless (leb (x + m) w) (met [] (Refused PastPicture)) (unless q (met [] (Refused PastPicture)) (met (leaf x (y + t) m ∷ []) Done))) b
-      ∙ ap (λ (v : Walk). unless (leb (x + m) w) (met [] (Refused PastPicture)) v) (down_unless t (leb (y + m) n) (met [] (Refused PastPicture)) (met (leaf x y m ∷ []) Done))
-      ∙ down_unless t (leb (x + m) w) (met [] (Refused PastPicture)) (unless (leb (y + m) n) (met [] (Refused PastPicture)) (met (leaf x y m ∷ []) Done))
+      ap (λ (q : Bool). unless (leb (x + m) w) (met [] (Err PastPicture)) (unless q (met [] (Err PastPicture)) (met (leaf x (y + t) m ∷ []) (Ok tt)))) b
+      ∙ ap (λ (v : Walk). unless (leb (x + m) w) (met [] (Err PastPicture)) v) (down_unless t (leb (y + m) n) (met [] (Err PastPicture)) (met (leaf x y m ∷ []) (Ok tt)))
+      ∙ down_unless t (leb (x + m) w) (met [] (Err PastPicture)) (unless (leb (y + m) n) (met [] (Err PastPicture)) (met (leaf x y m ∷ []) (Ok tt)))
 
   -- what is tested before a block is walked
   inside_down : (x y : ℕ) (u v : Walk) → y < 16 → u ≡ walk_down t v → pick (ltb x w) (pick (ltb (y + t) h) u nothing) nothing ≡ walk_down t (pick (ltb x w) (pick (ltb y n) v nothing) nothing)
@@ -99,8 +99,8 @@ module _ (w h n t : ℕ) (fit : Fit h t n) where
       let b = get_or s (place k x y) 0 in
       let whole_block = leaf_walk w n (2 ^ suc k) x y in
       let four = in_turn (part (walk s w n k) half x y) 4 in
-      inside_down x y _ (by_byte b whole_block four (met [] (Refused Split))) (omega arith)
-      ((λ j. by_byte (get_or s (q j) 0) (leaf_down_lem (2 ^ suc k) x y l j) (parts j) (met [] (Refused Split))) ∙ down_byte t b whole_block four (met [] (Refused Split)))
+      inside_down x y _ (by_byte b whole_block four (met [] (Err Split))) (omega arith)
+      ((λ j. by_byte (get_or s (q j) 0) (leaf_down_lem (2 ^ suc k) x y l j) (parts j) (met [] (Err Split))) ∙ down_byte t b whole_block four (met [] (Err Split)))
 
 -- ---- the rows of a band
 

@@ -3,6 +3,7 @@
 --     walks_joined    a picture is walked without a refusal where each of its bands is; walks-apart    and the other way round
 --     band_in    an edge of band k lies in the band's rows; joined_in    one of the first n bands' above row 16 * n
 -- Assumes nothing.
+use Rattle.std.specs.Prelude.{Ok}
 use mathlib.Core.Bool.{Bool, true, false, ◌&&◌}
 use mathlib.Core.Logic.{◌⊎◌, inl, inr, ⊎_elim}
 use mathlib.Core.Path.{◌≡◌, refl, sym, ap, ap₂, ◌∙◌, subst}
@@ -15,8 +16,7 @@ use borrow.Author.Tests.{ltb-true, eqb-true}
 use lib.Arith.{digits_lt}
 use lib.Dec.{ltb, eqb}
 use lib.Pow.{pow_pos}
-use Rattle.def.specs.declared.Answer.{Answer}
-use Rattle.def.specs.declared.Answer.TheVariants.{Done, Refused}
+use Rattle.def.specs.Answers.{Answer}
 use Rattle.laws.specs.Index.{pick}
 use Rattle.laws.specs.Orders.{each, Pairwise}
 use Rattle.laws.proofs.Orders.{each_append, each_mem}
@@ -72,17 +72,17 @@ first_once d halved s w h pos n l o =
 
 -- ---- the walks
 
-all_done_lem : (f : ℕ → Walk) (n : ℕ) → ((i : ℕ) → i < n → (f i).answer ≡ Done) → (in_turn f n).answer ≡ Done
+all_done_lem : (f : ℕ → Walk) (n : ℕ) → ((i : ℕ) → i < n → (f i).answer ≡ Ok tt) → (in_turn f n).answer ≡ Ok tt
 unfolding in_turn
 all_done_lem f zero h = refl
 all_done_lem f (suc n) h =
     let e : n + 1 ≡ suc n = omega arith in
-    subst (λ (i : ℕ). (in_turn f i).answer ≡ Done) e (turn_done f n (all_done_lem f n (λ i l. h i (omega arith))) (h n (omega arith)))
+    subst (λ (i : ℕ). (in_turn f i).answer ≡ Ok tt) e (turn_done f n (all_done_lem f n (λ i l. h i (omega arith))) (h n (omega arith)))
 
 module _ (s : List ℕ) (w h : ℕ) (pos : 1 ≤ w) where
   -- band k, walked by itself
   abbrev pub BandDone : ℕ → Type 0
-  BandDone k = (picture_walk (band_bytes s w k) w (band_rows h k)).answer ≡ Done
+  BandDone k = (picture_walk (band_bytes s w k) w (band_rows h k)).answer ≡ Ok tt
 
   roots_of : (k : ℕ) → k < across h → roots w (band_rows h k) ≡ across w
   roots_of k l =
@@ -92,18 +92,18 @@ module _ (s : List ℕ) (w h : ℕ) (pos : 1 ≤ w) where
       let e : across (band_rows h k) ≡ 1 = omega arith in
       ap (λ (i : ℕ). across w * i) e ∙ omega arith
 
-  pub walks_joined : ((k : ℕ) → k < across h → BandDone k) → (picture_walk s w h).answer ≡ Done
+  pub walks_joined : ((k : ℕ) → k < across h → BandDone k) → (picture_walk s w h).answer ≡ Ok tt
   walks_joined g = all_done_lem (root_walk s w h) (roots w h) (λ i l.
       let c : 0 < across w = omega arith in
       let j : i % across w < across w = mod-lt i c in
       let k : i / across w < across h = (div-lt_iff_lt-mul {k = across w} {x = i} {y = across h} c).1 (rw (mul_comm (across h) (across w)) l) in
       let e : i / across w * across w + i % across w ≡ i = div-add-mod' i (across w) in
       let b = i / across w in
-      subst (λ (q : ℕ). (root_walk s w h q).answer ≡ Done) e
+      subst (λ (q : ℕ). (root_walk s w h q).answer ≡ Ok tt) e
       (ap (λ (v : Walk). v.answer) (root_down s w h b (band_rows h b) pos (band h b k) (i % across w) j)
       ∙ each_done (root_walk (band_bytes s w b) w (band_rows h b)) (roots w (band_rows h b)) (g b k) (i % across w) (subst (λ (q : ℕ). i % across w < q) (sym (roots_of b k)) j)))
 
-  pub walks_apart : (picture_walk s w h).answer ≡ Done → (k : ℕ) → k < across h → BandDone k
+  pub walks_apart : (picture_walk s w h).answer ≡ Ok tt → (k : ℕ) → k < across h → BandDone k
   walks_apart g k l = all_done_lem (root_walk (band_bytes s w k) w (band_rows h k)) (roots w (band_rows h k)) (λ j z.
       let y : j < across w = subst (λ (q : ℕ). j < q) (roots_of k l) z in
       sym (ap (λ (v : Walk). v.answer) (root_down s w h k (band_rows h k) pos (band h k l) j y))
@@ -218,7 +218,7 @@ pub record Lies (d : Pass) (w top end : ℕ) (e : Edge) : Type 0 where
   pub below : e.y < end
 
 -- s: the band's own bytes, n: its rows of units
-pub list_in : (d : Pass) (halved : Bool) (top : ℕ) (s : List ℕ) (w n : ℕ) → 1 ≤ w → (picture_walk s w n).answer ≡ Done → (e : Edge) → Memᴰ e (list_from d halved top s w n) → Lies d w top (n + top) e
+pub list_in : (d : Pass) (halved : Bool) (top : ℕ) (s : List ℕ) (w n : ℕ) → 1 ≤ w → (picture_walk s w n).answer ≡ Ok tt → (e : Edge) → Memᴰ e (list_from d halved top s w n) → Lies d w top (n + top) e
 list_in d halved top s w n pos accepted e m =
     let d3 = demand_3 halved s w n pos accepted in
     let leaves = map (leaf_down top) (all_leaves s w n) in

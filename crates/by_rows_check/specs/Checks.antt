@@ -1,11 +1,10 @@
 -- What deblocking by a map of edge rows refuses: 1, 2, then what `checked` of `df_check` refuses, and 19 last. None may be lent.
 -- Assumes nothing: these are definitions.
-use Rattle.std.specs.Prelude.{ℕ, Bool, ◌||◌, List, eqb, ℤ, length}
+use Rattle.std.specs.Prelude.{ℕ, Bool, ◌||◌, List, eqb, ℤ, length, Ok, Err}
 use Rattle.laws.specs.Call.{unless}
 use Rattle.def.specs.Answers.{after_checks}
 use Rattle.def.specs.Picture.{size_ok, unit_count}
-use Rattle.def.specs.declared.Answer.{Answer}
-use Rattle.def.specs.declared.Answer.TheVariants.{Done, Refused}
+use Rattle.def.specs.Answers.{Answer}
 use Rattle.def.specs.declared.Refusal.TheVariants.{Size, Length, Rows}
 use Rattle.df_check.specs.Checks as checks
 use Rattle.df_check.specs.declared.Settings.{Settings}
@@ -59,7 +58,7 @@ rows_ok i = eqb (length i.rows) 0 || right_ok i.w i.h i.words i.motion i.refs i.
 
 unfoldable pub check_of : Input → Answer
 check_of i =
-    unless (size_ok i.w i.h) (Refused Size)
-    (unless (rows_length_ok i.w i.h (length i.rows)) (Refused Length)
-    (after_checks Refused (unless (rows_ok i) (Refused Rows) Done)
+    unless (size_ok i.w i.h) (Err Size)
+    (unless (rows_length_ok i.w i.h (length i.rows)) (Err Length)
+    (after_checks Err (unless (rows_ok i) (Err Rows) (Ok tt))
     (checks.check_of (checked i))))

@@ -5,7 +5,7 @@ ghost use Rattle.std.specs.Prelude.{◌≡◌, ◌≤◌};
 ghost use Rattle.laws.specs.Call.{Gives};
 ghost use Rattle.by_rows_check.specs.Checks.{rows_length_ok, check_of};
 
-use def::{Answer, Refusal};
+use def::Refusal;
 use df_check::{Settings, checked};
 
 // Whether the map has a byte a unit, or none.
@@ -34,7 +34,7 @@ pub fn checked_by_rows(
     table1: usize,
     strengths: usize,
     settings: Settings,
-) -> Answer
+) -> Result<(), Refusal>
     ensures { Gives check_of
         (record {
           w = w;
@@ -56,12 +56,12 @@ pub fn checked_by_rows(
         result }
 {
     if !def::size_ok(w, h) {
-        return Answer::Refused(Refusal::Size);
+        return Err(Refusal::Size);
     }
     if !rows_length_ok(w, h, rows.len()) {
-        return Answer::Refused(Refusal::Length);
+        return Err(Refusal::Length);
     }
-    let found = checked(
+    checked(
         w,
         h,
         y,
@@ -76,15 +76,12 @@ pub fn checked_by_rows(
         table1,
         strengths,
         settings,
-    );
-    if let Answer::Refused(r) = found {
-        return Answer::Refused(r);
-    }
+    )?;
     if rows.len() == 0 {
-        return Answer::Done;
+        return Ok(());
     }
     if !rows::rows_right(w, h, words, motion, refs, rows) {
-        return Answer::Refused(Refusal::Rows);
+        return Err(Refusal::Rows);
     }
-    Answer::Done
+    Ok(())
 }

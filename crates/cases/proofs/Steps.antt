@@ -1,9 +1,10 @@
 -- One step of a search, one digit more, and a number by where it starts and stops.
 -- Assumes nothing.
-use mathlib.Core.Path.{◌≡◌, sym, ap, ◌∙◌}
+use mathlib.Core.Path.{◌≡◌, refl, sym, ap, ◌∙◌}
 use mathlib.Core.Bool.{Bool, true, false}
 use mathlib.Core.List.{List}
 use Prim.Native.Nat.{ℕ, suc, ◌+◌, ◌-◌, ◌*◌, ◌%◌, ◌<◌, ◌≤◌}
+use native.Mathlib.Numerals.{add-one}
 use native.Mathlib.Omega.{arith}
 use lib.ListN.{length, get_or}
 use borrow.Author.Tests.{lt-ltb, le-ltb, eq-eqb, ne_eqb}
@@ -26,16 +27,13 @@ pub first_end : (wanted : Bool) (s : List ℕ) (n i : ℕ) → n ≤ i → first
 unfolding first
 first_end wanted s n i h = let e : n - i ≡ 0 = omega arith in ap (λ (k : ℕ). first wanted s k i) e
 
-pub value_none : (s : List ℕ) (i : ℕ) → 0 ≡ value_of s i (i - i)
+pub value_none : (s : List ℕ) (from : ℕ) → 0 ≡ value_of s from 0
 unfolding value_of
-value_none s i = let e : 0 ≡ i - i = omega arith in ap (value_of s i) e
+value_none s from = refl
 
-pub value_more : (s : List ℕ) (from i v x : ℕ) → from ≤ i → v ≡ value_of s from (i - from) → x ≡ get_or s i 0 → (10 * v + x % 48) % 1152921504606846976 ≡ value_of s from (i + 1 - from)
+pub value_more : (s : List ℕ) (from i v x : ℕ) → v ≡ value_of s from i → x ≡ get_or s (from + i) 0 → (10 * v + x % 48) % 1152921504606846976 ≡ value_of s from (i + 1)
 unfolding value_of
-value_more s from i v x h e q =
-    let p : i + 1 - from ≡ suc (i - from) = omega arith in
-    let r : from + (i - from) ≡ i = omega arith in
-    rw (e, q) (ap (λ (k : ℕ). (10 * value_of s from (i - from) + get_or s k 0 % 48) % 1152921504606846976) (sym r) ∙ ap (value_of s from) (sym p))
+value_more s from i v x e q = rw (e, q, add-one i) refl
 
 -- ---- a number, by where it starts and stops
 

@@ -2,9 +2,11 @@
 #![tactic(auto)]
 
 ghost use Rattle.std.specs.Prelude.{◌≡◌, ◌-◌, ◌%◌, ◌≤◌, ◌<◌, min, length};
-ghost use Rattle.cases.specs.Numbers.{number_byte, first, value_of, number_at, signed_of, Filled, Took};
+ghost use Rattle.laws.specs.Index.{tabulate};
+ghost use Rattle.cases.specs.Numbers.{number_byte, first, value_of, number_at, place_after, signed_of, Filled, Took};
 
 // A number as it is written: its sign, its size below 2 ^ 60, and the place after it.
+// kept: the sign beside the size, since `number_at` and `signed_of` of specs/ speak of both, and a type without a sign reads the size alone.
 #[derive(Clone, Copy)]
 pub struct Written {
     pub negative: bool,
@@ -16,7 +18,7 @@ pub struct Written {
 fn number_byte(b: u8, wanted: bool) -> bool
     ensures { result ≡ number_byte b wanted }
 {
-    let is = (b == 45) | ((48 <= b) & (b <= 57));
+    let is = matches!(b, b'-' | b'0'..=b'9');
     if wanted { is } else { !is }
 }
 
@@ -25,14 +27,12 @@ fn until(s: &[u8], at: usize, wanted: bool) -> usize
     requires { at ≤ length s.now }
     ensures { (result ≡ first wanted s.now (length s.now - at) at) × (at ≤ result) × (result ≤ length s.now) }
 {
-    let mut i = at;
-    while i < s.len() {
+    for i in at..s.len() {
         if number_byte(s[i], wanted) {
             return i;
         }
-        i += 1;
     }
-    i
+    s.len()
 }
 
 // What the digits from `from` to `to` come to, modulo 2 ^ 60.
@@ -41,18 +41,10 @@ fn value(s: &[u8], from: usize, to: usize) -> usize
     ensures { result ≡ value_of s.now from (to - from) }
 {
     let mut v: usize = 0;
-    let mut i = from;
-    while i < to {
-        v = (10 * v + wide(s[i]) % 48) % 1152921504606846976;
-        i += 1;
+    for b in &s[from..to] {
+        v = (10 * v + usize::from(*b) % 48) % 1152921504606846976;
     }
     v
-}
-
-fn wide(b: u8) -> usize
-    ensures { (result ≡ b) × (result < 256) }
-{
-    b as usize
 }
 
 // The first number from `at` on.
@@ -75,7 +67,7 @@ pub fn number(s: &[u8], at: usize) -> Written
             next: stop,
         };
     }
-    if s[start] == 45 {
+    if s[start] == b'-' {
         return Written {
             negative: true,
             size: value(s, start + 1, stop),
@@ -89,49 +81,39 @@ pub fn number(s: &[u8], at: usize) -> Written
     }
 }
 
-// The next numbers of s from `at` on, one for each place of out. It answers the place after them.
-pub fn fill_u8(s: &[u8], at: usize, out: &mut [u8]) -> usize
-    ensures { Filled (λ (n : Written). n.size % 256) s.now at out.old out.new result }
-{
-    let mut i = 0;
-    let mut place = at;
-    while i < out.len() {
-        let n = number(s, place);
-        out[i] = (n.size % 256) as u8;
-        place = n.next;
-        i += 1;
-    }
-    place
+// A type whose values stand in a case as numbers.
+pub trait FromWritten: Copy {
+    ghost use Rattle.cases.specs.declared.Written.{Written};
+
+    // What a written number is read as.
+    ghost read: { Written → Self };
+
+    fn from_written(n: Written) -> Self
+        ensures { result ≡ read n };
 }
 
-// The next numbers of s from `at` on, one for each place of out. It answers the place after them.
-pub fn fill_u16(s: &[u8], at: usize, out: &mut [u16]) -> usize
-    ensures { Filled (λ (n : Written). n.size % 65536) s.now at out.old out.new result }
-{
-    let mut i = 0;
-    let mut place = at;
-    while i < out.len() {
-        let n = number(s, place);
-        out[i] = (n.size % 65536) as u16;
-        place = n.next;
-        i += 1;
+impl FromWritten for u8 {
+    ghost read = { λ n. n.size % 256 };
+
+    fn from_written(n: Written) -> u8 {
+        (n.size % 256) as u8
     }
-    place
 }
 
-// The next numbers of s from `at` on, one for each place of out. It answers the place after them.
-pub fn fill_u32(s: &[u8], at: usize, out: &mut [u32]) -> usize
-    ensures { Filled (λ (n : Written). n.size % 4294967296) s.now at out.old out.new result }
-{
-    let mut i = 0;
-    let mut place = at;
-    while i < out.len() {
-        let n = number(s, place);
-        out[i] = (n.size % 4294967296) as u32;
-        place = n.next;
-        i += 1;
+impl FromWritten for u16 {
+    ghost read = { λ n. n.size % 65536 };
+
+    fn from_written(n: Written) -> u16 {
+        (n.size % 65536) as u16
     }
-    place
+}
+
+impl FromWritten for u32 {
+    ghost read = { λ n. n.size % 4294967296 };
+
+    fn from_written(n: Written) -> u32 {
+        (n.size % 4294967296) as u32
+    }
 }
 
 // A number with its sign, of those down to -m and below m.
@@ -145,30 +127,31 @@ fn signed(n: Written, m: usize) -> i32
     (n.size % m) as i32
 }
 
-pub fn fill_i8(s: &[u8], at: usize, out: &mut [i8]) -> usize
-    ensures { Filled (signed_of 128) s.now at out.old out.new result }
-{
-    let mut i = 0;
-    let mut place = at;
-    while i < out.len() {
-        let n = number(s, place);
-        out[i] = signed(n, 128) as i8;
-        place = n.next;
-        i += 1;
+impl FromWritten for i8 {
+    ghost read = { signed_of 128 };
+
+    fn from_written(n: Written) -> i8 {
+        signed(n, 128) as i8
     }
-    place
 }
 
-pub fn fill_i16(s: &[u8], at: usize, out: &mut [i16]) -> usize
-    ensures { Filled (signed_of 32768) s.now at out.old out.new result }
+impl FromWritten for i16 {
+    ghost read = { signed_of 32768 };
+
+    fn from_written(n: Written) -> i16 {
+        signed(n, 32768) as i16
+    }
+}
+
+// The next numbers of s from `at` on, one for each place of out. It answers the place after them.
+pub fn fill<T: FromWritten>(s: &[u8], at: usize, out: &mut [T]) -> usize
+    ensures { Filled T.read s.now at out.old out.new result }
 {
-    let mut i = 0;
     let mut place = at;
-    while i < out.len() {
+    for v in out.iter_mut() {
         let n = number(s, place);
-        out[i] = signed(n, 32768) as i16;
+        *v = T::from_written(n);
         place = n.next;
-        i += 1;
     }
     place
 }
@@ -180,63 +163,56 @@ pub struct Part {
     pub next: usize,
 }
 
-fn least(a: usize, b: usize) -> usize
-    ensures { (result ≡ min a b) × (result ≤ b) }
-{
-    if a < b { a } else { b }
-}
-
 // A slice of a case, its length first, into the front of room, as far as room goes.
-pub fn slice_u8(s: &[u8], at: usize, room: &mut [u8]) -> Part
-    ensures { Took (λ (n : Written). n.size % 256) s.now at room.old room.new result }
+pub fn slice<T: FromWritten>(s: &[u8], at: usize, room: &mut [T]) -> Part
+    ensures { Took T.read s.now at room.old room.new result }
 {
     let n = number(s, at);
-    let from = n.next;
-    let len = least(n.size, room.len());
-    let next = fill_u8(s, from, &mut room[..len]);
+    let len = n.size.min(room.len());
+    let next = fill(s, n.next, &mut room[..len]);
     Part { len, next }
 }
 
-// A slice of a case, its length first, into the front of room, as far as room goes.
-pub fn slice_u16(s: &[u8], at: usize, room: &mut [u16]) -> Part
-    ensures { Took (λ (n : Written). n.size % 65536) s.now at room.old room.new result }
-{
-    let n = number(s, at);
-    let from = n.next;
-    let len = least(n.size, room.len());
-    let next = fill_u16(s, from, &mut room[..len]);
-    Part { len, next }
+// A text of numbers, and how far it has been read.
+#[derive(Drop)]
+pub struct Case<'a> {
+    pub text: &'a [u8],
+    pub at: usize,
 }
 
-// A slice of a case, its length first, into the front of room, as far as room goes.
-pub fn slice_u32(s: &[u8], at: usize, room: &mut [u32]) -> Part
-    ensures { Took (λ (n : Written). n.size % 4294967296) s.now at room.old room.new result }
-{
-    let n = number(s, at);
-    let from = n.next;
-    let len = least(n.size, room.len());
-    let next = fill_u32(s, from, &mut room[..len]);
-    Part { len, next }
-}
+impl Case<'_> {
+    // The next number, without its sign.
+    pub fn number(&mut self) -> usize
+        ensures text { self.new.text ≡ self.old.text }
+        ensures value { result ≡ (number_at self.old.text.now self.old.at).size }
+        ensures next { self.new.at ≡ (number_at self.old.text.now self.old.at).next }
+    {
+        let n = number(self.text, self.at);
+        self.at = n.next;
+        n.size
+    }
 
-// A slice of a case, its length first, into the front of room, as far as room goes.
-pub fn slice_i8(s: &[u8], at: usize, room: &mut [i8]) -> Part
-    ensures { Took (signed_of 128) s.now at room.old room.new result }
-{
-    let n = number(s, at);
-    let from = n.next;
-    let len = least(n.size, room.len());
-    let next = fill_i8(s, from, &mut room[..len]);
-    Part { len, next }
-}
+    // The next number as a value of a type.
+    pub fn read<T: FromWritten>(&mut self) -> T
+        ensures text { self.new.text ≡ self.old.text }
+        ensures value { result ≡ T.read (number_at self.old.text.now self.old.at) }
+        ensures next { self.new.at ≡ (number_at self.old.text.now self.old.at).next }
+    {
+        let n = number(self.text, self.at);
+        self.at = n.next;
+        T::from_written(n)
+    }
 
-// A slice of a case, its length first, into the front of room, as far as room goes.
-pub fn slice_i16(s: &[u8], at: usize, room: &mut [i16]) -> Part
-    ensures { Took (signed_of 32768) s.now at room.old room.new result }
-{
-    let n = number(s, at);
-    let from = n.next;
-    let len = least(n.size, room.len());
-    let next = fill_i16(s, from, &mut room[..len]);
-    Part { len, next }
+    // The next slice, its length first, at the front of room, as far as room goes.
+    pub fn slice<'b, T: FromWritten>(&mut self, room: &'b mut [T]) -> &'b mut [T]
+        ensures text { self.new.text ≡ self.old.text }
+        ensures next { let n = number_at self.old.text.now self.old.at in
+            self.new.at ≡ place_after self.old.text.now n.next (min n.size (length room.old)) }
+        ensures value { let n = number_at self.old.text.now self.old.at in
+            result.now ≡ tabulate (min n.size (length room.old)) (λ k. T.read (number_at self.old.text.now (place_after self.old.text.now n.next k))) }
+    {
+        let part = slice(self.text, self.at, &mut *room);
+        self.at = part.next;
+        &mut room[..part.len]
+    }
 }

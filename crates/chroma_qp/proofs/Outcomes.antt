@@ -2,6 +2,7 @@
 --     Ready, lengths, first_checked, second_checked
 --     by_refusal, by_copy, by_both
 -- Assumes nothing.
+use Rattle.std.specs.Prelude.{Ok, Err}
 use mathlib.Core.Path.{◌≡◌, refl}
 use mathlib.Core.Bool.{Bool, true, false, ◌||◌}
 use mathlib.Core.List.{List}
@@ -10,8 +11,7 @@ use lib.IntN.{ℤ}
 use Rattle.laws.specs.Call.{Gives}
 use Rattle.def.specs.Refusals.{number_of}
 use Rattle.def.specs.declared.Refusal.{Refusal}
-use Rattle.def.specs.declared.Answer.{Answer}
-use Rattle.def.specs.declared.Answer.TheVariants.{Done, Refused}
+use Rattle.def.specs.Answers.{Answer}
 use Rattle.def.proofs.Answers.{on_refusal, on_done}
 use Rattle.chroma_qp_check.specs.Pivots.{entry_qp}
 use Rattle.chroma_qp_check.proofs.Checks.{Passed, passed, Long, long}
@@ -27,7 +27,7 @@ unused false b e f = f
 pub record Ready (i : Input) (s : ℕ) : Type 0 where
   pub small : s ≤ 28
   pub start : entry_qp s ≡ input_start i
-  pub told : check i ≡ Done
+  pub told : check i ≡ Ok tt
 
 module _ (i : Input) (s : ℕ) (r : Ready i s) where
   all : Passed (checked i)
@@ -59,6 +59,6 @@ module _ (i : Input) (s : ℕ) (r : Ready i s) where
     unfolding outcome
     by_both e f = on_done (refused i) (done i) (check i) (check i) _ refl r.told (rw (e, f, first, r.start))
 
-pub by_refusal : (i : Input) (a : Answer) (r : Refusal) → a ≡ check i → a ≡ Refused r → Gives outcome i (record { number = number_of r; t0 = i.t0; t1 = i.t1 })
+pub by_refusal : (i : Input) (a : Answer) (r : Refusal) → a ≡ check i → a ≡ Err r → Gives outcome i (record { number = number_of r; t0 = i.t0; t1 = i.t1 })
 unfolding outcome
 by_refusal i a r e q = on_refusal (refused i) (done i) a (check i) r e q

@@ -5,6 +5,7 @@
 --     points_first      10 in either table that is used comes before 11 in either
 --     tables_fit        every entry of either table lies within -12..91
 -- Assumes nothing.
+use Rattle.std.specs.Prelude.{Ok, Err}
 use mathlib.Core.Path.{◌≡◌, refl, sym}
 use Prim.Native.Nat.{ℕ, ◌<◌}
 use mathlib.Core.Bool.{Bool, true, false, ◌&&◌, ◌||◌}
@@ -13,8 +14,7 @@ use lib.IntN.{pos}
 use lib.ListN.{length, get_or}
 use Rattle.def.specs.Answers.{after_checks}
 use Rattle.def.proofs.Answers.{number_some}
-use Rattle.def.specs.declared.Answer.{Answer}
-use Rattle.def.specs.declared.Answer.TheVariants.{Done, Refused}
+use Rattle.def.specs.Answers.{Answer}
 use Rattle.chroma_qp_check.specs.Check as checks
 use Rattle.chroma_qp_check.specs.Check.{input_lengths_ok, points_ok}
 use Rattle.chroma_qp_check.specs.Pivots.{Points}
@@ -27,8 +27,8 @@ pub record Kept (i : Input) (o : Outcome) : Type 0 where
   pub t1 : o.t1 ≡ i.t1
 
 kept : (i : Input) (k : Answer) → ((after_checks (refused i) (done i) k).number ≡ 0 → ⊥) → Kept i (after_checks (refused i) (done i) k)
-kept i Done n = absurd (n refl)
-kept i (Refused r) n = record { t0 = refl; t1 = refl }
+kept i (Ok _) n = absurd (n refl)
+kept i (Err r) n = record { t0 = refl; t1 = refl }
 
 pub refusal_keeps : (i : Input) → ((outcome i).number ≡ 0 → ⊥) → Kept i (outcome i)
 unfolding outcome
@@ -36,9 +36,9 @@ refusal_keeps i n = kept i (check i) n
 
 -- ---- one table
 
-none_refused : (i : Input) (k : Answer) → (after_checks (refused i) (done i) k).number ≡ 0 → k ≡ Done
-none_refused i Done e = refl
-none_refused i (Refused r) e = absurd (omega (arith, number_some r))
+none_refused : (i : Input) (k : Answer) → (after_checks (refused i) (done i) k).number ≡ 0 → k ≡ Ok tt
+none_refused i (Ok _) e = refl
+none_refused i (Err r) e = absurd (omega (arith, number_some r))
 
 pub copied : (i : Input) → i.same_table ≡ true → (outcome i).number ≡ 0 → (outcome i).t1 ≡ (outcome i).t0
 unfolding outcome
@@ -77,6 +77,6 @@ second i false e p k h =
 pub tables_fit : (i : Input) → (outcome i).number ≡ 0 → (k : ℕ) → k < 70 → Entry (get_or (outcome i).t0 k (pos 0)) × Entry (get_or (outcome i).t1 k (pos 0))
 unfolding outcome
 tables_fit i e k h =
-    let told : check i ≡ Done = none_refused i (check i) e in
+    let told : check i ≡ (Ok tt) = none_refused i (check i) e in
     let p = passed (checked i) told in
     rw told (values_fit (input_start i) i.first p.first_points p.first_pivots k h, second i i.same_table refl p k h)

@@ -4,7 +4,7 @@ use Rattle.std.specs.Prelude.{ℕ, Bool, List, ℤ, length}
 use Rattle.laws.specs.Index.{pick}
 use Rattle.def.specs.Answers.{after_checks}
 use Rattle.def.specs.Refusals.{number_of}
-use Rattle.def.specs.declared.Answer.{Answer}
+use Rattle.def.specs.Answers.{Answer}
 use Rattle.def.specs.declared.Refusal.{Refusal}
 use Rattle.chroma_qp_check.specs.Check as checks
 use Rattle.chroma_qp_check.specs.Pivots.{Points}

@@ -13,22 +13,9 @@ ghost use Rattle.chroma_qp.specs.Held.{held_below, held_between, held_past, Entr
 ghost use Rattle.chroma_qp.specs.Mapping.{table_of};
 
 use chroma_qp_check::{checked_points, delta_in, delta_out, start_qp};
-use def::Answer;
+use def::Refusal;
 
 // ---- numbers
-
-// x - y, or 0 where y is the larger.
-fn less(x: usize, y: usize) -> usize
-    ensures { result ≡ x - y }
-{
-    if y < x { x - y } else { 0 }
-}
-
-fn least(x: usize, y: usize) -> usize
-    ensures { result ≡ min x y }
-{
-    if x < y { x } else { y }
-}
 
 // The entry that is held as v, at k.
 fn put(t: &mut [i8], k: usize, v: usize)
@@ -68,10 +55,8 @@ fn fill_below(t: &mut [i8], qp_in: usize, qp_out: usize)
     requires { (length t.old ≡ 70) × (qp_in ≤ 69) × (qp_out ≤ 69) }
     ensures { t.new ≡ with_row (pos 0) 0 (qp_in + 1) (λ (k : ℕ). entry_qp (held_below qp_in qp_out k)) t.old }
 {
-    let mut k = 0;
-    while k <= qp_in {
-        put(t, k, less(qp_out + k, qp_in));
-        k += 1;
+    for k in 0..qp_in + 1 {
+        put(t, k, (qp_out + k).saturating_sub(qp_in));
     }
 }
 
@@ -84,10 +69,8 @@ fn fill_between(t: &mut [i8], qp_in: usize, v: usize, from: usize, to: usize, n:
         put(t, qp_in + 1, v + to - from);
         return;
     }
-    let mut m = 0;
-    while m < n {
+    for m in 0..n {
         put(t, qp_in + 1 + m, between(v, from, to, n, m + 1));
-        m += 1;
     }
 }
 
@@ -96,11 +79,8 @@ fn fill_past(t: &mut [i8], qp_in: usize, v: usize)
     requires { (length t.old ≡ 70) × (qp_in ≤ 69) × (v ≤ 103) }
     ensures { t.new ≡ with_row (pos 0) (qp_in + 1) (69 - qp_in) (λ (m : ℕ). entry_qp (held_past v (m + 1))) t.old }
 {
-    let n = 69 - qp_in;
-    let mut m = 0;
-    while m < n {
-        put(t, qp_in + 1 + m, least(v + (m + 1), 69));
-        m += 1;
+    for m in 0..69 - qp_in {
+        put(t, qp_in + 1 + m, (v + (m + 1)).min(69));
     }
 }
 
@@ -126,17 +106,6 @@ fn fill(t: &mut [i8], s: usize, count: usize, a: &[i8], b: &[i8])
     fill_past(&mut *t, qp_in, v);
 }
 
-fn copy(from: &[i8], to: &mut [i8])
-    requires { length from.now ≡ length to.old }
-    ensures { to.new ≡ from.now }
-{
-    let mut k = 0;
-    while k < from.len() {
-        to[k] = from[k];
-        k += 1;
-    }
-}
-
 // Both tables from their points; with `same_table` the second is a copy of the first. A refusal leaves both as they were.
 pub fn derived_chroma_qp_mapping_tables(
     global_offset: bool,
@@ -149,7 +118,7 @@ pub fn derived_chroma_qp_mapping_tables(
     b1: &[i8],
     t0: &mut [i8],
     t1: &mut [i8],
-) -> Answer
+) -> Result<(), Refusal>
     ensures { Gives outcome
         (record {
           global_offset = global_offset;
@@ -161,7 +130,7 @@ pub fn derived_chroma_qp_mapping_tables(
         })
         (record { number = answer_number result; t0 = t0.new; t1 = t1.new }) }
 {
-    match checked_points(
+    checked_points(
         global_offset,
         same_table,
         count0,
@@ -172,17 +141,13 @@ pub fn derived_chroma_qp_mapping_tables(
         b1,
         t0.len(),
         t1.len(),
-    ) {
-        Answer::Refused(r) => Answer::Refused(r),
-        Answer::Done => {
-            let s = start_qp(global_offset);
-            fill(&mut *t0, s, count0, a0, b0);
-            if same_table {
-                copy(&*t0, &mut *t1);
-            } else {
-                fill(&mut *t1, s, count1, a1, b1);
-            }
-            Answer::Done
-        }
+    )?;
+    let s = start_qp(global_offset);
+    fill(&mut *t0, s, count0, a0, b0);
+    if same_table {
+        t1.copy_from_slice(&*t0);
+    } else {
+        fill(t1, s, count1, a1, b1);
     }
+    Ok(())
 }

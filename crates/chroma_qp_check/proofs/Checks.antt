@@ -3,6 +3,7 @@
 --     Passed, passed
 --     Long, long
 -- Assumes nothing.
+use Rattle.std.specs.Prelude.{Ok, Err}
 use mathlib.Core.Path.{◌≡◌, refl}
 use mathlib.Core.Bool.{Bool, true, false, ◌||◌}
 use Prim.Native.Nat.{ℕ}
@@ -13,8 +14,7 @@ use Rattle.laws.specs.Call.{unless}
 use Rattle.laws.proofs.Calls.{all_at}
 use Rattle.def.specs.declared.Refusal.{Refusal}
 use Rattle.def.specs.declared.Refusal.TheVariants.{Length, Points, Pivot}
-use Rattle.def.specs.declared.Answer.{Answer}
-use Rattle.def.specs.declared.Answer.TheVariants.{Done, Refused}
+use Rattle.def.specs.Answers.{Answer}
 use Rattle.chroma_qp_check.specs.Check.{Input, input_start, length_tests, lengths_ok, input_lengths_ok, points_ok, pivots_ok, check}
 
 -- every test of the ladder holds
@@ -26,43 +26,43 @@ pub record Passed (i : Input) : Type 0 where
   pub second_pivots : (i.same_table || pivots_ok (input_start i) i.second) ≡ true
 
 module _ (i : Input) where
-  pub at_length : input_lengths_ok i ≡ false → Refused Length ≡ check i
+  pub at_length : input_lengths_ok i ≡ false → Err Length ≡ check i
   unfolding check
   at_length e = rw e
 
-  pub at_first_points : input_lengths_ok i ≡ true → points_ok i.first.count i.first.a ≡ false → Refused Points ≡ check i
+  pub at_first_points : input_lengths_ok i ≡ true → points_ok i.first.count i.first.a ≡ false → Err Points ≡ check i
   unfolding check
   at_first_points a e = rw (a, e)
 
-  pub at_second_points : input_lengths_ok i ≡ true → points_ok i.first.count i.first.a ≡ true → (i.same_table || points_ok i.second.count i.second.a) ≡ false → Refused Points ≡ check i
+  pub at_second_points : input_lengths_ok i ≡ true → points_ok i.first.count i.first.a ≡ true → (i.same_table || points_ok i.second.count i.second.a) ≡ false → Err Points ≡ check i
   unfolding check
   at_second_points a b e = rw (a, b, e)
 
   pub at_first_pivots : input_lengths_ok i ≡ true → points_ok i.first.count i.first.a ≡ true
-      → (i.same_table || points_ok i.second.count i.second.a) ≡ true → pivots_ok (input_start i) i.first ≡ false → Refused Pivot ≡ check i
+      → (i.same_table || points_ok i.second.count i.second.a) ≡ true → pivots_ok (input_start i) i.first ≡ false → Err Pivot ≡ check i
   unfolding check
   at_first_pivots a b c e = rw (a, b, c, e)
 
   pub at_second_pivots : input_lengths_ok i ≡ true → points_ok i.first.count i.first.a ≡ true
       → (i.same_table || points_ok i.second.count i.second.a) ≡ true → pivots_ok (input_start i) i.first ≡ true
-      → (i.same_table || pivots_ok (input_start i) i.second) ≡ false → Refused Pivot ≡ check i
+      → (i.same_table || pivots_ok (input_start i) i.second) ≡ false → Err Pivot ≡ check i
   unfolding check
   at_second_pivots a b c d e = rw (a, b, c, d, e)
 
-  pub past_all : Passed i → Done ≡ check i
+  pub past_all : Passed i → (Ok tt) ≡ check i
   unfolding check
   past_all p = rw (p.lengths, p.first_points, p.second_points, p.first_pivots, p.second_pivots)
 
 -- a rung that does not refuse
-holds : (t : Bool) (r : Refusal) (k : Answer) → unless t (Refused r) k ≡ Done → t ≡ true
+holds : (t : Bool) (r : Refusal) (k : Answer) → unless t (Err r) k ≡ Ok tt → t ≡ true
 holds true r k e = refl
 holds false r k e = let z : ◌≡◌ {A = ℕ} 0 1 = cc in absurd (omega arith)
 
-rest : (t : Bool) (r : Refusal) (k : Answer) → unless t (Refused r) k ≡ Done → k ≡ Done
+rest : (t : Bool) (r : Refusal) (k : Answer) → unless t (Err r) k ≡ Ok tt → k ≡ Ok tt
 rest true r k e = e
 rest false r k e = let z : ◌≡◌ {A = ℕ} 0 1 = cc in absurd (omega arith)
 
-pub passed : (i : Input) → check i ≡ Done → Passed i
+pub passed : (i : Input) → check i ≡ Ok tt → Passed i
 unfolding check
 passed i e =
     let a = rest (input_lengths_ok i) Length _ e in

@@ -1,12 +1,11 @@
 -- The checks of `derived_chroma_qp_mapping_tables`: its refusals in their order.
 -- Assumes nothing: these are definitions.
-use Rattle.std.specs.Prelude.{ℕ, ◌≤◌, ◌≡◌, Bool, true, ◌||◌, List, [], ◌∷◌, leb, eqb, ℤ, pos, negsuc, length, get_or}
+use Rattle.std.specs.Prelude.{ℕ, ◌≤◌, ◌≡◌, Bool, true, ◌||◌, List, [], ◌∷◌, leb, eqb, ℤ, pos, negsuc, length, get_or, Ok, Err}
 use Rattle.std.specs.Int.Signed.{le_z}
 use Rattle.laws.specs.Call.{unless, all_of}
 use Rattle.laws.specs.Scan.{all_below}
 use Rattle.def.specs.declared.Refusal.TheVariants.{Length, Points, Pivot}
-use Rattle.def.specs.declared.Answer.{Answer}
-use Rattle.def.specs.declared.Answer.TheVariants.{Done, Refused}
+use Rattle.def.specs.Answers.{Answer}
 use Rattle.chroma_qp_check.specs.Pivots as pivots
 use Rattle.chroma_qp_check.specs.Pivots.{start_of, in_of, out_of}
 
@@ -53,12 +52,12 @@ pivots_ok s p = all_below (pivot_ok s p) p.count
 -- 2, then 10 in either table, then 11 in either. Under the one-table flag the second's points are not read
 unfoldable pub check : Input → Answer
 check i =
-    unless (input_lengths_ok i) (Refused Length)
-    (unless (points_ok i.first.count i.first.a) (Refused Points)
-    (unless (i.same_table || points_ok i.second.count i.second.a) (Refused Points)
-    (unless (pivots_ok (input_start i) i.first) (Refused Pivot)
-    (unless (i.same_table || pivots_ok (input_start i) i.second) (Refused Pivot)
-    Done))))
+    unless (input_lengths_ok i) (Err Length)
+    (unless (points_ok i.first.count i.first.a) (Err Points)
+    (unless (i.same_table || points_ok i.second.count i.second.a) (Err Points)
+    (unless (pivots_ok (input_start i) i.first) (Err Pivot)
+    (unless (i.same_table || pivots_ok (input_start i) i.second) (Err Pivot)
+    (Ok tt)))))
 
 -- what has been checked of a table's points, their count and their a, before its pivots
 pub record Counted (s : ℕ) (p : pivots.Points) : Type 0 where

@@ -8,7 +8,7 @@ ghost use Rattle.laws.specs.Clip.{max_z};
 ghost use Rattle.chroma_qp_check.specs.Check.{lengths_ok, points_ok, pivots_ok, Counted, check};
 ghost use Rattle.chroma_qp_check.specs.Pivots.{start_of, entry_qp};
 
-use def::{Answer, Refusal};
+use def::Refusal;
 
 // ---- numbers
 
@@ -52,18 +52,17 @@ fn points_ok(count: usize, a: &[i8]) -> bool
     if 58 < count {
         return false;
     }
-    let mut j = 0;
-    while j < count {
+    for j in 0..count {
         if a[j] < 0 {
             return false;
         }
-        j += 1;
     }
     true
 }
 
 // Whether every pivot of a table, in and out, is within -12..57. Here an out is held as 140 more than it is, and is in range at 128..197: a b may
 // take it 128 below -12.
+// kept: the loop goes by the pivot's range, and ends past the last: no plainer as a `for`, which would test the range in its body.
 fn pivots_ok(s: usize, count: usize, a: &[i8], b: &[i8]) -> bool
     requires { Counted s (record { count = count; a = a.now; b = b.now }) }
     ensures { result ≡ pivots_ok (entry_qp s) (record { count = count; a = a.now; b = b.now }) }
@@ -116,7 +115,7 @@ pub fn checked_points(
     b1: &[i8],
     t0: usize,
     t1: usize,
-) -> Answer
+) -> Result<(), Refusal>
     ensures { Gives check (record {
       global_offset = global_offset;
       same_table = same_table;
@@ -127,20 +126,20 @@ pub fn checked_points(
     }) result }
 {
     if !lengths_ok(a0.len(), b0.len(), a1.len(), b1.len(), t0, t1) {
-        return Answer::Refused(Refusal::Length);
+        return Err(Refusal::Length);
     }
     if !points_ok(count0, a0) {
-        return Answer::Refused(Refusal::Points);
+        return Err(Refusal::Points);
     }
     if !second_points_ok(same_table, count1, a1) {
-        return Answer::Refused(Refusal::Points);
+        return Err(Refusal::Points);
     }
     let s = start_qp(global_offset);
     if !pivots_ok(s, count0, a0, b0) {
-        return Answer::Refused(Refusal::Pivot);
+        return Err(Refusal::Pivot);
     }
     if !second_pivots_ok(same_table, s, count1, a1, b1) {
-        return Answer::Refused(Refusal::Pivot);
+        return Err(Refusal::Pivot);
     }
-    Answer::Done
+    Ok(())
 }

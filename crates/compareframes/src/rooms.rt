@@ -1,109 +1,67 @@
-// The frames of both streams, in a room for the bytes of one and the planes of both that y4m_file has the arrays of.
+// The frames of both streams, in a room for the bytes of one and the planes of both.
 ghost use Rattle.std.specs.Prelude.{◌≤◌};
 
 use crate::{Job, every};
 use files::Source;
+use say::Stop;
+use y4m_file::{
+    LARGE_BYTES, LARGE_CHROMA, LARGE_LUMA, Lengths, Picture, SMALL_BYTES, SMALL_CHROMA, SMALL_LUMA,
+};
 
-fn in_small(
-    rt: &HostRuntime,
-    a: &mut Source,
-    b: &mut Source,
-    job: Job,
-    luma: usize,
-    chroma: usize,
-) -> u8
-    requires { (luma ≤ 262144) × (chroma ≤ 65536) }
-{
-    let mut bytes = y4m_file::small_bytes();
-    let mut ya = y4m_file::small_luma();
-    let mut ua = y4m_file::small_chroma();
-    let mut va = y4m_file::small_chroma();
-    let mut yb = y4m_file::small_luma();
-    let mut ub = y4m_file::small_chroma();
-    let mut vb = y4m_file::small_chroma();
-    let size = 6 + 2 * luma + 4 * chroma;
-    every(
-        rt,
-        a,
-        b,
-        job,
-        &mut bytes[..size],
-        &mut ya[..luma],
-        &mut ua[..chroma],
-        &mut va[..chroma],
-        &mut yb[..luma],
-        &mut ub[..chroma],
-        &mut vb[..chroma],
-    )
-}
-
-// The large arrays stay in a frame of their own: a function that took them into its own would need the room at each call.
+// The arrays stay in a frame of their own: a function that took the large ones into its own would need the room at each call.
 #[inline(never)]
-fn in_large(
+fn in_room<const BYTES: usize, const LUMA: usize, const CHROMA: usize>(
     rt: &HostRuntime,
-    a: &mut Source,
-    b: &mut Source,
     job: Job,
-    luma: usize,
-    chroma: usize,
-) -> u8
-    requires { (luma ≤ 16777216) × (chroma ≤ 4194304) }
+    in_a: &mut Source,
+    in_b: &mut Source,
+    n: Lengths,
+) -> Result<(), Stop>
+    requires holds { (n.size ≤ BYTES) × (n.luma ≤ LUMA) × (n.chroma ≤ CHROMA) }
+    requires in_memory { (BYTES ≤ 50331654) × (LUMA ≤ 16777216) × (CHROMA ≤ 4194304) }
 {
-    let mut bytes = y4m_file::large_bytes();
-    let mut ya = y4m_file::large_luma();
-    let mut ua = y4m_file::large_chroma();
-    let mut va = y4m_file::large_chroma();
-    let mut yb = y4m_file::large_luma();
-    let mut ub = y4m_file::large_chroma();
-    let mut vb = y4m_file::large_chroma();
-    let size = 6 + 2 * luma + 4 * chroma;
-    every(
-        rt,
-        a,
-        b,
-        job,
-        &mut bytes[..size],
-        &mut ya[..luma],
-        &mut ua[..chroma],
-        &mut va[..chroma],
-        &mut yb[..luma],
-        &mut ub[..chroma],
-        &mut vb[..chroma],
-    )
+    let mut bytes = [0u8; BYTES];
+    let mut ya = [0u16; LUMA];
+    let mut ua = [0u16; CHROMA];
+    let mut va = [0u16; CHROMA];
+    let mut yb = [0u16; LUMA];
+    let mut ub = [0u16; CHROMA];
+    let mut vb = [0u16; CHROMA];
+    let size = n.size;
+    let luma = n.luma;
+    let chroma = n.chroma;
+    let mut a = Picture {
+        w: job.a.w,
+        h: job.a.h,
+        y: &mut ya[..luma],
+        u: &mut ua[..chroma],
+        v: &mut va[..chroma],
+    };
+    let mut b = Picture {
+        w: job.b.w,
+        h: job.b.h,
+        y: &mut yb[..luma],
+        u: &mut ub[..chroma],
+        v: &mut vb[..chroma],
+    };
+    every(rt, job, in_a, in_b, &mut a, &mut b, &mut bytes[..size])
 }
 
-// All frames. Pictures that the small room does not hold are gone to by a call of itself.
+// All frames.
 pub(crate) fn frames(
     rt: &HostRuntime,
-    a: &mut Source,
-    b: &mut Source,
     job: Job,
-    large: bool,
-) -> u8 {
-    let w = job.w;
-    let h = job.h;
-    if 4096 < w {
-        return 2;
+    in_a: &mut Source,
+    in_b: &mut Source,
+) -> Result<(), Stop> {
+    let n = y4m_file::lengths_of(job.a.w, job.a.h).ok_or(Stop::Failed)?;
+    if n.is_small() {
+        return in_room::<SMALL_BYTES, SMALL_LUMA, SMALL_CHROMA>(rt, job, in_a, in_b, n);
     }
-    if 4096 < h {
-        return 2;
-    }
-    let luma = w * h;
-    let chroma = (w / 2) * (h / 2);
-    if large {
-        return in_large(rt, a, b, job, luma, chroma);
-    }
-    if luma <= 262144 {
-        if chroma <= 65536 {
-            return in_small(rt, a, b, job, luma, chroma);
-        }
-    }
-    let status = frames(rt, a, b, job, true);
-    if status == 2 {
-        say::line(
-            rt,
-            b"(the pictures are large: their frames are kept in a room of 150 megabytes)",
-        );
-    }
-    status
+    let came = in_room::<LARGE_BYTES, LARGE_LUMA, LARGE_CHROMA>(rt, job, in_a, in_b, n);
+    y4m_file::with_note(
+        rt,
+        came,
+        b"(the pictures are large: their frames are kept in a room of 150 megabytes)",
+    )
 }

@@ -1,6 +1,7 @@
 -- No call refuses always: each has an input that it accepts, here with the number of its outcome. What is proved of every picture that the driver finishes
 -- is proved of these, then, and deblocking accepts one of them (`finishes_grey`, `finishes_colour`, `follows`).
 -- Assumes nothing.
+use Rattle.std.specs.Prelude.{Ok}
 use mathlib.Core.Path.{◌≡◌, refl}
 use mathlib.Core.Bool.{true, false}
 use mathlib.Core.List.{List, [], ◌∷◌, ◌++◌}
@@ -16,7 +17,6 @@ use Rattle.def.specs.Blocks.{block_side_ok, component_side_ok, block_ok, unit_ok
 use Rattle.def.specs.Picture.{size_ok, unit_count}
 use Rattle.def.specs.Word.{flag_at}
 use Rattle.def.specs.declared.Component.TheVariants.{Luma}
-use Rattle.def.specs.declared.Answer.TheVariants.{Done}
 use Rattle.def.specs.declared.Format.{Format}
 use Rattle.def.specs.declared.Format.TheVariants.{Grey, Colour}
 use Rattle.samples.specs.Samples.{samples_ok}
@@ -200,12 +200,12 @@ unfolding driver.outcome driver.check_of driver.read_ok driver.written_ok driver
     by_byte in_turn onward leaf_walk run samples_ok all_below flag_at field_of
 accepted_leaves = refl
 
-grey_passes : driver.check grey ≡ Done
+grey_passes : driver.check grey ≡ Ok tt
 unfolding driver.check_of driver.read_ok driver.written_ok driver.data_check driver.records_ok driver.lent_ok bytes_ok size_ok leaves_of walk
     by_byte in_turn onward leaf_walk run samples_ok all_below flag_at field_of
 grey_passes = refl
 
-colour_passes : driver.check colour ≡ Done
+colour_passes : driver.check colour ≡ Ok tt
 unfolding driver.check_of driver.read_ok driver.written_ok driver.data_check driver.records_ok driver.lent_ok bytes_ok size_ok leaves_of walk
     by_byte in_turn onward leaf_walk run samples_ok all_below flag_at field_of
 colour_passes = refl
@@ -237,7 +237,7 @@ following i =
       settings = record { limit = 6; u_offset = pos 0; v_offset = pos 0; format = i.given.format };
     }
 
-pub follows : checks.check_of (following colour) ≡ Done
+pub follows : checks.check_of (following colour) ≡ Ok tt
 unfolding checks.settings_ok checks.offset_ok list.limit_ok
 follows =
     deblocked colour colour_passes (following colour)

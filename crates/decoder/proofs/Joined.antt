@@ -1,6 +1,7 @@
 -- What the driver leaves of a picture is accepted by deblocking: none of 1, 4 and 5, no 2 for the planes, the words, the
 -- keep marks and the split bytes, no 15, no 6 for a luma QP, and no 7.
 -- Assumes nothing.
+use Rattle.std.specs.Prelude.{Ok}
 use Prim.Native.Nat.{ℕ, ◌*◌, ◌/◌}
 use native.Mathlib.Nat.{mul-zero}
 use mathlib.Core.Bool.{true}
@@ -10,7 +11,6 @@ use lib.ListN.{length}
 use native.Mathlib.Omega.{arith}
 use Rattle.def.specs.Formats.{in_format}
 use Rattle.def.specs.Picture.{size_ok, unit_count, root_count, luma_length, chroma_length}
-use Rattle.def.specs.declared.Answer.TheVariants.{Done}
 use Rattle.samples.specs.Samples.{samples_ok}
 use Rattle.split.specs.Picture.{picture_walk}
 use Rattle.driver_rules.specs.Call as driver
@@ -20,7 +20,7 @@ use Rattle.df_check.specs.Checks as deblocking
 use Rattle.df_check.proofs.Formats.{none_before}
 use Rattle.decoder.specs.Joined.{Follows, Lent, Joined}
 
-module _ (i : driver.Input) (fine : driver.check i ≡ Done) where
+module _ (i : driver.Input) (fine : driver.check i ≡ Ok tt) where
   left : driver.outcome i ≡ driver.done i
   unfolding driver.outcome
   left = rw fine
@@ -44,7 +44,7 @@ module _ (i : driver.Input) (fine : driver.check i ≡ Done) where
     sides : size_ok j.w j.h ≡ true
     sides = (λ k. size_ok (f.w k) (f.h k)) ∙ (all_passed i fine).accepted.size
 
-    walked : (picture_walk j.splits (j.w / 4) (j.h / 4)).answer ≡ Done
+    walked : (picture_walk j.splits (j.w / 4) (j.h / 4)).answer ≡ Ok tt
     walked = (λ k. (picture_walk (f.splits k) (f.w k / 4) (f.h k / 4)).answer) ∙ (all_passed i fine).accepted.walked
 
     long_y : length j.y ≡ luma_length j.w j.h
@@ -99,7 +99,7 @@ module _ (i : driver.Input) (fine : driver.check i ≡ Done) where
         let e = finished i fine in
         rw (ap samples_ok is_y ∙ e.y_small, ap samples_ok is_u ∙ e.u_small, ap samples_ok is_v ∙ e.v_small)
 
-    accepts : deblocking.check_of j ≡ Done
+    accepts : deblocking.check_of j ≡ Ok tt
     unfolding deblocking.check_of deblocking.from_lengths
     accepts = rw (mul-zero j.w, none_before j.settings.format j.w, mul-zero (j.w / 4), sides, lengths, l.settings, walked, marks, qps, samples)
 

@@ -6,6 +6,7 @@
 -- (avail, df_laws, sheet_lines, sheet), `banded_apart` (df_laws), `rank_apart` (rank), `leaves_apart`, `list_apart` (split), `marks_apart` (marks),
 -- `placed_apart` (pack) and `mended_apart` (mend).
 -- Assumes nothing.
+use Rattle.std.specs.Prelude.{Ok, Err}
 use Prim.Native.Nat.{ℕ, ◌+◌, ◌-◌, ◌*◌, ◌/◌}
 use mathlib.Core.Logic.{inl, inr}
 use mathlib.Core.Path.{◌≡◌, refl, sym, ◌∙◌}
@@ -29,8 +30,7 @@ use Rattle.def.specs.Refusals.{number_of}
 use Rattle.def.specs.Word.{flag_at}
 use Rattle.def.specs.declared.Format.{Format}
 use Rattle.def.specs.declared.Format.TheVariants.{Grey, Colour}
-use Rattle.def.specs.declared.Answer.{Answer}
-use Rattle.def.specs.declared.Answer.TheVariants.{Done, Refused}
+use Rattle.def.specs.Answers.{Answer}
 use Rattle.def.specs.declared.Refusal.{Refusal}
 use Rattle.def.specs.declared.Refusal.TheVariants.{Size, Length, Setting, Split, Leaf, Keep, Qp, Sample, Block, Mode, Points as BadPoints, Pivot, Sheet, Record, Band, Bits, Rows, Old}
 use Rattle.def.specs.declared.Component.TheVariants.{Luma}
@@ -56,7 +56,6 @@ use Rattle.driver_rules.specs.Call as driver
 use Rattle.driver_rules.specs.Records.{bytes_ok, first, passed}
 use Rattle.rank.specs.RankCall as rank
 use Rattle.rank.specs.Ranks.{rank as visitingRank}
-use Rattle.rank.specs.declared.Rank.TheVariants.{Done as Ranked, Refused as NotRanked}
 use Rattle.rank.proofs.Ranks.{rank_apart}
 use Rattle.split.specs.CheckCall as check
 use Rattle.split.specs.LeavesCall as leaves
@@ -76,7 +75,7 @@ use Rattle.marks_rules.specs.Marks.{marks, digits}
 use Rattle.marks_rules.specs.Pictures.{joined}
 use Rattle.mend.proofs.Apart.{mended_apart}
 use Rattle.mend.specs.MendCall as mend
-use Rattle.pack.proofs.Apart.{reading_of as placedReading, placed_apart}
+use Rattle.pack.proofs.Apart.{placed_apart}
 use Rattle.pack_parts.proofs.Apart.{Wrote, write_sole, Read, read_sole}
 use Rattle.pack_parts.specs.declared.Reader.{Reader}
 use Rattle.pack_parts.specs.declared.Writer.{Writer}
@@ -474,7 +473,7 @@ unfolding rank.outcome rank.check
 visiting_rank_refusals =
     record {
       only = λ i.
-          by_checks (λ o. o.reading.number) (λ r. rank.after (NotRanked r)) (rank.after (Ranked (visitingRank i.x i.y))) (Block ∷ []) (rank.check i)
+          by_checks (λ o. o.reading.number) (λ r. rank.after (Err r)) (rank.after (Ok (visitingRank i.x i.y))) (Block ∷ []) (rank.check i)
           (λ r. refl) refl (rung (all_of (ltb i.x 16 ∷ ltb i.y 16 ∷ [])) Block _ last);
       shown = record { x = 16; y = 0 } ∷ [];
       given = refl;
@@ -690,7 +689,7 @@ take_marks_refusals =
     }
 
 pub put_map_once : Sole 2 put-map-kinds.ps put-map-kinds.r put-map-reads.Post (λ κs r x. ended r (x.1.1.1.0.now ∷ []))
-put_map_once κs a r r' x x' p q = settled put_map.outcome (λ o. record { number = o.number; at = o.at }) (λ o. o.buf ∷ []) p q (placed_apart r r')
+put_map_once κs a r r' x x' p q = settled put_map.outcome (λ o. record { number = o.number; at = o.at }) (λ o. o.buf ∷ []) p q (placed_apart _ r r')
 
 abbrev putting : ℕ → List ℕ → put_map.Input
 putting h splits = record { w = 4; h = h; splits = splits; buf = []; at = 0 }
@@ -710,7 +709,7 @@ put_map_refusals =
     }
 
 pub get_map_once : Sole 2 get-map-kinds.ps get-map-kinds.r get-map-reads.Post (λ κs r x. ended r (x.1.1.1.1.0.now ∷ []))
-get_map_once κs a r r' x x' p q = settled get-map.outcome (λ o. record { number = o.number; at = o.at }) (λ o. o.map ∷ []) p q (placed_apart r r')
+get_map_once κs a r r' x x' p q = settled get-map.outcome (λ o. record { number = o.number; at = o.at }) (λ o. o.map ∷ []) p q (placed_apart _ r r')
 
 abbrev getting : ℕ → List ℕ → List ℕ → get-map.Input
 getting h src map = record { w = 4; h = h; src = src; at = 0; map = map }
@@ -734,7 +733,7 @@ get_map_refusals =
     }
 
 pub take_map_once : Sole 2 take-map-kinds.ps take-map-kinds.r take-map-reads.Post (λ κs r x. ended r (x.1.1.1.1.1.0.now ∷ []))
-take_map_once κs a r r' x x' p q = settled take-map.outcome (λ o. record { number = o.number; at = o.at }) (λ o. o.map ∷ []) p q (placed_apart r r')
+take_map_once κs a r r' x x' p q = settled take-map.outcome (λ o. record { number = o.number; at = o.at }) (λ o. o.map ∷ []) p q (placed_apart _ r r')
 
 abbrev digits_of_lem : (w from to : ℕ) → List ℕ → take-map.Input
 digits_of_lem w from to map = record { w = w; h = 4; src = 0 ∷ []; from = from; to = to; map = map }
@@ -872,13 +871,13 @@ deblock_by_rows_once κs a r r' x x' p q = settled by_rows_lem.outcome (λ o. o.
 abbrev with_rows : List Refusal
 with_rows = by_deblocking ++ (Rows ∷ [])
 
-map_last : (t : Bool) → Stops with_rows (unless t (Refused Rows) Done)
+map_last : (t : Bool) → Stops with_rows (unless t (Err Rows) (Ok tt))
 map_last true = record { by = zeroth with_rows }
 map_last false = record { by = inr (inr (inr (inr (inr (inr (inr (inr (inl refl)))))))) }
 
-then_map : (t : Bool) (k : Answer) → Stops by_deblocking k → Stops with_rows (after_checks (λ r. Refused r) (unless t (Refused Rows) Done) k)
-then_map t Done p = map_last t
-then_map t (Refused r) p = record { by = longer by_deblocking (Rows ∷ []) (number_of r) p.by }
+then_map : (t : Bool) (k : Answer) → Stops by_deblocking k → Stops with_rows (after_checks (λ r. Err r) (unless t (Err Rows) (Ok tt)) k)
+then_map t (Ok _) p = map_last t
+then_map t (Err r) p = record { by = longer by_deblocking (Rows ∷ []) (number_of r) p.by }
 
 by_rows_stop : (i : rows-checks.Input) → Stops with_rows (rows-checks.check_of i)
 unfolding rows-checks.check_of
@@ -1037,7 +1036,7 @@ read_once κs a r r' x x' p q = told sheet.outcome (λ o. o.reading) p q (sheet-
 
 pub read_refusals : Refuses sheet.outcome (λ o. o.reading.number) (Sheet ∷ [])
 unfolding sheet.outcome sheet.read_of first_bad line_ok start_of line_of number_line starts_with
-read_refusals = record { only = λ i. line_said (eqb (first_bad i.input) 0) (first_bad i.input) (sheet.whole_sheet i.input) refl; shown = record { input = [] } ∷ []; given = refl }
+read_refusals = record { only = λ i. line_said (eqb (first_bad i.input) 0) (first_bad i.input) (Ok (sheet.whole_sheet i.input)) refl; shown = record { input = [] } ∷ []; given = refl }
 
 pub listing_once : Sole 2 listing-kinds.ps listing-kinds.r listing-reads.Post (λ κs r x. ended r (x.1.0.now ∷ []))
 listing_once κs a r r' x x' p q = settled listing.outcome (λ o. o.reading) (λ o. o.out ∷ []) p q (printed-apart r r')

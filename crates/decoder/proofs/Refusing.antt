@@ -5,6 +5,7 @@
 --     line_said    what is read from a sheet
 --     sheet_rung    what is found in a sheet
 -- Assumes nothing.
+use Rattle.std.specs.Prelude.{Result, Ok, Err}
 use Prim.Native.Nat.{ℕ, zero, suc, ◌+◌, ◌^◌}
 use mathlib.Core.Path.{◌≡◌, refl, sym, subst}
 use mathlib.Core.Bool.{Bool, true, false}
@@ -18,13 +19,12 @@ use Rattle.def.specs.Answers.{answer_number, after_checks}
 use Rattle.def.specs.Refusals.{number_of}
 use Rattle.def.specs.declared.Refusal.{Refusal}
 use Rattle.def.specs.declared.Refusal.TheVariants.{Split, Leaf as PastPicture, Sheet}
-use Rattle.def.specs.declared.Answer.{Answer}
-use Rattle.def.specs.declared.Answer.TheVariants.{Done, Refused}
+use Rattle.def.specs.Answers.{Answer}
 use Rattle.split.specs.Picture.{roots, root_walk, picture_walk}
 use Rattle.split.specs.Walk.{Leaf, Walk, met, nothing, onward, in_turn, leaf_walk, by_byte, place, walk}
-use Rattle.sheet_lines.specs.ReadCall.{reading_of}
+use Rattle.sheet_lines.specs.ReadCall.{reading_of, malformed}
+use Rattle.sheet_lines.specs.declared.Malformed as bad
 use Rattle.sheet_lines.specs.declared.Sheet as lines
-use Rattle.sheet_lines.specs.declared.Sheet.TheVariants.{Malformed}
 use Rattle.sheet.specs.Text.{Found, refused}
 use Rattle.decoder.specs.Promise.{OneOf, refusal_in}
 
@@ -39,24 +39,24 @@ pub zeroth : (l : List Refusal) → OneOf l 0
 zeroth [] = refl
 zeroth (r ∷ l) = inr (zeroth l)
 
-pub last : Stops [] Done
+pub last : Stops [] (Ok tt)
 last = record { by = refl }
 
 -- the rung of a test and its refusal, above those of the rest
-pub rung : {rs : List Refusal} (t : Bool) (r : Refusal) (k : Answer) → Stops rs k → Stops (r ∷ rs) (unless t (Refused r) k)
+pub rung : {rs : List Refusal} (t : Bool) (r : Refusal) (k : Answer) → Stops rs k → Stops (r ∷ rs) (unless t (Err r) k)
 rung true r k p = record { by = inr p.by }
 rung false r k p = record { by = inl refl }
 
 -- one whose refusal is among those of the rest
-pub again : {rs : List Refusal} (t : Bool) (r : Refusal) (k : Answer) → OneOf rs (number_of r) → Stops rs k → Stops rs (unless t (Refused r) k)
+pub again : {rs : List Refusal} (t : Bool) (r : Refusal) (k : Answer) → OneOf rs (number_of r) → Stops rs k → Stops rs (unless t (Err r) k)
 again true r k m p = p
 again false r k m p = record { by = m }
 
 -- the number of an outcome is that of the answer of the checks
 pub by_checks : {O : Type 0} (number : O → ℕ) (stop : Refusal → O) (done : O) (rs : List Refusal) (a : Answer) → ((r : Refusal) → number (stop r) ≡ number_of r)
     → number done ≡ 0 → Stops rs a → OneOf rs (number (after_checks stop done a))
-by_checks number stop done rs Done f e p = subst (OneOf rs) (sym e) p.by
-by_checks number stop done rs (Refused r) f e p = subst (OneOf rs) (sym (f r)) p.by
+by_checks number stop done rs (Ok _) f e p = subst (OneOf rs) (sym e) p.by
+by_checks number stop done rs (Err r) f e p = subst (OneOf rs) (sym (f r)) p.by
 
 -- ---- a walk
 
@@ -68,13 +68,13 @@ module _ (rs : List Refusal) where
   fine : Ends nothing
   fine = record { by = record { by = zeroth rs } }
 
-  met_done : (l : List Leaf) → Ends (met l Done)
+  met_done : (l : List Leaf) → Ends (met l (Ok tt))
   met_done l = record { by = record { by = zeroth rs } }
 
   then : (a : Answer) (l : List Leaf) (b : Walk) → Stops rs a → Ends b → Ends (onward a l b)
   unfolding onward
-  then Done l b p q = record { by = q.by }
-  then (Refused r) l b p q = record { by = p }
+  then (Ok _) l b p q = record { by = q.by }
+  then (Err r) l b p q = record { by = p }
 
   turns : (f : ℕ → Walk) → ((i : ℕ) → Ends (f i)) → (n : ℕ) → Ends (in_turn f n)
   unfolding in_turn
@@ -89,7 +89,7 @@ module _ (rs : List Refusal) where
   tested true a b p q = q
   tested false a b p q = p
 
-  leaf_ends : Ends (met [] (Refused PastPicture)) → (w h n x y : ℕ) → Ends (leaf_walk w h n x y)
+  leaf_ends : Ends (met [] (Err PastPicture)) → (w h n x y : ℕ) → Ends (leaf_walk w h n x y)
   unfolding leaf_walk
   leaf_ends past w h n x y = tested (leb (x + n) w) _ _ past (tested (leb (y + n) h) _ _ past (met_done _))
 
@@ -99,7 +99,7 @@ module _ (rs : List Refusal) where
   by_byte_lem (suc zero) a b c p q r = q
   by_byte_lem (suc (suc n)) a b c p q r = r
 
-  block_ends : Ends (met [] (Refused Split)) → Ends (met [] (Refused PastPicture)) → (s : List ℕ) (w h k x y : ℕ) → Ends (walk s w h k x y)
+  block_ends : Ends (met [] (Err Split)) → Ends (met [] (Err PastPicture)) → (s : List ℕ) (w h k x y : ℕ) → Ends (walk s w h k x y)
   unfolding walk
   block_ends byte past s w h zero x y = picked (ltb x w) _ _ (picked (ltb y h) _ _ (leaf_ends past w h 1 x y) fine) fine
   block_ends byte past s w h (suc k) x y =
@@ -128,12 +128,12 @@ longer [] rs n e = subst (OneOf rs) (sym e) (zeroth rs)
 longer (r ∷ l) rs n (inl e) = inl e
 longer (r ∷ l) rs n (inr p) = inr (longer l rs n p)
 
-pub walk_rung : (rs : List Refusal) (k a : Answer) → Stops by_walk a → Stops rs k → Stops (by_walk ++ rs) (after_checks Refused k a)
-walk_rung rs k Done p q = record { by = inr (inr q.by) }
-walk_rung rs k (Refused r) p q = record { by = longer by_walk rs (number_of r) p.by }
+pub walk_rung : (rs : List Refusal) (k a : Answer) → Stops by_walk a → Stops rs k → Stops (by_walk ++ rs) (after_checks Err k a)
+walk_rung rs k (Ok _) p q = record { by = inr (inr q.by) }
+walk_rung rs k (Err r) p q = record { by = longer by_walk rs (number_of r) p.by }
 
 -- what is read from a sheet is 12, or its lines
-pub line_said : (t : Bool) (n : ℕ) (k : lines.Sheet) → (reading_of k).number ≡ 0 → OneOf (Sheet ∷ []) (reading_of (unless t (Malformed n) k)).number
+pub line_said : (t : Bool) (n : ℕ) (k : Result lines.Sheet bad.Malformed) → (reading_of k).number ≡ 0 → OneOf (Sheet ∷ []) (reading_of (unless t (malformed n) k)).number
 line_said true n k e = inr e
 line_said false n k e = inl refl
 

@@ -9,7 +9,7 @@ use lib.ListN.{length, replicate}
 use Rattle.def.specs.Answers.{answer_number}
 use Rattle.def.specs.Blocks.{unit_ok}
 use Rattle.def.specs.Picture.{size_ok}
-use Rattle.def.specs.declared.Answer.{Answer}
+use Rattle.def.specs.Answers.{Answer}
 use Rattle.def.specs.declared.Refusal.TheVariants.{Size, Length, Block}
 use Rattle.def.proofs.Answers.{answer_apart}
 use Rattle.line.specs.declared.Motion.{Motion}

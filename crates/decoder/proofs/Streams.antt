@@ -1,6 +1,7 @@
 -- The calls of YUV4MPEG2 streams: of each NAME-once and NAME-refusals, as in `Promises`; and an input that each accepts.
 -- The answers are told apart by `read_apart` (y4m_header), `written_apart` (y4m_header_out) and `frame_apart` (y4m_frame).
 -- Assumes nothing.
+use Rattle.std.specs.Prelude.{Result, Ok, Err}
 use Prim.Native.Nat.{ℕ}
 use mathlib.Core.Path.{◌≡◌, refl, sym, subst}
 use mathlib.Core.Bool.{Bool, true, false}
@@ -24,15 +25,15 @@ use Rattle.y4m_rules.specs.Words.{frame_line, before}
 use Rattle.y4m_rules.specs.Numbers.{is_number}
 use Rattle.y4m_rules.specs.Frames.{colour_ok, bytes_of, frame_text, frame_end, matches, line_ok, line_place, planes_ok}
 use Rattle.y4m_rules.specs.Header.{Header, malformed, said, header_text, header_in, words, ending, value_ok, said_with}
+use Rattle.y4m_rules.specs.Misreads.{misread}
+use Rattle.y4m_rules.specs.declared.Misread.{Misread}
 use Rattle.y4m_header.specs.ReadCall as header
-use Rattle.y4m_header.specs.declared.HeaderRead.{HeaderRead}
-use Rattle.y4m_header.specs.declared.HeaderRead.TheVariants.{Read as ReadHeader, Refused as NoHeader}
+use Rattle.y4m_header.specs.Values as values
+use Rattle.y4m_header.specs.declared.Header.{Header as Heading}
 use Rattle.y4m_header.proofs.Answers.{read_apart}
 use Rattle.y4m_header_out.specs.WriteCall as header-out
 use Rattle.y4m_header_out.proofs.Answers.{written_apart}
 use Rattle.y4m_frame.specs.ReadCall as frame
-use Rattle.y4m_frame.specs.declared.FrameRead.{FrameRead}
-use Rattle.y4m_frame.specs.declared.FrameRead.TheVariants.{Read, Refused}
 use Rattle.y4m_frame.proofs.Answers.{frame_apart}
 use Rattle.y4m_frame_out.specs.WriteCall as frame-out
 use Rattle.y4m.specs.Import as import
@@ -67,13 +68,13 @@ one_by_one = header_of 49
 abbrev four_by_four : List ℕ
 four_by_four = header_of 52
 
-by_size : (t : Bool) (r : HeaderRead) → (header.reading_of r).number ≡ 0 → OneOf (Size ∷ []) (header.reading_of (unless t (NoHeader Size 0) r)).number
+by_size : (t : Bool) (r : Result Heading Misread) → (header.reading_of r).number ≡ 0 → OneOf (Size ∷ []) (header.reading_of (unless t (Err (misread Size 0)) r)).number
 by_size true r e = inr e
 by_size false r e = inl refl
 
 by_header : (k : Header) → OneOf (Stream ∷ Size ∷ []) (header.reading_of (header.read_by k)).number
 by_header (malformed at) = inl refl
-by_header (said p n) = inr (by_size (size_ok p.w p.h) (ReadHeader p.w p.h p.f p.g p.a p.b n) refl)
+by_header (said p n) = let h = values.header_of p n in inr (by_size (size_ok h.w h.h) (Ok h) refl)
 
 pub read_header_refusals : Refuses header.outcome (λ o. o.reading.number) (Stream ∷ Size ∷ [])
 unfolding header.outcome header_in words ending value_ok said_with before is_number value_from same_line starts_with all_below size_ok
@@ -103,13 +104,13 @@ write_header_refusals =
 -- ---- a frame
 
 -- an answer of reading a frame is one of some refusals, or the place after it
-record Framed (rs : List Refusal) (k : FrameRead) : Type 0 where
+record Framed (rs : List Refusal) (k : Result ℕ Misread) : Type 0 where
   by : OneOf rs (frame.reading_of k).number
 
-frame_last : (n : ℕ) → Framed [] (Read n)
+frame_last : (n : ℕ) → Framed [] (Ok n)
 frame_last n = record { by = refl }
 
-frame_rung : {rs : List Refusal} (t : Bool) (r : Refusal) (p : ℕ) (k : FrameRead) → Framed rs k → Framed (r ∷ rs) (unless t (Refused r p) k)
+frame_rung : {rs : List Refusal} (t : Bool) (r : Refusal) (p : ℕ) (k : Result ℕ Misread) → Framed rs k → Framed (r ∷ rs) (unless t (Err (misread r p)) k)
 frame_rung true r p k f = record { by = inr f.by }
 frame_rung false r p k f = record { by = inl refl }
 
@@ -129,9 +130,9 @@ frame_stops i =
     (frame_last (frame_end i.at luma chroma))))))
 
 -- what it leaves has that number
-after_number : (i : frame.Input) (k : FrameRead) → (frame.reading_of k).number ≡ (frame.after i k).reading.number
-after_number i (Read n) = refl
-after_number i (Refused r p) = refl
+after_number : (i : frame.Input) (k : Result ℕ Misread) → (frame.reading_of k).number ≡ (frame.after i k).reading.number
+after_number i (Ok n) = refl
+after_number i (Err m) = refl
 
 pub read_frame_once : Sole 4 read-frame-kinds.ps read-frame-kinds.r read-frame-reads.Post (λ κs r x. ended r (x.1.1.1.1.0.now ∷ x.1.1.1.1.1.0.now ∷ x.1.1.1.1.1.1.0.now ∷ []))
 read_frame_once κs a r r' x x' p q = settled frame.outcome (λ o. o.reading) (λ o. o.y ∷ o.u ∷ o.v ∷ []) p q (frame_apart r r')
@@ -197,16 +198,16 @@ import_frame_once κs a r r' x x' p q = settled import.outcome (λ o. o.reading)
 abbrev by_import : List Refusal
 by_import = Stream ∷ by_frame
 
-after_frame_lem : (i : import.Input) (w h f g a b at : ℕ) (k : FrameRead) → OneOf by_frame (frame.reading_of k).number → OneOf by_import (import.after_frame i w h f g a b at k).reading.number
-after_frame_lem i w h f g a b at (Read n) p = inr p
-after_frame_lem i w h f g a b at (Refused r q) p = inr p
+after_frame_lem : (i : import.Input) (h : Heading) (k : Result ℕ Misread) → OneOf by_frame (frame.reading_of k).number → OneOf by_import (import.after_frame i h k).reading.number
+after_frame_lem i h (Ok n) p = inr p
+after_frame_lem i h (Err m) p = inr p
 
 -- the header's are the first two
-after_header_lem : (i : import.Input) (k : HeaderRead) → OneOf (Stream ∷ Size ∷ []) (header.reading_of k).number → OneOf by_import (import.after_header i k).reading.number
-after_header_lem i (NoHeader r at) (inl e) = inl e
-after_header_lem i (NoHeader r at) (inr (inl e)) = inr (inl e)
-after_header_lem i (NoHeader r at) (inr (inr e)) = subst (OneOf by_import) (sym e) (zeroth by_import)
-after_header_lem i (ReadHeader w h f g a b at) p = after_frame_lem i w h f g a b at (frame.check (import.frame_at i at w h)) (frame_stops (import.frame_at i at w h)).by
+after_header_lem : (i : import.Input) (k : Result Heading Misread) → OneOf (Stream ∷ Size ∷ []) (header.reading_of k).number → OneOf by_import (import.after_header i k).reading.number
+after_header_lem i (Err m) (inl e) = inl e
+after_header_lem i (Err m) (inr (inl e)) = inr (inl e)
+after_header_lem i (Err m) (inr (inr e)) = subst (OneOf by_import) (sym e) (zeroth by_import)
+after_header_lem i (Ok h) p = after_frame_lem i h (frame.check (import.frame_at i h.next h.w h.h)) (frame_stops (import.frame_at i h.next h.w h.h)).by
 
 abbrev importing : List ℕ → List ℕ → import.Input
 importing s y = record { input = s; y = y; u = replicate 4 0; v = replicate 4 0 }

@@ -3,6 +3,7 @@
 --     bits_rung    a descent among the rungs: its refusals, above those of what comes after it
 --     digits_said    by the digits of a sheet, for the sheet or a leaf: 4 never comes from a sheet
 -- Assumes nothing.
+use Rattle.std.specs.Prelude.{Ok, Err}
 use Prim.Native.Nat.{ℕ, zero, suc, ◌+◌, ◌^◌, ◌<◌}
 use mathlib.Core.Path.{◌≡◌, refl, sym, ap, ◌∙◌, subst}
 use mathlib.Core.Bool.{Bool, true, false}
@@ -18,8 +19,7 @@ use Rattle.def.specs.Answers.{answer_number, after_checks}
 use Rattle.def.specs.Refusals.{number_of}
 use Rattle.def.specs.declared.Refusal.{Refusal}
 use Rattle.def.specs.declared.Refusal.TheVariants.{Leaf as PastPicture, Sheet, Bits}
-use Rattle.def.specs.declared.Answer.{Answer}
-use Rattle.def.specs.declared.Answer.TheVariants.{Done, Refused}
+use Rattle.def.specs.Answers.{Answer}
 use Rattle.def.proofs.Answers.{number_some}
 use Rattle.split.specs.Picture.{roots, root_x, root_y}
 use Rattle.split.specs.Walk.{Walk, met, leaf, leaf_walk}
@@ -39,7 +39,7 @@ by_bits = Bits ∷ PastPicture ∷ []
 record Ends (d : Descent) : Type 0 where
   by : Stops by_bits d.walk.answer
 
-done : {d : Descent} → d.walk.answer ≡ Done → Ends d
+done : {d : Descent} → d.walk.answer ≡ Ok tt → Ends d
 done e = record { by = record { by = subst (λ (a : Answer). OneOf by_bits (answer_number a)) (sym e) (zeroth by_bits) } }
 
 ends_as : {a b : Descent} → a ≡ b → Ends b → Ends a
@@ -51,7 +51,7 @@ out = record { by = record { by = inl refl } }
 leaf_stops : (w h n x y : ℕ) → Stops by_bits (leaf_walk w h n x y).answer
 unfolding leaf_walk
 leaf_stops w h n x y = by (leb (x + n) w) (leb (y + n) h) where
-  by : (a b : Bool) → Stops by_bits (unless a (met [] (Refused PastPicture)) (unless b (met [] (Refused PastPicture)) (met (leaf x y n ∷ []) Done))).answer
+  by : (a b : Bool) → Stops by_bits (unless a (met [] (Err PastPicture)) (unless b (met [] (Err PastPicture)) (met (leaf x y n ∷ []) (Ok tt)))).answer
   by true true = record { by = zeroth by_bits }
   by true false = record { by = inr (inl refl) }
   by false b = record { by = inr (inl refl) }
@@ -60,10 +60,10 @@ then_ends : (a : Descent) (g : List ℕ → Descent) → Ends a → ((l : List �
 unfolding descend_on
 then_ends a g p q = by a.walk.answer refl where
   by : (z : Answer) → a.walk.answer ≡ z → Ends (descend_on z a g)
-  by Done e =
+  by (Ok _) e =
       let b = g a.left in
       record { by = subst (Stops by_bits) (sym (ap (λ (v : Walk). v.answer) (onward_done a.walk.answer a.walk.list b.walk e))) (q a.left).by }
-  by (Refused r) e = p
+  by (Err r) e = p
 
 all_end : (f : ℕ → List ℕ → Descent) → ((i : ℕ) (l : List ℕ) → Ends (f i l)) → (n : ℕ) (ds : List ℕ) → Ends (descents f n ds)
 unfolding descents
@@ -89,9 +89,9 @@ root_takes w h i ds = (block_ends w h 4 (root_x w i) (root_y w i) ds).by
 pub picture_takes : (w h : ℕ) (ds : List ℕ) → Stops by_bits (upto w h ds (roots w h)).walk.answer
 picture_takes w h ds = (all_end (root_descent w h) (λ i l. record { by = root_takes w h i l }) (roots w h) ds).by
 
-pub bits_rung : (rs : List Refusal) (k a : Answer) → Stops by_bits a → Stops rs k → Stops (by_bits ++ rs) (after_checks Refused k a)
-bits_rung rs k Done p q = record { by = inr (inr q.by) }
-bits_rung rs k (Refused r) p q = record { by = longer by_bits rs (number_of r) p.by }
+pub bits_rung : (rs : List Refusal) (k a : Answer) → Stops by_bits a → Stops rs k → Stops (by_bits ++ rs) (after_checks Err k a)
+bits_rung rs k (Ok _) p q = record { by = inr (inr q.by) }
+bits_rung rs k (Err r) p q = record { by = longer by_bits rs (number_of r) p.by }
 
 -- ---- the digits of a sheet
 
@@ -111,5 +111,5 @@ digits_said halved w h ds = go d.walk.answer (picture_takes w h _) (sheet_rung (
   d = picture_descent w h ds
 
   go : (a : Answer) {k : Found} → Stops by_bits a → Says by_sheet k → Says by_sheet (after_checks (λ (r : Refusal). refused (as_sheet r) 5) k a)
-  go Done p q = q
-  go (Refused r) p q = record { by = said r p.by }
+  go (Ok _) p q = q
+  go (Err r) p q = record { by = said r p.by }

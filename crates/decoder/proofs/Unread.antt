@@ -3,6 +3,7 @@
 --     deblock_same, deblock_by_rows_same, deblock_band_same, reconstruct_same
 -- `check`, `leaves`, `list_edges` and `root_list` are in `reach_rules`.
 -- Assumes nothing.
+use Rattle.std.specs.Prelude.{Ok, Err}
 use Prim.Native.Nat.{ℕ, ◌+◌, ◌-◌, ◌*◌, ◌/◌}
 use mathlib.Core.List.{List}
 use mathlib.Core.Path.{◌≡◌, ap, ap₂}
@@ -10,8 +11,7 @@ use native.Mathlib.Omega.{arith}
 use lib.ListN.{length}
 use Rattle.laws.specs.Call.{unless}
 use Rattle.def.specs.Picture.{size_ok}
-use Rattle.def.specs.declared.Answer.{Answer}
-use Rattle.def.specs.declared.Answer.TheVariants.{Done, Refused}
+use Rattle.def.specs.Answers.{Answer}
 use Rattle.def.specs.declared.Refusal.TheVariants.{Size, Length, Band}
 use Rattle.def.proofs.Ladders.{passes}
 use Rattle.split.specs.Picture.{picture_walk}
@@ -116,7 +116,7 @@ module _ (i : band.Input) (t : List ℕ) (n : length t ≡ length i.splits) (o :
   unfolding band-checks.check_of checks.from_lengths
   band_same_checks = rw (n, units, band_tree.walk)
 
-  band_walked : band.check i ≡ Done → (picture_walk i.splits (band.wide i) (band.rows i)).answer ≡ Done
+  band_walked : band.check i ≡ Ok tt → (picture_walk i.splits (band.wide i) (band.rows i)).answer ≡ Ok tt
   unfolding band-checks.check_of
   band_walked e =
       let rest = (passes (band_ok i.next i.band i.h) Band _ (passes (size_ok i.w i.h) Size _ e).rest).rest in
@@ -144,15 +144,15 @@ module _ (i : driver.Input) (t : List ℕ) (n : length t ≡ length i.splits) (o
   abbrev before_walk : ℕ → Answer → Answer
   before_walk m k =
       let g = i.given in
-      unless (size_ok g.w g.h) (Refused Size)
-      (unless (driver.read_ok g.w g.h g.format m (length g.pred_y) (length g.pred_u) (length g.pred_v)) (Refused Length)
-      (unless (driver.written_ok g.w g.h g.format (length i.y) (length i.u) (length i.v) (length i.words) (length i.modes) (length i.keep)) (Refused Length) k))
+      unless (size_ok g.w g.h) (Err Size)
+      (unless (driver.read_ok g.w g.h g.format m (length g.pred_y) (length g.pred_u) (length g.pred_v)) (Err Length)
+      (unless (driver.written_ok g.w g.h g.format (length i.y) (length i.u) (length i.v) (length i.words) (length i.modes) (length i.keep)) (Err Length) k))
 
   driver_checks : driver.check driver_other ≡ driver.check i
   unfolding driver.check_of
   driver_checks =
       ap₂ before_walk n
-      (after_same Refused _ _ _ _ (ap (λ (v : Walk). v.answer) driver_tree.walk) (λ e. ap after_walk (driver_tree.leaves e)))
+      (after_same Err _ _ _ _ (ap (λ (v : Walk). v.answer) driver_tree.walk) (λ e. ap after_walk (driver_tree.leaves e)))
 
   pub reconstruct_same : driver.outcome driver_other ≡ driver.outcome i
   unfolding driver.outcome

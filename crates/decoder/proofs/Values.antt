@@ -46,6 +46,10 @@ use Rattle.decoder.proofs.refusal_number.Kinds as refusal-number-kinds
 use Rattle.decoder.proofs.refusal_number.Reads as refusal-number-reads
 use Rattle.decoder.proofs.answer_number.Kinds as answer-number-kinds
 use Rattle.decoder.proofs.answer_number.Reads as answer-number-reads
+use Rattle.decoder.proofs.all_between.Kinds as all-between-kinds
+use Rattle.decoder.proofs.all_between.Reads as all-between-reads
+use Rattle.decoder.proofs.number_in.Kinds as number-in-kinds
+use Rattle.decoder.proofs.number_in.Reads as number-in-reads
 use Rattle.decoder.proofs.samples_ok.Kinds as samples-ok-kinds
 use Rattle.decoder.proofs.samples_ok.Reads as samples-ok-reads
 use Rattle.decoder.proofs.get_bit.Kinds as get-bit-kinds
@@ -181,6 +185,12 @@ answer_number_once κs a r r' x x' p q = p ∙ sym q
 
 pub samples_ok_once : Sole 1 samples-ok-kinds.ps samples-ok-kinds.r samples-ok-reads.Post (λ κs r x. r)
 samples_ok_once κs a r r' x x' p q = p ∙ sym q
+
+pub all_between_once : Sole 1 all-between-kinds.ps all-between-kinds.r all-between-reads.Post (λ κs r x. r)
+all_between_once κs a r r' x x' p q = p ∙ sym q
+
+pub number_in_once : Sole 1 number-in-kinds.ps number-in-kinds.r number-in-reads.Post (λ κs r x. r)
+number_in_once κs a r r' x x' p q = p ∙ sym q
 
 pub start_qp_once : Sole 0 start-qp-kinds.ps start-qp-kinds.r start-qp-reads.Post (λ κs r x. r)
 start_qp_once κs a r r' x x' p q = qp_apart r r' (p.0 ∙ sym q.0)

@@ -1,5 +1,6 @@
 -- What deblocking does to the words: of every call that is accepted `done_after`, and of any two that differ in done bits at entry `done_before`.
 -- Assumes nothing.
+use Rattle.std.specs.Prelude.{Ok}
 use Prim.Native.Nat.{ℕ, ◌+◌, ◌-◌, ◌/◌, ◌≤◌, ◌<◌}
 use mathlib.Core.Path.{◌≡◌, sym, ap, ◌∙◌}
 use mathlib.Core.Bool.{true}
@@ -15,7 +16,6 @@ use Rattle.laws.proofs.Tabulate.{length_tabulate, get_d_tabulate}
 use Rattle.def.specs.Answers.{after_checks}
 use Rattle.def.specs.Picture.{unit_count}
 use Rattle.def.specs.Word.{intra_of, qp_of, coded_of, done_of, with_done}
-use Rattle.def.specs.declared.Answer.TheVariants.{Done}
 use Rattle.def.specs.declared.Component.{Component}
 use Rattle.def.specs.declared.Component.TheVariants.{Luma, Chroma}
 use Rattle.def.proofs.Words.{Alike, set_alike, done_set, set_keeps}
@@ -31,7 +31,7 @@ use Rattle.decoder.specs.Words.{DoneAfter, ButDone, lent_words, DoneBefore}
 
 -- ---- after it
 
-module _ (i : Input) (fine : check i ≡ Done) where
+module _ (i : Input) (fine : check i ≡ Ok tt) where
   after_words : (outcome i).words ≡ all_done i.words
   after_words = ap (λ (o : Outcome). o.words) (is_done i fine)
 

@@ -1,8 +1,7 @@
 -- From the driver to deblocking: what the one leaves of a picture, the other accepts, in both formats. The proof is `joined`, in proofs/.
 -- Assumes nothing: these are definitions.
-use Rattle.std.specs.Prelude.{◌*◌, true, ◌≡◌}
+use Rattle.std.specs.Prelude.{◌*◌, true, ◌≡◌, Ok}
 use Rattle.def.specs.Picture.{unit_count}
-use Rattle.def.specs.declared.Answer.TheVariants.{Done}
 use Rattle.driver_rules.specs.Call as driver
 use Rattle.df_check.specs.Checks as deblocking
 
@@ -29,4 +28,4 @@ pub record Lent (j : deblocking.Input) : Type 0 where
 
 -- then it is accepted, whatever QPs the leaf records hold
 abbrev pub Joined : Type 0
-Joined = (i : driver.Input) → driver.check i ≡ Done → (j : deblocking.Input) → Follows i j → Lent j → deblocking.check_of j ≡ Done
+Joined = (i : driver.Input) → driver.check i ≡ Ok tt → (j : deblocking.Input) → Follows i j → Lent j → deblocking.check_of j ≡ Ok tt

@@ -1,10 +1,9 @@
 -- What deblocking does to the words: every unit is done after it and no other bit of a word moves; and which units were done before counts for nothing.
 -- The proofs are `done_after` and `done_before`, in proofs/.
 -- Assumes nothing: these are definitions.
-use Rattle.std.specs.Prelude.{ℕ, ◌+◌, ◌≤◌, ◌<◌, true, List, ◌≡◌, length, get_or}
+use Rattle.std.specs.Prelude.{ℕ, ◌+◌, ◌≤◌, ◌<◌, true, List, ◌≡◌, length, get_or, Ok}
 use Rattle.laws.specs.Bits.{field_of}
 use Rattle.def.specs.Word.{done_of, with_done}
-use Rattle.def.specs.declared.Answer.TheVariants.{Done}
 use Rattle.df.specs.Deblock.{Input, check, outcome}
 
 -- of a call that is accepted
@@ -42,4 +41,4 @@ lent_words i l =
 -- both calls are refused alike or neither is, and where neither is all that they leave is the same
 pub record DoneBefore (i : Input) (l : List ℕ) : Type 0 where
   pub answer : check (lent_words i l) ≡ check i
-  pub all : check i ≡ Done → outcome (lent_words i l) ≡ outcome i
+  pub all : check i ≡ Ok tt → outcome (lent_words i l) ≡ outcome i

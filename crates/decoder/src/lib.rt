@@ -13,7 +13,7 @@
 //                       line, lanes, lanes_by_halves, window_luma, window_luma_two, window_kept, window_chroma, window_chroma_two, motion_row,
 //                       plan_edges, is_horizontal, filter_luma, filter_chroma
 //       edge rows       fill_rows, set_motion, set_flag, deblock_by_rows; row_at, rows_at, rows_right, checked_maps, checked_by_rows
-//     the sheet         read, listing
+//     the sheet         read, listing; all_between, number_in
 //     the compact map   put_map, get_map; take_map; write_to, write_map, read_from, read_map; get_bit, put_bit, bits_in
 //     a torn map        mend
 //     streams           read_header, write_header, read_frame, write_frame, import_frame
@@ -21,10 +21,9 @@
 // delta_out, checked_leaves, coded_y, coded_u, coded_v, mode_of, word_of, clear_words, tell_units, roots_along, root_leaves, root_list, list_marks, take_marks,
 // mark_place, mark_byte, root_count, checked, checked_band, band_ok, lent_rows, entries, mask_of, line, lanes, lanes_by_halves, window_luma, window_luma_two,
 // window_kept, window_chroma, window_chroma_two, motion_row, plan_edges, is_horizontal, filter_luma, filter_chroma, rows_at, checked_maps, checked_by_rows,
-// bits_in, read.
+// bits_in, read, all_between, number_in.
 #![tactic(auto)]
 
-pub use avail::Avail;
 pub use avail::Neighbours;
 pub use avail::get_avail_inter;
 pub use avail::get_avail_intra;
@@ -41,7 +40,6 @@ pub use chroma_qp_check::checked_points;
 pub use chroma_qp_check::delta_in;
 pub use chroma_qp_check::delta_out;
 pub use chroma_qp_check::start_qp;
-pub use def::Answer;
 pub use def::Component;
 pub use def::Format;
 pub use def::Pel;
@@ -67,7 +65,6 @@ pub use def::size_ok;
 pub use def::unit_ok;
 pub use df::Banded;
 pub use df::Bands;
-pub use df::Deblocked;
 pub use df::deblock;
 pub use df::deblock_by_rows;
 pub use df_check::Settings;
@@ -96,18 +93,15 @@ pub use line::Quad;
 pub use line::line;
 pub use line::mask_of;
 pub use line::motion_row;
-pub use marks::Marked;
 pub use marks::list_marks;
 pub use marks::mark_byte;
 pub use marks::mark_place;
 pub use marks::root_count;
 pub use marks::take_marks;
-pub use mend::Mended;
 pub use mend::mend;
 pub use mpm::get_mpm;
 pub use mpm::get_mpm_number;
 pub use nbr::get_nbr;
-pub use pack::Placed;
 pub use pack::bits_in;
 pub use pack::put_map;
 pub use pack_parts::Reader;
@@ -116,7 +110,6 @@ pub use pack_parts::read_from;
 pub use pack_parts::read_map;
 pub use pack_parts::write_map;
 pub use pack_parts::write_to;
-pub use rank::Rank;
 pub use rank::visiting_rank;
 pub use recon::recon;
 pub use recon::recon_plane;
@@ -126,12 +119,13 @@ pub use rows::checked_maps;
 pub use rows::fill_rows;
 pub use rows::rows_right;
 pub use samples::samples_ok;
-pub use sheet::Printed;
 pub use sheet::listing;
+pub use sheet_lines::Malformed;
 pub use sheet_lines::Sheet;
+pub use sheet_lines::all_between;
+pub use sheet_lines::number_in;
 pub use sheet_lines::read;
-pub use split::Listed;
-pub use split::Walked;
+pub use split::EdgeCounts;
 pub use split::check;
 pub use split::leaves;
 pub use split::root_leaves;
@@ -150,11 +144,10 @@ pub use window::window_kept;
 pub use window::window_luma;
 pub use window::window_luma_two;
 pub use y4m::import_frame;
-pub use y4m_frame::FrameRead;
 pub use y4m_frame::read_frame;
 pub use y4m_frame_out::write_frame;
-pub use y4m_header::HeaderRead;
+pub use y4m_header::Header;
 pub use y4m_header::read_header;
-pub use y4m_header_out::HeaderWritten;
 pub use y4m_header_out::write_header;
+pub use y4m_rules::Misread;
 pub use y4m_rules::Said;

@@ -1,5 +1,6 @@
 -- Deblocking's promise, read in numbers.
 -- Assumes nothing.
+use Rattle.std.specs.Prelude.{Result}
 use Prim.Native.Nat.{ℕ}
 use mathlib.Core.Path.{◌≡◌, ap, ◌∙◌}
 use mathlib.Core.List.{List}
@@ -7,10 +8,11 @@ use Rattle.df_check.specs.declared.Settings.{Settings}
 use Rattle.df.specs.Band as banding
 use Rattle.df.specs.ByRows as rowing
 use Rattle.df.specs.Deblock as deblocking
-use Rattle.df.specs.declared.Deblocked.{Deblocked}
 use Rattle.df.specs.declared.band.Banded.{Banded}
+use Rattle.def.specs.declared.Refusal.{Refusal}
+use Rattle.split.specs.declared.EdgeCounts.{EdgeCounts}
 
-abbrev Numbers : Deblocked → ℕ → ℕ → ℕ → Type 0
+abbrev Numbers : Result EdgeCounts Refusal → ℕ → ℕ → ℕ → Type 0
 Numbers a n v h = (n ≡ (deblocking.reading_of a).number) × (v ≡ (deblocking.reading_of a).vertical) × (h ≡ (deblocking.reading_of a).horizontal)
 
 -- the input with other settings
@@ -32,14 +34,14 @@ with i s = record {
   settings = s;
 }
 
-pub deblocked_gives : (i : deblocking.Input) (s : Settings) (a : Deblocked) (n vertical horizontal : ℕ) (y u v words : List ℕ) → s ≡ i.settings
+pub deblocked_gives : (i : deblocking.Input) (s : Settings) (a : Result EdgeCounts Refusal) (n vertical horizontal : ℕ) (y u v words : List ℕ) → s ≡ i.settings
     → record { reading = deblocking.reading_of a; y = y; u = u; v = v; words = words } ≡ deblocking.outcome (with i s) → Numbers a n vertical horizontal
     → record { reading = record { number = n; vertical = vertical; horizontal = horizontal }; y = y; u = u; v = v; words = words } ≡ deblocking.outcome i
 deblocked_gives i s a n vertical horizontal y u v words q p e = rw (e.0, e.1, e.2) (p ∙ ap (λ (t : Settings). deblocking.outcome (with i t)) q)
 
 -- ---- by a map of edge rows
 
-pub rowed_gives : (i : rowing.Input) (s : Settings) (a : Deblocked) (n vertical horizontal : ℕ) (y u v words : List ℕ) → s ≡ i.given.settings
+pub rowed_gives : (i : rowing.Input) (s : Settings) (a : Result EdgeCounts Refusal) (n vertical horizontal : ℕ) (y u v words : List ℕ) → s ≡ i.given.settings
     → record { reading = deblocking.reading_of a; y = y; u = u; v = v; words = words } ≡ rowing.outcome (record { given = with i.given s; rows = i.rows }) → Numbers a n vertical horizontal
     → record { reading = record { number = n; vertical = vertical; horizontal = horizontal }; y = y; u = u; v = v; words = words } ≡ rowing.outcome i
 rowed_gives i s a n vertical horizontal y u v words q p e =

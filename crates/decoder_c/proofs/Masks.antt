@@ -3,6 +3,7 @@
 --     masked_gives    a call's promise, read in numbers
 --     mask_apart    the byte tells all eight answers apart
 -- Assumes nothing.
+use Rattle.std.specs.Prelude.{Ok, Err, Result}
 use Prim.Native.Nat.{ℕ, ◌+◌, ◌*◌, ◌≤◌}
 use mathlib.Core.Path.{◌≡◌, refl}
 use mathlib.Core.Bool.{Bool, true, false}
@@ -11,21 +12,19 @@ use Rattle.def.specs.Refusals.{number_of}
 use Rattle.def.specs.Word.{bit}
 use Rattle.def.specs.declared.Refusal.{Refusal}
 use Rattle.avail.specs.Calls as calls
-use Rattle.avail.specs.declared.Avail.{Avail}
-use Rattle.avail.specs.declared.Avail.TheVariants.{Done, Refused}
 use Rattle.avail.specs.declared.Neighbours.{Neighbours}
 use Rattle.decoder_c.specs.Masks.{byte_of, masked_of}
 
-abbrev Numbers : Avail → ℕ → ℕ → Type 0
+abbrev Numbers : Result Neighbours Refusal → ℕ → ℕ → Type 0
 Numbers a n m = (n ≡ (calls.reading_of a).number) × (m ≡ byte_of (calls.reading_of a).neighbours)
 
-pub masked_done : (a : Avail) (found : Neighbours) (m : ℕ) → a ≡ Done found → m ≡ byte_of found → Numbers a 0 m
+pub masked_done : (a : Result Neighbours Refusal) (found : Neighbours) (m : ℕ) → a ≡ Ok found → m ≡ byte_of found → Numbers a 0 m
 masked_done a found m q e = rw q (refl, e)
 
-pub masked_refused : (a : Avail) (r : Refusal) (n : ℕ) → a ≡ Refused r → n ≡ number_of r → Numbers a n 0
+pub masked_refused : (a : Result Neighbours Refusal) (r : Refusal) (n : ℕ) → a ≡ Err r → n ≡ number_of r → Numbers a n 0
 masked_refused a r n q e = rw q (e, refl)
 
-pub masked_gives : (a : Avail) (o : calls.Outcome) (n m : ℕ) → record { reading = calls.reading_of a } ≡ o → Numbers a n m → record { number = n; neighbours = m } ≡ masked_of o.reading
+pub masked_gives : (a : Result Neighbours Refusal) (o : calls.Outcome) (n m : ℕ) → record { reading = calls.reading_of a } ≡ o → Numbers a n m → record { number = n; neighbours = m } ≡ masked_of o.reading
 masked_gives a o n m p e = rw (← p, e.0, e.1) refl
 
 -- ---- the bits, one after the other

@@ -1,5 +1,6 @@
 -- The copied ranks: what the checks that passed say, and that the part of the table is the five bytes.
 -- Assumes nothing.
+use Rattle.std.specs.Prelude.{Ok, Err}
 use Prim.Native.Nat.{ℕ}
 use mathlib.Core.Path.{◌≡◌, refl, ap, ◌∙◌}
 use mathlib.Core.Bool.{Bool, true, false}
@@ -11,8 +12,7 @@ use Rattle.laws.specs.Call.{unless}
 use Rattle.def.specs.Answers.{answer_number}
 use Rattle.def.specs.Picture.{size_ok}
 use Rattle.def.specs.Refusals.{number_of}
-use Rattle.def.specs.declared.Answer.{Answer}
-use Rattle.def.specs.declared.Answer.TheVariants.{Done, Refused}
+use Rattle.def.specs.Answers.{Answer}
 use Rattle.def.specs.declared.Refusal.{Refusal}
 use Rattle.def.specs.declared.Refusal.TheVariants.{Size, Length}
 use Rattle.def.proofs.Answers.{answer_apart, number_some}
@@ -25,21 +25,21 @@ pub found : (i : lookup.Input) (a : Answer) → record { number = answer_number 
 unfolding lookup.number_outcome
 found i a e = answer_apart a (lookup.check i) (ap (λ (o : lookup.Outcome). o.number) e)
 
-other_number : (r : Refusal) → Refused r ≡ Done → ⊥
+other_number : (r : Refusal) → ◌≡◌ {A = Answer} (Err r) (Ok tt) → ⊥
 other_number r e = let n : number_of r ≡ 0 = ap answer_number e in omega (arith, number_some r)
 
-passed : (a b : Bool) (k : Answer) → unless a (Refused Size) (unless b (Refused Length) k) ≡ Done → (b ≡ true) × (k ≡ Done)
+passed : (a b : Bool) (k : Answer) → unless a (Err Size) (unless b (Err Length) k) ≡ Ok tt → (b ≡ true) × (k ≡ Ok tt)
 passed true true k e = (refl, e)
 passed true false k e = absurd (other_number Length e)
 passed false b k e = absurd (other_number Size e)
 
 -- past the checks: the slice that is written holds five, and the lookup accepts
-pub accepted : (i : lookup.Input) (n : ℕ) → check_of i n ≡ Done → (n ≡ 5) × (lookup.check i ≡ Done)
+pub accepted : (i : lookup.Input) (n : ℕ) → check_of i n ≡ Ok tt → (n ≡ 5) × (lookup.check i ≡ Ok tt)
 unfolding check_of
 accepted i n e = let p = passed (size_ok i.w i.h) (eqb n 5) (lookup.check i) e in (eqb-true n 5 p.0, p.1)
 
 -- the part then has five bytes, and they are the ranks
-module _ (i : lookup.PartInput) (p : lookup.Part) (gives : p ≡ lookup.part_outcome i) (ok : lookup.check i.input ≡ Done) where
+module _ (i : lookup.PartInput) (p : lookup.Part) (gives : p ≡ lookup.part_outcome i) (ok : lookup.check i.input ≡ Ok tt) where
   none_refused : (lookup.number_outcome i.input).number ≡ 0
   unfolding lookup.number_outcome
   none_refused = rw ok refl

@@ -1,14 +1,13 @@
 -- The mode ranks for C: the five bytes of the rank table, copied into a lent slice of five.
 -- Assumes nothing: these are definitions.
-use Rattle.std.specs.Prelude.{ℕ, List, eqb, length, take, drop}
+use Rattle.std.specs.Prelude.{ℕ, List, eqb, length, take, drop, Err}
 use Rattle.laws.specs.Call.{unless}
 use Rattle.def.specs.Answers.{after_checks}
 use Rattle.def.specs.Picture.{size_ok}
 use Rattle.def.specs.Refusals.{number_of}
 use Rattle.def.specs.declared.Refusal.{Refusal}
 use Rattle.def.specs.declared.Refusal.TheVariants.{Size, Length}
-use Rattle.def.specs.declared.Answer.{Answer}
-use Rattle.def.specs.declared.Answer.TheVariants.{Refused}
+use Rattle.def.specs.Answers.{Answer}
 use Rattle.mpm.specs.Ranks as lookup
 
 pub record Input : Type 0 where
@@ -22,8 +21,8 @@ pub record Outcome : Type 0 where
 -- the lookup's own checks, and the length of the slice that is written among its lengths
 unfoldable pub check_of : lookup.Input → ℕ → Answer
 check_of i ranks =
-    unless (size_ok i.w i.h) (Refused Size)
-    (unless (eqb ranks 5) (Refused Length)
+    unless (size_ok i.w i.h) (Err Size)
+    (unless (eqb ranks 5) (Err Length)
     (lookup.check i))
 
 -- the five ranks that the lookup answers as a part of the table

@@ -16,10 +16,13 @@ pub extern "C" fn lomsakeun_put_map(
         (record { w = w; h = h; splits = splits.now; buf = buf.old; at = at.old })
         (record { number = result; at = at.new; buf = buf.new }) }
 {
-    let seen = pack::put_map(w, h, splits, buf, *at);
-    *at = seen.at;
-    let answer = seen.answer;
-    def::answer_number(answer)
+    match pack::put_map(w, h, splits, buf, *at) {
+        Ok(next) => {
+            *at = next;
+            0
+        }
+        Err(r) => def::refusal_number(r),
+    }
 }
 
 #[unsafe(no_mangle)]
@@ -34,8 +37,11 @@ pub extern "C" fn lomsakeun_get_map(
         (record { w = w; h = h; src = src.now; at = at.old; map = map.old })
         (record { number = result; at = at.new; map = map.new }) }
 {
-    let seen = unpack::get_map(w, h, src, *at, map);
-    *at = seen.at;
-    let answer = seen.answer;
-    def::answer_number(answer)
+    match unpack::get_map(w, h, src, *at, map) {
+        Ok(next) => {
+            *at = next;
+            0
+        }
+        Err(r) => def::refusal_number(r),
+    }
 }

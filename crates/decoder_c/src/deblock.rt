@@ -7,8 +7,10 @@ ghost use Rattle.df.specs.Deblock as deblocking;
 ghost use Rattle.decoder_c.specs.Flags.{settings_of};
 
 use crate::format_of;
-use df::{Banded, Bands, Deblocked};
+use def::Refusal;
+use df::{Banded, Bands};
 use df_check::Settings;
+use split::EdgeCounts;
 
 fn settings_of(limit: u8, u_offset: i8, v_offset: i8, colour: bool) -> Settings
     ensures { result ≡ settings_of limit u_offset v_offset colour }
@@ -30,19 +32,16 @@ struct Counts {
     horizontal: usize,
 }
 
-fn counts_of(a: Deblocked) -> Counts
+fn counts_of(a: Result<EdgeCounts, Refusal>) -> Counts
     ensures { (result.number ≡ (deblocking.reading_of a).number) × (result.vertical ≡ (deblocking.reading_of a).vertical) × (result.horizontal ≡ (deblocking.reading_of a).horizontal) }
 {
     match a {
-        Deblocked::Done {
-            vertical,
-            horizontal,
-        } => Counts {
+        Ok(counts) => Counts {
             number: 0,
-            vertical,
-            horizontal,
+            vertical: counts.vertical,
+            horizontal: counts.horizontal,
         },
-        Deblocked::Refused(r) => Counts {
+        Err(r) => Counts {
             number: def::refusal_number(r),
             vertical: 0,
             horizontal: 0,
@@ -178,22 +177,19 @@ struct BandCounts {
 fn band_counts_of(a: Banded) -> BandCounts
     ensures { (result.number ≡ (banding.reading_of a).number) × (result.vertical ≡ (banding.reading_of a).vertical) × (result.horizontal ≡ (banding.reading_of a).horizontal) × (result.next ≡ (banding.reading_of a).next) }
 {
-    match a {
-        Banded::Done {
-            vertical,
-            horizontal,
-            next,
-        } => BandCounts {
+    let next = a.next.next;
+    match a.counts {
+        Ok(counts) => BandCounts {
             number: 0,
-            vertical,
-            horizontal,
-            next: next.next,
+            vertical: counts.vertical,
+            horizontal: counts.horizontal,
+            next,
         },
-        Banded::Refused(r, at) => BandCounts {
+        Err(r) => BandCounts {
             number: def::refusal_number(r),
             vertical: 0,
             horizontal: 0,
-            next: at.next,
+            next,
         },
     }
 }

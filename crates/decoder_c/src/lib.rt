@@ -4,8 +4,9 @@
 
 ghost use Rattle.std.specs.Prelude.{◌≡◌};
 ghost use Rattle.decoder_c.specs.Flags.{component_of, format_of};
+ghost use Rattle.decoder_c.specs.Numbers.{number_in};
 
-use def::{Component, Format};
+use def::{Component, Format, Refusal};
 
 mod blocks;
 mod chroma;
@@ -17,6 +18,16 @@ mod reconstruct;
 mod screen;
 mod streams;
 mod tree;
+
+// The number of an answer: 0 is done.
+fn number_of<T: Copy>(answer: Result<T, Refusal>) -> u8
+    ensures { result ≡ number_in answer }
+{
+    match answer {
+        Ok(_) => 0,
+        Err(r) => def::refusal_number(r),
+    }
+}
 
 // A component by its flag.
 fn component(chroma: bool) -> Component

@@ -6,8 +6,8 @@ ghost use Rattle.avail.specs.Calls.{reading_of};
 ghost use Rattle.decoder_c.specs.Masks.{byte_of, intra_outcome, inter_outcome};
 ghost use Rattle.decoder_c.specs.Ranks as ranked;
 
-use avail::{Avail, Neighbours};
-use def::{Answer, Pel, Refusal, Scu};
+use avail::Neighbours;
+use def::{Pel, Refusal, Scu};
 
 // ---- availability
 
@@ -34,15 +34,15 @@ struct Masked {
     mask: u8,
 }
 
-fn in_numbers(a: Avail) -> Masked
+fn in_numbers(a: Result<Neighbours, Refusal>) -> Masked
     ensures { (result.number ≡ (reading_of a).number) × (result.mask ≡ byte_of (reading_of a).neighbours) }
 {
     match a {
-        Avail::Done(n) => Masked {
+        Ok(n) => Masked {
             number: 0,
             mask: byte_of(n),
         },
-        Avail::Refused(r) => Masked {
+        Err(r) => Masked {
             number: def::refusal_number(r),
             mask: 0,
         },
@@ -99,28 +99,16 @@ fn ranks_checked(
     x: usize,
     y: usize,
     ranks: usize,
-) -> Answer
+) -> Result<(), Refusal>
     ensures { result ≡ ranked.check_of (record { w = w; h = h; words = words.now; modes = modes.now; table = table.now; x = x; y = y }) ranks }
 {
     if !def::size_ok(w, h) {
-        return Answer::Refused(Refusal::Size);
+        return Err(Refusal::Size);
     }
     if ranks != 5 {
-        return Answer::Refused(Refusal::Length);
+        return Err(Refusal::Length);
     }
     mpm::get_mpm_number(w, h, words, modes, table, Scu(x), Scu(y))
-}
-
-// A part's bytes, into a slice of its length.
-fn copy(part: &[u8], out: &mut [u8])
-    requires { length part.now ≡ length out.old }
-    ensures { out.new ≡ part.now }
-{
-    let mut k = 0;
-    while k < part.len() {
-        out[k] = part[k];
-        k += 1;
-    }
 }
 
 // A part of the lent table cannot be answered to C: its five bytes are copied.
@@ -140,12 +128,9 @@ pub extern "C" fn lomsakeun_get_mpm(
         (record { number = result; ranks = ranks.new }) }
 {
     match ranks_checked(w, h, words, modes, table, x, y, ranks.len()) {
-        Answer::Refused(r) => def::refusal_number(r),
-        Answer::Done => {
-            copy(
-                mpm::get_mpm(w, h, words, modes, table, Scu(x), Scu(y)),
-                ranks,
-            );
+        Err(r) => def::refusal_number(r),
+        Ok(()) => {
+            ranks.copy_from_slice(mpm::get_mpm(w, h, words, modes, table, Scu(x), Scu(y)));
             0
         }
     }

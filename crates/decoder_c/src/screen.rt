@@ -32,17 +32,19 @@ struct Seen {
 fn row_numbers(r: Rowed) -> Seen
     ensures { seen_of result ≡ numbers_of (call.reading_of r) }
 {
-    match r {
-        Rowed::Given(t, written) => Seen {
+    let plane = r.next.plane;
+    let row = r.next.row;
+    match r.written {
+        Ok(written) => Seen {
             number: 0,
-            plane: t.plane,
-            row: t.row,
+            plane,
+            row,
             written,
         },
-        Rowed::Refused(r, t) => Seen {
+        Err(r) => Seen {
             number: def::refusal_number(r),
-            plane: t.plane,
-            row: t.row,
+            plane,
+            row,
             written: 0,
         },
     }

@@ -9,10 +9,10 @@ ghost use Rattle.y4m.specs.Import as importing;
 ghost use Rattle.decoder_c.specs.Flags.{format_of};
 ghost use Rattle.decoder_c.specs.Streams.{heading_of, framed_of};
 
-use crate::format_of;
-use y4m_frame::FrameRead;
-use y4m_header::HeaderRead;
-use y4m_header_out::HeaderWritten;
+use crate::{format_of, number_of};
+use def::Refusal;
+use y4m_header::Header;
+use y4m_rules::Misread;
 
 // ---- answers in numbers: a value is 0 where refused
 
@@ -30,44 +30,30 @@ struct Heading {
 }
 
 #[derive(Drop)]
-struct Written {
-    number: u8,
-    count: usize,
-}
-
-#[derive(Drop)]
 struct Framed {
     number: u8,
     at: usize,
     next: usize,
 }
 
-fn header_numbers(r: HeaderRead) -> Heading
+fn header_numbers(r: Result<Header, Misread>) -> Heading
     ensures { heading_of result ≡ heading.reading_of r }
 {
     match r {
-        HeaderRead::Read {
-            w,
-            h,
-            f,
-            g,
-            a,
-            b,
-            next,
-        } => Heading {
+        Ok(p) => Heading {
             number: 0,
             at: 0,
-            w,
-            h,
-            f,
-            g,
-            a,
-            b,
-            next,
+            w: p.w,
+            h: p.h,
+            f: p.f,
+            g: p.g,
+            a: p.a,
+            b: p.b,
+            next: p.next,
         },
-        HeaderRead::Refused(r, at) => Heading {
-            number: def::refusal_number(r),
-            at,
+        Err(m) => Heading {
+            number: def::refusal_number(m.refusal),
+            at: m.at,
             w: 0,
             h: 0,
             f: 0,
@@ -79,30 +65,18 @@ fn header_numbers(r: HeaderRead) -> Heading
     }
 }
 
-fn written_numbers(r: HeaderWritten) -> Written
-    ensures { (result.number ≡ (writing.reading_of r).number) × (result.count ≡ (writing.reading_of r).count) }
-{
-    match r {
-        HeaderWritten::Written(count) => Written { number: 0, count },
-        HeaderWritten::Refused(r) => Written {
-            number: def::refusal_number(r),
-            count: 0,
-        },
-    }
-}
-
-fn frame_numbers(r: FrameRead) -> Framed
+fn frame_numbers(r: Result<usize, Misread>) -> Framed
     ensures { framed_of result ≡ framing.reading_of r }
 {
     match r {
-        FrameRead::Read(next) => Framed {
+        Ok(next) => Framed {
             number: 0,
             at: 0,
             next,
         },
-        FrameRead::Refused(r, at) => Framed {
-            number: def::refusal_number(r),
-            at,
+        Err(m) => Framed {
+            number: def::refusal_number(m.refusal),
+            at: m.at,
             next: 0,
         },
     }
@@ -154,18 +128,9 @@ pub extern "C" fn lomsakeun_write_header(
         (record { format = format_of colour; w = w; h = h; f = f; g = g; a = a; b = b; out = out.old })
         (record { reading = record { number = result; count = count.new }; out = out.new }) }
 {
-    let seen = written_numbers(y4m_header_out::write_header(
-        format_of(colour),
-        w,
-        h,
-        f,
-        g,
-        a,
-        b,
-        out,
-    ));
-    *count = seen.count;
-    seen.number
+    let written = y4m_header_out::write_header(format_of(colour), w, h, f, g, a, b, out);
+    *count = written.unwrap_or(0);
+    number_of(written)
 }
 
 #[unsafe(no_mangle)]

@@ -8,25 +8,11 @@ ghost use Rattle.split.specs.LeavesCall as meeting;
 ghost use Rattle.split.specs.ListCall as listing;
 ghost use Rattle.sheet.specs.Listing as printing;
 
-use def::{Pel, Scu};
-use mend::Mended;
-use rank::Rank;
-use sheet::Printed;
-use split::{Listed, Walked};
+use crate::number_of;
+use def::{Pel, Refusal, Scu};
+use split::EdgeCounts;
 
 // ---- answers in numbers: a value is 0 where refused
-
-#[derive(Drop)]
-struct Counted {
-    number: u8,
-    count: usize,
-}
-
-#[derive(Drop)]
-struct Ranked {
-    number: u8,
-    rank: u8,
-}
 
 #[derive(Drop)]
 struct Lengths {
@@ -35,67 +21,16 @@ struct Lengths {
     horizontal: usize,
 }
 
-fn walk_numbers(a: Walked) -> Counted
-    ensures { (result.number ≡ (meeting.reading_of a).number) × (result.count ≡ (meeting.reading_of a).count) }
-{
-    match a {
-        Walked::Done(count) => Counted { number: 0, count },
-        Walked::Refused(r) => Counted {
-            number: def::refusal_number(r),
-            count: 0,
-        },
-    }
-}
-
-fn mend_numbers(a: Mended) -> Counted
-    ensures { (result.number ≡ (mending.reading_of a).number) × (result.count ≡ (mending.reading_of a).count) }
-{
-    match a {
-        Mended::Done(count) => Counted { number: 0, count },
-        Mended::Refused(r) => Counted {
-            number: def::refusal_number(r),
-            count: 0,
-        },
-    }
-}
-
-fn text_numbers(a: Printed) -> Counted
-    ensures { (result.number ≡ (printing.reading_of a).number) × (result.count ≡ (printing.reading_of a).length) }
-{
-    match a {
-        Printed::Done(count) => Counted { number: 0, count },
-        Printed::Refused(r) => Counted {
-            number: def::refusal_number(r),
-            count: 0,
-        },
-    }
-}
-
-fn rank_numbers(a: Rank) -> Ranked
-    ensures { (result.number ≡ (ranking.reading_of a).number) × (result.rank ≡ (ranking.reading_of a).rank) }
-{
-    match a {
-        Rank::Done(rank) => Ranked { number: 0, rank },
-        Rank::Refused(r) => Ranked {
-            number: def::refusal_number(r),
-            rank: 0,
-        },
-    }
-}
-
-fn list_numbers(a: Listed) -> Lengths
+fn list_numbers(a: Result<EdgeCounts, Refusal>) -> Lengths
     ensures { (result.number ≡ (listing.reading_of a).number) × (result.vertical ≡ (listing.reading_of a).vertical) × (result.horizontal ≡ (listing.reading_of a).horizontal) }
 {
     match a {
-        Listed::Done {
-            vertical,
-            horizontal,
-        } => Lengths {
+        Ok(counts) => Lengths {
             number: 0,
-            vertical,
-            horizontal,
+            vertical: counts.vertical,
+            horizontal: counts.horizontal,
         },
-        Listed::Refused(r) => Lengths {
+        Err(r) => Lengths {
             number: def::refusal_number(r),
             vertical: 0,
             horizontal: 0,
@@ -126,9 +61,9 @@ pub extern "C" fn lomsakeun_leaves(
         (record { w = w; h = h; splits = splits.now; x = x; y = y; out = out.old })
         (record { reading = record { number = result; count = count.new }; out = out.new }) }
 {
-    let seen = walk_numbers(split::leaves(w, h, splits, Pel(x), Pel(y), out));
-    *count = seen.count;
-    seen.number
+    let met = split::leaves(w, h, splits, Pel(x), Pel(y), out);
+    *count = met.unwrap_or(0);
+    number_of(met)
 }
 
 #[unsafe(no_mangle)]
@@ -144,18 +79,18 @@ pub extern "C" fn lomsakeun_mend(
         (record { w = w; h = h; splits = splits.now; out = out.old; list = list.old })
         (record { reading = record { number = result; count = count.new }; out = out.new; list = list.new }) }
 {
-    let seen = mend_numbers(mend::mend(w, h, splits, out, list));
-    *count = seen.count;
-    seen.number
+    let mended = mend::mend(w, h, splits, out, list);
+    *count = mended.unwrap_or(0);
+    number_of(mended)
 }
 
 #[unsafe(no_mangle)]
 pub extern "C" fn lomsakeun_visiting_rank(x: usize, y: usize, rank: &mut u8) -> u8
     ensures { Gives ranking.outcome (record { x = x; y = y }) (record { reading = record { number = result; rank = rank.new } }) }
 {
-    let seen = rank_numbers(rank::visiting_rank(Scu(x), Scu(y)));
-    *rank = seen.rank;
-    seen.number
+    let found = rank::visiting_rank(Scu(x), Scu(y));
+    *rank = found.unwrap_or(0);
+    number_of(found)
 }
 
 #[unsafe(no_mangle)]
@@ -185,7 +120,7 @@ pub extern "C" fn lomsakeun_listing(input: &[u8], out: &mut [u8], length: &mut u
         (record { input = input.entry.now; out = out.old })
         (record { reading = record { number = result; length = length.new }; out = out.new }) }
 {
-    let seen = text_numbers(sheet::listing(input, out));
-    *length = seen.count;
-    seen.number
+    let written = sheet::listing(input, out);
+    *length = written.unwrap_or(0);
+    number_of(written)
 }

@@ -2,6 +2,7 @@
 --     number_apart, number_some, answer_apart
 --     on_refusal, on_done
 -- Assumes nothing.
+use Rattle.std.specs.Prelude.{Ok, Err}
 use Prim.Native.Nat.{ℕ, zero, suc, ◌<◌}
 use mathlib.Core.Path.{◌≡◌, refl, sym, ap, ◌∙◌}
 use mathlib.Core.List.{List, [], ◌∷◌}
@@ -12,41 +13,40 @@ use Rattle.def.specs.Refusals.{number_of}
 use Rattle.def.specs.declared.Refusal.{Refusal}
 use Rattle.def.specs.declared.Refusal.TheVariants.{Size, Length, Setting, Split, Leaf, Qp, Sample, Block, Mode, Points, Pivot, Sheet, Record, Band, Keep, Bits}
 use Rattle.def.specs.declared.Refusal.TheVariants.{Stream, Short, Rows, Old, Window, Turn}
-use Rattle.def.specs.declared.Answer.{Answer}
-use Rattle.def.specs.declared.Answer.TheVariants.{Done, Refused}
+use Rattle.def.specs.Answers.{Answer}
 
 -- the answers by their numbers
 abbrev answers : List Answer
 answers =
-    Done
-    ∷ Refused Size
-    ∷ Refused Length
-    ∷ Refused Setting
-    ∷ Refused Split
-    ∷ Refused Leaf
-    ∷ Refused Qp
-    ∷ Refused Sample
-    ∷ Refused Block
-    ∷ Refused Mode
-    ∷ Refused Points
-    ∷ Refused Pivot
-    ∷ Refused Sheet
-    ∷ Refused Record
-    ∷ Refused Band
-    ∷ Refused Keep
-    ∷ Refused Bits
-    ∷ Refused Stream
-    ∷ Refused Short
-    ∷ Refused Rows
-    ∷ Refused Old
-    ∷ Refused Window
-    ∷ Refused Turn
+    Ok tt
+    ∷ Err Size
+    ∷ Err Length
+    ∷ Err Setting
+    ∷ Err Split
+    ∷ Err Leaf
+    ∷ Err Qp
+    ∷ Err Sample
+    ∷ Err Block
+    ∷ Err Mode
+    ∷ Err Points
+    ∷ Err Pivot
+    ∷ Err Sheet
+    ∷ Err Record
+    ∷ Err Band
+    ∷ Err Keep
+    ∷ Err Bits
+    ∷ Err Stream
+    ∷ Err Short
+    ∷ Err Rows
+    ∷ Err Old
+    ∷ Err Window
+    ∷ Err Turn
     ∷ []
 
 abbrev answer_of : ℕ → Answer
-answer_of n = get_or answers n Done
+answer_of n = get_or answers n (Ok tt)
 
-refusal_back : (r : Refusal) → answer_of (number_of r) ≡ Refused r
+refusal_back : (r : Refusal) → answer_of (number_of r) ≡ Err r
 refusal_back Size = refl
 refusal_back Length = refl
 refusal_back Setting = refl
@@ -71,27 +71,27 @@ refusal_back Window = refl
 refusal_back Turn = refl
 
 back : (a : Answer) → answer_of (answer_number a) ≡ a
-back Done = refl
-back (Refused r) = refusal_back r
+back (Ok _) = refl
+back (Err r) = refusal_back r
 
 pub answer_apart : (a b : Answer) → answer_number a ≡ answer_number b → a ≡ b
 answer_apart a b e = sym (back a) ∙ ap answer_of e ∙ back b
 
 pub number_apart : (a b : Refusal) → number_of a ≡ number_of b → a ≡ b
-number_apart a b e = let p : Refused a ≡ Refused b = answer_apart (Refused a) (Refused b) e in cc
+number_apart a b e = let p : Err a ≡ Err b = answer_apart (Err a) (Err b) e in cc
 
 -- no refusal has the number 0
 pub number_some : (r : Refusal) → 0 < number_of r
 number_some r = positive (number_of r) (refusal_back r) where
-  positive : (n : ℕ) → answer_of n ≡ Refused r → 0 < n
+  positive : (n : ℕ) → answer_of n ≡ Err r → 0 < n
   positive zero e = absurd (let z : ◌≡◌ {A = ℕ} 0 1 = cc in omega arith)
   positive (suc n) e = omega arith
 
 -- ---- a call's outcome. a is what the checks answered, and k what the rule's checks find
 
 module _ {O : Type 0} (refused : Refusal → O) (done : O) where
-  pub on_refusal : (a k : Answer) (r : Refusal) → a ≡ k → a ≡ Refused r → refused r ≡ after_checks refused done k
+  pub on_refusal : (a k : Answer) (r : Refusal) → a ≡ k → a ≡ Err r → refused r ≡ after_checks refused done k
   on_refusal a k r e q = rw (sym e ∙ q)
 
-  pub on_done : (a k : Answer) (o : O) → a ≡ k → a ≡ Done → o ≡ done → o ≡ after_checks refused done k
+  pub on_done : (a k : Answer) (o : O) → a ≡ k → a ≡ Ok tt → o ≡ done → o ≡ after_checks refused done k
   on_done a k o e q p = rw (sym e ∙ q) p

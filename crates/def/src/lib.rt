@@ -180,100 +180,70 @@ pub fn unit_ok(w: usize, h: usize, x: Scu, y: Scu) -> bool
 
 // ---- refusals
 
-// Why a call was refused: a variant for each number.
-#[derive(Clone, Copy)]
+// Why a call was refused: a variant for each number of the paper.
+#[derive(Clone, Copy, Debug, PartialEq, Eq)]
 pub enum Refusal {
-    // 1: a side of the picture
-    Size,
-    // 2: a lent slice's length
-    Length,
-    // 3: the transform limit, an offset, a number outside its range, or a format
-    Setting,
-    // 4: a split byte that the walk reached
-    Split,
-    // 5: a leaf that reaches past the picture
-    Leaf,
-    // 6: a QP
-    Qp,
-    // 7: a sample over 1023
-    Sample,
-    // 8: a block's or a unit's place, or a side
-    Block,
-    // 9: a mode
-    Mode,
-    // 10: the chroma points' count, or an a below 0
-    Points,
-    // 11: a pivot outside -12..57
-    Pivot,
-    // 12: a malformed sheet
-    Sheet,
-    // 13: the leaf list, the residual list, a mask or a spare byte
-    Record,
-    // 14: a band that is not the position's next, or past the last
-    Band,
-    // 15: a byte of the keep map
-    Keep,
-    // 16: the bits of a compact split map, or the room for them
-    Bits,
-    // 17: a malformed header or frame line of a stream
-    Stream,
-    // 18: a stream that ends before its frame does
-    Short,
-    // 19: a map of edge rows that differs from the rule
-    Rows,
-    // 20: a sheet of the time when V read table 0 on vertical edges
-    Old,
-    // 21: a window of the screen: its edges, or none, or outside
-    Window,
-    // 22: a row of the screen out of turn
-    Turn,
+    // a side of the picture
+    Size = 1,
+    // a lent slice's length
+    Length = 2,
+    // the transform limit, an offset, a number outside its range, or a format
+    Setting = 3,
+    // a split byte that the walk reached
+    Split = 4,
+    // a leaf that reaches past the picture
+    Leaf = 5,
+    // a QP
+    Qp = 6,
+    // a sample over 1023
+    Sample = 7,
+    // a block's or a unit's place, or a side
+    Block = 8,
+    // a mode
+    Mode = 9,
+    // the chroma points' count, or an a below 0
+    Points = 10,
+    // a pivot outside -12..57
+    Pivot = 11,
+    // a malformed sheet
+    Sheet = 12,
+    // the leaf list, the residual list, a mask or a spare byte
+    Record = 13,
+    // a band that is not the position's next, or past the last
+    Band = 14,
+    // a byte of the keep map
+    Keep = 15,
+    // the bits of a compact split map, or the room for them
+    Bits = 16,
+    // a malformed header or frame line of a stream
+    Stream = 17,
+    // a stream that ends before its frame does
+    Short = 18,
+    // a map of edge rows that differs from the rule
+    Rows = 19,
+    // a sheet of the time when V read table 0 on vertical edges
+    Old = 20,
+    // a window of the screen: its edges, or none, or outside
+    Window = 21,
+    // a row of the screen out of turn
+    Turn = 22,
 }
 
 // The number of a refusal.
 pub fn refusal_number(r: Refusal) -> u8
     ensures { result ≡ number_of r }
 {
-    match r {
-        Refusal::Size => 1,
-        Refusal::Length => 2,
-        Refusal::Setting => 3,
-        Refusal::Split => 4,
-        Refusal::Leaf => 5,
-        Refusal::Qp => 6,
-        Refusal::Sample => 7,
-        Refusal::Block => 8,
-        Refusal::Mode => 9,
-        Refusal::Points => 10,
-        Refusal::Pivot => 11,
-        Refusal::Sheet => 12,
-        Refusal::Record => 13,
-        Refusal::Band => 14,
-        Refusal::Keep => 15,
-        Refusal::Bits => 16,
-        Refusal::Stream => 17,
-        Refusal::Short => 18,
-        Refusal::Rows => 19,
-        Refusal::Old => 20,
-        Refusal::Window => 21,
-        Refusal::Turn => 22,
-    }
+    r as u8
 }
 
 // ---- answers
 
-// The answer of a call that has no values to give, and of the checks before a call's first write.
-#[derive(Drop)]
-pub enum Answer {
-    Done,
-    Refused(Refusal),
-}
-
 // The number of an answer: 0 is done.
-pub fn answer_number(a: Answer) -> u8
+pub fn answer_number(a: Result<(), Refusal>) -> u8
     ensures { result ≡ answer_number a }
 {
     match a {
-        Answer::Done => 0,
-        Answer::Refused(r) => refusal_number(r),
+        Ok(()) => 0,
+        Err(r) => refusal_number(r),
     }
 }

@@ -1,5 +1,6 @@
 -- The call of a band: from both passes over its part of what is lent to the outcome of the rule.
 -- Assumes nothing.
+use Rattle.std.specs.Prelude.{Ok, Err}
 use Prim.Native.Nat.{ℕ, zero, suc, ◌+◌, ◌-◌, ◌*◌, ◌/◌, ◌≤◌}
 use mathlib.Core.Path.{◌≡◌, refl, sym, ap, ap₂, ◌∙◌, subst}
 use mathlib.Core.List.{List, [], ◌∷◌, ◌++◌, map, append-nil, append_assoc, Memᴰ}
@@ -12,8 +13,7 @@ use lib.ListN.{length, get_or, take, drop, length-drop, drop_of_length-le, take-
 use lib.Seq.{take_all, take-add, drop-drop, take-nil, drop-nil}
 use Rattle.def.proofs.Sizes.{sized}
 use Rattle.def.specs.Word.{qp_of}
-use Rattle.def.specs.declared.Answer.{Answer}
-use Rattle.def.specs.declared.Answer.TheVariants.{Done, Refused as Bad}
+use Rattle.def.specs.Answers.{Answer}
 use Rattle.def.specs.declared.Refusal.{Refusal}
 use Rattle.def.specs.Formats.{in_format}
 use Rattle.def.specs.declared.Format.{Format}
@@ -61,7 +61,7 @@ keeps_near vertical k = tt
 keeps_near horizontal zero = inr refl
 keeps_near horizontal (suc k) = inl (omega arith)
 
-pub band_refused : (j : band.Input) (a : Answer) → a ≡ band.check j → (r : Refusal) → a ≡ Bad r → band.refused j r ≡ band.outcome j
+pub band_refused : (j : band.Input) (a : Answer) → a ≡ band.check j → (r : Refusal) → a ≡ Err r → band.refused j r ≡ band.outcome j
 unfolding band.outcome
 band_refused j a e r f = rw (sym e ∙ f)
 
@@ -95,7 +95,7 @@ colour_any : (f : Format) (a n l : ℕ) (p : List ℕ) → length p ≡ in_forma
 colour_any Grey a n l p e q g k = subst Samples (sym (no_samples p e)) no_sample k
 colour_any Colour a n l p e q g k = sample_any (drop a p) k (ap (λ (z : ℕ). samples_ok (drop z p)) q ∙ g)
 
-module _ (j : band.Input) (fine : band.check j ≡ Done) (pos : 1 ≤ band.wide j) where
+module _ (j : band.Input) (fine : band.check j ≡ Ok tt) (pos : 1 ≤ band.wide j) where
   abbrev w : ℕ
   w = band.wide j
 

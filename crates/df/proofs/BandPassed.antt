@@ -4,6 +4,7 @@
 --     band_passed    each check, as a fact of what is lent
 --     at_next, next_few    the band is the position's next, and its number is small
 -- Assumes nothing.
+use Rattle.std.specs.Prelude.{Ok, Err}
 use Prim.Native.Nat.{ℕ, ◌+◌, ◌*◌, ◌/◌, ◌≤◌}
 use mathlib.Core.Path.{◌≡◌, refl, sym, ap, ◌∙◌}
 use mathlib.Core.Bool.{true}
@@ -24,8 +25,7 @@ use Rattle.def.specs.declared.Format.TheVariants.{Grey, Colour}
 use Rattle.bands_rules.specs.Bands.{places_of}
 use Rattle.def.specs.Answers.{after_checks}
 use Rattle.def.specs.Picture.{size_ok, roots_along, root_count, chroma_length}
-use Rattle.def.specs.declared.Answer.{Answer}
-use Rattle.def.specs.declared.Answer.TheVariants.{Done, Refused}
+use Rattle.def.specs.Answers.{Answer}
 use Rattle.def.proofs.Answers.{number_some}
 use Rattle.def.proofs.Ladders.{passes}
 use Rattle.df_check.specs.Checks.{settings_ok, keep_ok, qps_ok}
@@ -35,16 +35,15 @@ use Rattle.split.specs.Picture.{picture_walk}
 use Rattle.split.proofs.Sides.{and-true}
 use Rattle.df.specs.Band as band
 use Rattle.df.proofs.Lengths.{luma_places, chroma_places, unit_places}
-use Rattle.df.specs.Deblock.{Input, check, refused, done, outcome}
 
-pub check_done : (j : band.Input) → (band.outcome j).reading.number ≡ 0 → band.check j ≡ Done
+pub check_done : (j : band.Input) → (band.outcome j).reading.number ≡ 0 → band.check j ≡ Ok tt
 unfolding band.outcome
 check_done j e = go (band.check j) refl e where
-  go : (a : Answer) → band.check j ≡ a → (after_checks (band.refused j) (band.done j) a).reading.number ≡ 0 → band.check j ≡ Done
-  go Done q z = q
-  go (Refused r) q z = absurd (let n = number_some r in omega arith)
+  go : (a : Answer) → band.check j ≡ a → (after_checks (band.refused j) (band.done j) a).reading.number ≡ 0 → band.check j ≡ Ok tt
+  go (Ok _) q z = q
+  go (Err r) q z = absurd (let n = number_some r in omega arith)
 
-pub outcome_done : (j : band.Input) → band.check j ≡ Done → band.outcome j ≡ band.done j
+pub outcome_done : (j : band.Input) → band.check j ≡ Ok tt → band.outcome j ≡ band.done j
 unfolding band.outcome
 outcome_done j e = ap (after_checks (band.refused j) (band.done j)) e
 
@@ -61,7 +60,7 @@ pub record BandPassed (j : band.Input) : Type 0 where
   pub long_refs : length j.refs ≡ 2 * ((band.top j + band.rows j) * band.wide j)
   pub long_keep : length j.keep ≡ (band.top j + band.rows j) * band.wide j
   pub long_strengths : length j.strengths ≡ 208
-  pub walk : (picture_walk j.splits (band.wide j) (band.rows j)).answer ≡ Done
+  pub walk : (picture_walk j.splits (band.wide j) (band.rows j)).answer ≡ Ok tt
   pub marks : keep_ok (band.checked_marks j) ≡ true
   pub qps : qps_ok (band.checked_words j) ≡ true
   pub y : samples_ok (band.checked_plane j Luma j.y) ≡ true
@@ -77,7 +76,7 @@ colour_small Colour n m l p q e g = ap (λ (k : ℕ). samples_ok (drop k p)) (sy
 in_units : (n : ℕ) → 4 * n / 4 ≡ n
 in_units n = omega arith
 
-pub band_passed : (j : band.Input) → band.check j ≡ Done → BandPassed j
+pub band_passed : (j : band.Input) → band.check j ≡ Ok tt → BandPassed j
 unfolding band-check.check_of
 band_passed j e =
     let size = passes _ _ _ e in

@@ -1,6 +1,7 @@
 -- The call: what holds of a picture that passed its checks, and its outcome.
 -- Assumes nothing.
-use Prim.Native.Nat.{ℕ, ◌*◌, ◌/◌, ◌≤◌}
+use Rattle.std.specs.Prelude.{Ok, Err}
+use Prim.Native.Nat.{ℕ, ◌*◌, ◌/◌}
 use mathlib.Core.Path.{◌≡◌, sym, ap, ◌∙◌}
 use mathlib.Core.List.{List}
 use native.Mathlib.Nat.{mul_comm}
@@ -8,8 +9,7 @@ use native.Mathlib.Omega.{arith}
 use lib.ListN.{length}
 use Rattle.def.specs.Formats.{in_format}
 use Rattle.def.specs.Picture.{chroma_length, unit_count}
-use Rattle.def.specs.declared.Answer.{Answer}
-use Rattle.def.specs.declared.Answer.TheVariants.{Done as Fine, Refused as Bad}
+use Rattle.def.specs.Answers.{Answer}
 use Rattle.def.specs.declared.Refusal.{Refusal}
 use Rattle.def.proofs.Sizes.{Sized, sized}
 use Rattle.split.specs.Edges.{vertical, horizontal}
@@ -19,10 +19,9 @@ use Rattle.df_rules.specs.Lent.{LentPicture, BothPasses}
 use Rattle.split.specs.Accepted.{Accepted}
 use Rattle.df.specs.Deblock.{Input, Reading, reading_of, checked, check, pass_edges, maps_of, outcome}
 use Rattle.strength.specs.Entries.{entries_in}
-use Rattle.df.specs.declared.Deblocked.TheVariants.{Done, Refused}
 use Rattle.df.proofs.Entries.{by_format}
 
-module _ (i : Input) (fine : check i ≡ Fine) where
+module _ (i : Input) (fine : check i ≡ Ok tt) where
   abbrev checks_passed : Passed (checked i)
   checks_passed = passed (checked i) fine
 
@@ -69,10 +68,10 @@ module _ (i : Input) (fine : check i ≡ Fine) where
   pub deblock_done : (t : List ℕ) (y u v words : List ℕ) (m n : ℕ)
       → t ≡ entries_in i.settings.format i.strengths i.table0 i.settings.u_offset i.table1 i.settings.v_offset
       → BothPasses (maps_of i) t (i.w / 4) (pass_edges vertical i) (pass_edges horizontal i) (record { y = i.y; u = i.u; v = i.v }) (record { y = y; u = u; v = v }) words m n
-      → {r : Reading} → r ≡ reading_of (Done m n) → (record { reading = r; y = y; u = u; v = v; words = words }) ≡ outcome i
+      → {r : Reading} → r ≡ reading_of (Ok (record { vertical = m; horizontal = n })) → (record { reading = r; y = y; u = u; v = v; words = words }) ≡ outcome i
   unfolding outcome
   deblock_done t y u v words m n e b g =
-      let reading = g ∙ (λ k. reading_of (Done (b.ups_counted k) (b.levels_counted k))) in
+      let reading = g ∙ (λ k. reading_of (Ok (record { vertical = b.ups_counted k; horizontal = b.levels_counted k }))) in
       let start : Planes = record { y = i.y; u = i.u; v = i.v } in
       let planes = b.planes
       ∙ by_format i.strengths i.table0 i.settings.u_offset i.table1 i.settings.v_offset (maps_of i) (i.w / 4) (λ d. pass_edges d i)
@@ -86,7 +85,7 @@ module _ (i : Input) (fine : check i ≡ Fine) where
         words = b.marks k;
       })
 
-pub deblock_refused : (i : Input) (a : Answer) → a ≡ check i → (r : Refusal) → a ≡ Bad r
-    → (record { reading = reading_of (Refused r); y = i.y; u = i.u; v = i.v; words = i.words }) ≡ outcome i
+pub deblock_refused : (i : Input) (a : Answer) → a ≡ check i → (r : Refusal) → a ≡ Err r
+    → (record { reading = reading_of (Err r); y = i.y; u = i.u; v = i.v; words = i.words }) ≡ outcome i
 unfolding outcome
 deblock_refused i a e r f = rw (sym e ∙ f)

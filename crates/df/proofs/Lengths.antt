@@ -1,7 +1,7 @@
 -- Lengths of w columns and r rows of units, in samples as the checks have them and in units as the passes do.
 -- Assumes nothing.
 use Prim.Native.Nat.{ℕ, ◌*◌, ◌/◌, ◌%◌}
-use mathlib.Core.Path.{◌≡◌, sym, ap, ◌∙◌}
+use mathlib.Core.Path.{◌≡◌, ap, ◌∙◌}
 use native.Mathlib.Nat.{mul_comm, mul_assoc}
 use native.Mathlib.Omega.{arith}
 use Rattle.def.specs.Picture.{luma_length, chroma_length, unit_count}

@@ -1,11 +1,10 @@
 -- The edges of one root, `top` rows of units further down: no more than it has units, and each between two units of what is lent.
 -- Assumes nothing.
-use Prim.Native.Nat.{ℕ, zero, suc, ◌+◌, ◌*◌, ◌/◌, ◌%◌, ◌^◌, ◌≤◌, ◌<◌, zero-le}
+use Prim.Native.Nat.{ℕ, zero, suc, ◌+◌, ◌/◌, ◌≤◌, ◌<◌}
 use mathlib.Core.Bool.{Bool}
 use mathlib.Core.List.{List, [], ◌∷◌, ◌++◌, map, Memᴰ}
 use mathlib.Core.Logic.{⊎_elim}
-use mathlib.Core.Path.{◌≡◌, refl, sym, ap, ◌∙◌, subst}
-use native.Mathlib.Nat.{two-pow-succ}
+use mathlib.Core.Path.{sym, ap, subst}
 use native.Mathlib.Omega.{arith}
 use borrow.Author.Tests.{eqb-true, eqb-false}
 use lib.Dec.{eqb}
@@ -13,17 +12,15 @@ use lib.ListN.{length}
 use lib.Pow.{pow_pos}
 use Rattle.def.proofs.Sizes.{Sized, sized}
 use Rattle.def.specs.Picture.{root_count}
-use Rattle.def.specs.declared.Answer.TheVariants.{Done}
 use Rattle.laws.specs.Orders.{each}
 use Rattle.laws.proofs.Orders.{each_mem, mem_each}
 use Rattle.split.specs.Demand3.{Demand3}
-use Rattle.split.specs.Edges.{Pass, Edge, Visit, visit_of, near_edge, edges_of, edge_numbers}
+use Rattle.split.specs.Edges.{Pass, Edge, visit_of, near_edge, edges_of}
 use Rattle.split.specs.Picture.{roots, root_bytes, root_x, root_y, root_walk, root_leaves, leaves_of, all_leaves}
 use Rattle.split.specs.Stored.{area}
-use Rattle.split.specs.Walk.{Leaf, walk}
-use Rattle.split.proofs.Area.{area_append}
+use Rattle.split.specs.Walk.{Leaf}
 use Rattle.split.proofs.Demand3.{demand_3, edges_twice}
-use Rattle.split.proofs.Induct.{Cases, walk_ind, test}
+use Rattle.split.proofs.Induct.{test}
 use Rattle.split.proofs.Roots.{roots_units, some_wide}
 use Rattle.split.proofs.Walks.{each_done}
 use Rattle.split.specs.Accepted.{Accepted}

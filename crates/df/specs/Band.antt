@@ -2,9 +2,9 @@
 -- and `rows` in units), and the band's own split bytes. The band's lists are filtered where they lie in what is lent, first the vertical, then the horizontal,
 -- its top edge included; done is set in the band's units.
 -- Assumes nothing: these are definitions.
-use Rattle.std.specs.Prelude.{ℕ, ◌+◌, ◌-◌, ◌*◌, ◌/◌, List, eqb, ℤ, length, drop}
+use Rattle.std.specs.Prelude.{ℕ, ◌+◌, ◌-◌, ◌*◌, ◌/◌, List, eqb, ℤ, length, drop, Ok, Err, Result}
 use Rattle.def.specs.Answers.{after_checks}
-use Rattle.def.specs.declared.Answer.{Answer}
+use Rattle.def.specs.Answers.{Answer}
 use Rattle.def.specs.declared.Component.{Component}
 use Rattle.def.specs.declared.Component.TheVariants.{Luma, Chroma}
 use Rattle.def.specs.declared.Refusal.{Refusal}
@@ -16,7 +16,7 @@ use Rattle.df_check.specs.declared.Settings.{Settings}
 use Rattle.df_rules.specs.Filter.{finished}
 use Rattle.df_rules.specs.Strength.{Maps}
 use Rattle.df.specs.declared.band.Banded.{Banded}
-use Rattle.df.specs.declared.band.Banded.TheVariants.{Done, Refused}
+use Rattle.split.specs.declared.EdgeCounts.{EdgeCounts}
 use Rattle.bands_rules.specs.Bands.{list_from, done_from, places_of}
 use Rattle.band_rows.specs.Rows.{band_rows, rows_above}
 
@@ -45,9 +45,12 @@ pub record Reading : Type 0 where
   pub horizontal : ℕ
   pub next : ℕ
 
+abbrev pub counted : Result EdgeCounts Refusal → ℕ → Reading
+counted (Ok c) n = record { number = 0; vertical = c.vertical; horizontal = c.horizontal; next = n }
+counted (Err r) n = record { number = number_of r; vertical = 0; horizontal = 0; next = n }
+
 abbrev pub reading_of : Banded → Reading
-reading_of (Done m n p) = record { number = 0; vertical = m; horizontal = n; next = p.next }
-reading_of (Refused r p) = record { number = number_of r; vertical = 0; horizontal = 0; next = p.next }
+reading_of b = counted b.counts b.next.next
 
 pub record Outcome : Type 0 where
   pub reading : Reading

@@ -3,7 +3,7 @@
 -- Assumes nothing: these are definitions.
 use Rattle.std.specs.Prelude.{ℕ, List, length}
 use Rattle.def.specs.Answers.{after_checks}
-use Rattle.def.specs.declared.Answer.{Answer}
+use Rattle.def.specs.Answers.{Answer}
 use Rattle.by_rows_check.specs.Checks as checks
 use Rattle.df.specs.Deblock as deblock
 

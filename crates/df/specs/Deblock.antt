@@ -1,10 +1,10 @@
 -- The call `deblock`: the planes are those of filtering the vertical list and then the horizontal one, each as listing writes it; done is set in every unit.
 -- Each plane's part is a function of its own samples, its table and its offset.
 -- Assumes nothing: these are definitions.
-use Rattle.std.specs.Prelude.{ℕ, ◌/◌, List, eqb, ℤ, length}
+use Rattle.std.specs.Prelude.{ℕ, ◌/◌, List, eqb, ℤ, length, Ok, Err, Result}
 use Rattle.def.specs.Answers.{after_checks}
 use Rattle.def.specs.Refusals.{number_of}
-use Rattle.def.specs.declared.Answer.{Answer}
+use Rattle.def.specs.Answers.{Answer}
 use Rattle.def.specs.declared.Component.{Component}
 use Rattle.def.specs.declared.Component.TheVariants.{Luma, Chroma}
 use Rattle.def.specs.declared.Refusal.{Refusal}
@@ -15,8 +15,7 @@ use Rattle.df_check.specs.declared.Settings.{Settings}
 use Rattle.df_rules.specs.Filter.{finished}
 use Rattle.df_rules.specs.Strength.{Maps}
 use Rattle.df_rules.specs.Visit.{all_done}
-use Rattle.df.specs.declared.Deblocked.{Deblocked}
-use Rattle.df.specs.declared.Deblocked.TheVariants.{Done, Refused}
+use Rattle.split.specs.declared.EdgeCounts.{EdgeCounts}
 
 pub record Input : Type 0 where
   pub w : ℕ
@@ -40,9 +39,9 @@ pub record Reading : Type 0 where
   pub vertical : ℕ
   pub horizontal : ℕ
 
-abbrev pub reading_of : Deblocked → Reading
-reading_of (Done m n) = record { number = 0; vertical = m; horizontal = n }
-reading_of (Refused r) = record { number = number_of r; vertical = 0; horizontal = 0 }
+abbrev pub reading_of : Result EdgeCounts Refusal → Reading
+reading_of (Ok c) = record { number = 0; vertical = c.vertical; horizontal = c.horizontal }
+reading_of (Err r) = record { number = number_of r; vertical = 0; horizontal = 0 }
 
 pub record Outcome : Type 0 where
   pub reading : Reading
@@ -96,12 +95,12 @@ abbrev pub deblocked : Input → Component → (ℕ → ℕ) → List ℕ → Li
 deblocked i c at p = finished (maps_of i) i.strengths at c (i.w / 4) (pass_edges vertical i) (pass_edges horizontal i) p
 
 abbrev pub refused : Input → Refusal → Outcome
-refused i r = record { reading = reading_of (Refused r); y = i.y; u = i.u; v = i.v; words = i.words }
+refused i r = record { reading = reading_of (Err r); y = i.y; u = i.u; v = i.v; words = i.words }
 
 abbrev pub done : Input → Outcome
 done i =
     record {
-      reading = reading_of (Done (length (pass_edges vertical i)) (length (pass_edges horizontal i)));
+      reading = reading_of (Ok (record { vertical = length (pass_edges vertical i); horizontal = length (pass_edges horizontal i) }));
       y = deblocked i Luma (qp_y i) i.y;
       u = deblocked i Chroma (qp_u i) i.u;
       v = deblocked i Chroma (qp_v i) i.v;

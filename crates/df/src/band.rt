@@ -1,18 +1,19 @@
 // Deblocking by bands: a position by value, and the band that comes next. The Rust has no bands.
-ghost use Rattle.std.specs.Prelude.{◌≡◌, ◌+◌, ◌*◌, ◌/◌, ◌≤◌, length, take, drop};
+ghost use Rattle.std.specs.Prelude.{◌≡◌, ◌+◌, ◌*◌, ◌/◌, ◌≤◌, length, take, drop, Ok};
 ghost use Rattle.def.specs.Formats.{in_format};
 ghost use Rattle.split.specs.Edges.{vertical, horizontal};
 ghost use Rattle.df_rules.specs.Lent.{LentPicture};
 ghost use Rattle.split.specs.Accepted.{Accepted};
 ghost use Rattle.bands_rules.specs.Bands.{list_from, BothPassesFrom};
 ghost use Rattle.laws.specs.Call.{Gives};
-ghost use Rattle.def.specs.declared.Answer.TheVariants as Answer;
 ghost use Rattle.df.specs.Band as Band;
 
-use crate::{Counts, entries_by, passes_by};
+use crate::pass::Shape;
+use crate::{entries_by, passes_by};
 use band_rows::{band_rows, rows_above};
-use def::{Answer, Format, Refusal, in_format};
+use def::{Refusal, in_format};
 use df_check::{Settings, checked_band};
+use split::EdgeCounts;
 
 // A position in a picture that is done by bands: the band that comes next.
 #[derive(Drop)]
@@ -20,26 +21,18 @@ pub struct Bands {
     pub next: usize,
 }
 
-// How many edges each pass filtered, and the position after the band; or why nothing was written, and the position as it was.
+// How many edges each pass filtered, or why nothing was written; and the position after the band, or as it was where the band is refused.
 #[derive(Drop)]
-pub enum Banded {
-    Done {
-        vertical: usize,
-        horizontal: usize,
-        next: Bands,
-    },
-    Refused(Refusal, Bands),
+pub struct Banded {
+    pub counts: Result<EdgeCounts, Refusal>,
+    pub next: Bands,
 }
 
-// Both passes over h rows of samples, below `top` rows of units. What is lent has `skip` more rows of units before these, which are not looked at. No map of edge
+// Both passes over the shape's rows. What is lent has `skip` more rows of units before these, which are not looked at. No map of edge
 // rows is lent.
 pub(crate) fn band_passes(
-    format: Format,
-    halved: bool,
-    w: usize,
-    h: usize,
+    shape: Shape,
     skip: usize,
-    top: usize,
     y: &mut [u16],
     u: &mut [u16],
     v: &mut [u16],
@@ -49,31 +42,27 @@ pub(crate) fn band_passes(
     refs: &[i8],
     keep: &[u8],
     entries: &[u8; 624],
-) -> Counts
-    requires lent_picture { LentPicture format (w / 4) (top + h / 4) (drop (16 * (skip * (w / 4))) y.old) (drop (in_format format (4 * (skip * (w / 4)))) u.old) (drop (in_format format (4 * (skip * (w / 4)))) v.old) (drop (skip * (w / 4)) words.old) (record { motion = drop (4 * (skip * (w / 4))) motion.now; refs = drop (2 * (skip * (w / 4))) refs.now; keep = drop (skip * (w / 4)) keep.now }) entries.now
-        × Accepted w h splits.now }
-    requires w_in_bounds { (16 * (skip * (w / 4)) ≤ length y.old) × (in_format format (4 * (skip * (w / 4))) ≤ length u.old) × (in_format format (4 * (skip * (w / 4))) ≤ length v.old) × (skip * (w / 4) ≤ length words.old) × (4 * (skip * (w / 4)) ≤ length motion.now) × (2 * (skip * (w / 4)) ≤ length refs.now) × (skip * (w / 4) ≤ length keep.now) × (skip * (w / 4) ≤ 16384) }
-    ensures { (take (16 * (skip * (w / 4))) y.exit.now ≡ take (16 * (skip * (w / 4))) y.entry.now)
-        × (take (in_format format (4 * (skip * (w / 4)))) u.new ≡ take (in_format format (4 * (skip * (w / 4)))) u.old)
-        × (take (in_format format (4 * (skip * (w / 4)))) v.new ≡ take (in_format format (4 * (skip * (w / 4)))) v.old)
-        × (take (skip * (w / 4)) words.exit.now ≡ take (skip * (w / 4)) words.entry.now)
-        × BothPassesFrom (record { words = drop (skip * (w / 4)) words.entry.now; over = record { motion = drop (4 * (skip * (w / 4))) motion.entry.now; refs = drop (2 * (skip * (w / 4))) refs.now; keep = drop (skip * (w / 4)) keep.now } }) entries.now
-        (w / 4) top (list_from vertical halved top splits.now (w / 4) (h / 4)) (list_from horizontal halved top splits.now (w / 4) (h / 4))
-        (record { y = drop (16 * (skip * (w / 4))) y.entry.now; u = drop (in_format format (4 * (skip * (w / 4)))) u.old; v = drop (in_format format (4 * (skip * (w / 4)))) v.old })
-        (record { y = drop (16 * (skip * (w / 4))) y.exit.now; u = drop (in_format format (4 * (skip * (w / 4)))) u.new; v = drop (in_format format (4 * (skip * (w / 4)))) v.new })
-        (drop (skip * (w / 4)) words.exit.now) result.vertical result.horizontal }
+) -> EdgeCounts
+    requires lent_picture { LentPicture shape.format (shape.w / 4) (shape.top + shape.h / 4) (drop (16 * (skip * (shape.w / 4))) y.old) (drop (in_format shape.format (4 * (skip * (shape.w / 4)))) u.old) (drop (in_format shape.format (4 * (skip * (shape.w / 4)))) v.old) (drop (skip * (shape.w / 4)) words.old) (record { motion = drop (4 * (skip * (shape.w / 4))) motion.now; refs = drop (2 * (skip * (shape.w / 4))) refs.now; keep = drop (skip * (shape.w / 4)) keep.now }) entries.now
+        × Accepted shape.w shape.h splits.now }
+    requires w_in_bounds { (16 * (skip * (shape.w / 4)) ≤ length y.old) × (in_format shape.format (4 * (skip * (shape.w / 4))) ≤ length u.old) × (in_format shape.format (4 * (skip * (shape.w / 4))) ≤ length v.old) × (skip * (shape.w / 4) ≤ length words.old) × (4 * (skip * (shape.w / 4)) ≤ length motion.now) × (2 * (skip * (shape.w / 4)) ≤ length refs.now) × (skip * (shape.w / 4) ≤ length keep.now) × (skip * (shape.w / 4) ≤ 16384) }
+    ensures { (take (16 * (skip * (shape.w / 4))) y.exit.now ≡ take (16 * (skip * (shape.w / 4))) y.entry.now)
+        × (take (in_format shape.format (4 * (skip * (shape.w / 4)))) u.new ≡ take (in_format shape.format (4 * (skip * (shape.w / 4)))) u.old)
+        × (take (in_format shape.format (4 * (skip * (shape.w / 4)))) v.new ≡ take (in_format shape.format (4 * (skip * (shape.w / 4)))) v.old)
+        × (take (skip * (shape.w / 4)) words.exit.now ≡ take (skip * (shape.w / 4)) words.entry.now)
+        × BothPassesFrom (record { words = drop (skip * (shape.w / 4)) words.entry.now; over = record { motion = drop (4 * (skip * (shape.w / 4))) motion.entry.now; refs = drop (2 * (skip * (shape.w / 4))) refs.now; keep = drop (skip * (shape.w / 4)) keep.now } }) entries.now
+        (shape.w / 4) shape.top (list_from vertical shape.halved shape.top splits.now (shape.w / 4) (shape.h / 4)) (list_from horizontal shape.halved shape.top splits.now (shape.w / 4) (shape.h / 4))
+        (record { y = drop (16 * (skip * (shape.w / 4))) y.entry.now; u = drop (in_format shape.format (4 * (skip * (shape.w / 4)))) u.old; v = drop (in_format shape.format (4 * (skip * (shape.w / 4)))) v.old })
+        (record { y = drop (16 * (skip * (shape.w / 4))) y.exit.now; u = drop (in_format shape.format (4 * (skip * (shape.w / 4)))) u.new; v = drop (in_format shape.format (4 * (skip * (shape.w / 4)))) v.new })
+        (drop (skip * (shape.w / 4)) words.exit.now) result.vertical result.horizontal }
 {
-    let from = skip * (w / 4);
+    let from = skip * (shape.w / 4);
     let luma = 16 * from;
-    let chroma = in_format(format, 4 * from);
+    let chroma = in_format(shape.format, 4 * from);
     let motion_from = 4 * from;
     let refs_from = 2 * from;
     passes_by(
-        format,
-        halved,
-        w,
-        h,
-        top,
+        shape,
         &mut y[luma..],
         &mut u[chroma..],
         &mut v[chroma..],
@@ -132,7 +121,7 @@ impl Bands {
               table1 = table1.now;
               strengths = strengths.now;
               settings = settings;
-            }) ≡ Answer.Done }
+            }) ≡ Ok tt }
         ensures { Gives Band.outcome
             (record {
               next = self.next;
@@ -159,29 +148,19 @@ impl Bands {
         let above = rows_above(band);
         let top = above / 16;
         let skip = above - top;
-        let own = 4 * rows;
-        let format = settings.format;
-        let n = band_passes(
-            format,
-            settings.limit == 5,
+        let shape = Shape {
+            format: settings.format,
+            halved: settings.limit == 5,
             w,
-            own,
-            skip,
+            h: 4 * rows,
             top,
-            y,
-            u,
-            v,
-            words,
-            splits,
-            motion,
-            refs,
-            keep,
-            &table,
+        };
+        let counts = band_passes(
+            shape, skip, y, u, v, words, splits, motion, refs, keep, &table,
         );
         let after = self.next + 1;
-        Banded::Done {
-            vertical: n.vertical,
-            horizontal: n.horizontal,
+        Banded {
+            counts: Ok(counts),
             next: Bands { next: after },
         }
     }
@@ -226,7 +205,7 @@ impl Bands {
             })
             (record { reading = Band.reading_of result; y = y.new; u = u.new; v = v.new; words = words.new }) }
     {
-        if let Answer::Refused(r) = checked_band(
+        if let Err(r) = checked_band(
             self.next,
             band,
             w,
@@ -244,7 +223,10 @@ impl Bands {
             strengths.len(),
             settings,
         ) {
-            return Banded::Refused(r, self);
+            return Banded {
+                counts: Err(r),
+                next: self,
+            };
         }
         self.deblock_checked(
             band, w, h, y, u, v, words, splits, motion, refs, keep, table0, table1, strengths,

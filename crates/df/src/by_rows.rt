@@ -3,10 +3,12 @@ ghost use Rattle.laws.specs.Call.{Gives};
 ghost use Rattle.df.specs.ByRows as ByRows;
 ghost use Rattle.df.specs.Deblock as Deblock;
 
-use crate::{Deblocked, entries_by, passes_by};
+use crate::pass::Shape;
+use crate::{entries_by, passes_by};
 use by_rows_check::checked_by_rows;
-use def::Answer;
+use def::Refusal;
 use df_check::Settings;
+use split::EdgeCounts;
 
 // `deblock`, lent a map of edge rows, or none: everything is checked before the first write.
 pub fn deblock_by_rows(
@@ -25,7 +27,7 @@ pub fn deblock_by_rows(
     table1: &[i8],
     strengths: &[u8],
     settings: Settings,
-) -> Deblocked
+) -> Result<EdgeCounts, Refusal>
     ensures { Gives ByRows.outcome
         (record {
           given = record {
@@ -48,7 +50,7 @@ pub fn deblock_by_rows(
         })
         (record { reading = Deblock.reading_of result; y = y.new; u = u.new; v = v.new; words = words.new }) }
 {
-    if let Answer::Refused(r) = checked_by_rows(
+    checked_by_rows(
         w,
         h,
         &*y,
@@ -64,27 +66,16 @@ pub fn deblock_by_rows(
         table1.len(),
         strengths.len(),
         settings,
-    ) {
-        return Deblocked::Refused(r);
-    }
+    )?;
     let table = entries_by(settings, strengths, table0, table1);
-    let format = settings.format;
-    let n = passes_by(
-        format,
-        settings.limit == 5,
+    let shape = Shape {
+        format: settings.format,
+        halved: settings.limit == 5,
         w,
         h,
-        0,
-        y,
-        u,
-        v,
-        words,
-        splits,
-        motion,
-        refs,
-        keep,
-        rows,
-        &table,
-    );
-    n.done()
+        top: 0,
+    };
+    Ok(passes_by(
+        shape, y, u, v, words, splits, motion, refs, keep, rows, &table,
+    ))
 }

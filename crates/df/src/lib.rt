@@ -13,10 +13,11 @@ ghost use Rattle.df.specs.Deblock as Deblock;
 ghost use Rattle.strength.specs.Entries.{entries_in};
 ghost use Rattle.df.specs.Plan.{RowsLent};
 
-use crate::pass::deblock_pass;
-use def::{Format, Refusal, set_cod};
+use crate::pass::{Shape, deblock_pass};
+use def::{Refusal, set_cod};
 use df_check::Settings;
 use edge_filter::Pass;
+use split::EdgeCounts;
 use strength::entries;
 
 mod pass; // pass.rt: a root's edges, and a pass over the picture
@@ -25,13 +26,6 @@ mod by_rows; // by_rows.rt: rows read from a map
 
 pub use band::{Banded, Bands};
 pub use by_rows::deblock_by_rows;
-
-// How many edges each pass filtered, or why nothing was written.
-#[derive(Drop)]
-pub enum Deblocked {
-    Done { vertical: usize, horizontal: usize },
-    Refused(Refusal),
-}
 
 // The strength entries of both passes, by the settings' format and offsets.
 pub(crate) fn entries_by(s: Settings, strengths: &[u8], table0: &[i8], table1: &[i8]) -> [u8; 624]
@@ -51,42 +45,11 @@ fn all_done(words: &mut [u32])
     }
 }
 
-// How many edges the passes filtered.
-#[derive(Drop)]
-pub(crate) struct Counts {
-    pub(crate) vertical: usize,
-    pub(crate) horizontal: usize,
-}
-
-impl Counts {
-    fn new(vertical: usize, horizontal: usize) -> Counts
-        ensures { (result.vertical ≡ vertical) × (result.horizontal ≡ horizontal) }
-    {
-        Counts {
-            vertical,
-            horizontal,
-        }
-    }
-
-    // The answer of a call that did both passes.
-    pub(crate) fn done(self) -> Deblocked
-        ensures { Deblock.reading_of result ≡ record { number = 0; vertical = self.vertical; horizontal = self.horizontal } }
-    {
-        Deblocked::Done {
-            vertical: self.vertical,
-            horizontal: self.horizontal,
-        }
-    }
-}
-
-// Both passes over h rows of samples, below `top` rows of units: the vertical pass covers all of them first. Then every unit of
-// theirs is done. The rows of edges are read from a map of them, where one is lent.
+// Both passes over the shape's rows: the vertical pass covers all of them first. Then every unit of theirs is done. The rows of
+// edges are read from a map of them, where one is lent.
+// kept: the slices are handed on one by one. A struct of them would need a proof by hand of 100 to 230 lines for each function that takes it.
 pub(crate) fn passes_by(
-    format: Format,
-    halved: bool,
-    w: usize,
-    h: usize,
-    top: usize,
+    shape: Shape,
     y: &mut [u16],
     u: &mut [u16],
     v: &mut [u16],
@@ -97,20 +60,16 @@ pub(crate) fn passes_by(
     keep: &[u8],
     rows: &[u8],
     entries: &[u8; 624],
-) -> Counts
-    requires { LentPicture format (w / 4) (top + h / 4) y.old u.old v.old words.old (record { motion = motion.now; refs = refs.now; keep = keep.now }) entries.now × Accepted w h splits.now × RowsLent (w / 4) words.old motion.now refs.now rows.now }
+) -> EdgeCounts
+    requires { LentPicture shape.format (shape.w / 4) (shape.top + shape.h / 4) y.old u.old v.old words.old (record { motion = motion.now; refs = refs.now; keep = keep.now }) entries.now × Accepted shape.w shape.h splits.now × RowsLent (shape.w / 4) words.old motion.now refs.now rows.now }
     ensures { BothPassesFrom (record { words = words.entry.now; over = record { motion = motion.entry.now; refs = refs.now; keep = keep.now } }) entries.now
-        (w / 4) top (list_from vertical halved top splits.now (w / 4) (h / 4)) (list_from horizontal halved top splits.now (w / 4) (h / 4))
+        (shape.w / 4) shape.top (list_from vertical shape.halved shape.top splits.now (shape.w / 4) (shape.h / 4)) (list_from horizontal shape.halved shape.top splits.now (shape.w / 4) (shape.h / 4))
         (record { y = y.entry.now; u = u.old; v = v.old }) (record { y = y.exit.now; u = u.new; v = v.new })
         words.exit.now result.vertical result.horizontal }
 {
     let m = deblock_pass(
-        format,
         Pass::Vertical,
-        halved,
-        w,
-        h,
-        top,
+        shape,
         &mut *y,
         &mut *u,
         &mut *v,
@@ -123,12 +82,8 @@ pub(crate) fn passes_by(
         entries,
     );
     let n = deblock_pass(
-        format,
         Pass::Horizontal,
-        halved,
-        w,
-        h,
-        top,
+        shape,
         &mut *y,
         &mut *u,
         &mut *v,
@@ -140,9 +95,12 @@ pub(crate) fn passes_by(
         rows,
         entries,
     );
-    let from = top * (w / 4);
+    let from = shape.top * (shape.w / 4);
     all_done(&mut words[from..]);
-    Counts::new(m, n)
+    EdgeCounts {
+        vertical: m,
+        horizontal: n,
+    }
 }
 
 // evc_deblock: everything is checked before the first write. No map of edge rows is lent.
@@ -161,7 +119,7 @@ pub fn deblock(
     table1: &[i8],
     strengths: &[u8],
     settings: Settings,
-) -> Deblocked
+) -> Result<EdgeCounts, Refusal>
     ensures { Gives Deblock.outcome
         (record {
           w = w;

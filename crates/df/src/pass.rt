@@ -11,7 +11,16 @@ ghost use Rattle.df.specs.Plan.{ListedRoot, PassDone, RowsLent};
 use def::{Format, Pel, roots_along};
 use edge_filter::{Pass, filter_chroma, filter_luma, is_horizontal};
 use edge_place::plan_edges;
-use split::Walked;
+
+// What a pass goes over: `h` rows of `w` luma samples, below `top` rows of units. A leaf of 64 is `halved` where the transform limit is 5.
+#[derive(Clone, Copy)]
+pub(crate) struct Shape {
+    pub(crate) format: Format,
+    pub(crate) halved: bool,
+    pub(crate) w: usize,
+    pub(crate) h: usize,
+    pub(crate) top: usize,
+}
 
 // How many roots h rows of w samples have.
 fn root_count(w: usize, h: usize) -> usize
@@ -21,38 +30,32 @@ fn root_count(w: usize, h: usize) -> usize
     roots_along(w) * roots_along(h)
 }
 
-// A pass's edges of root i, as listing writes them, `top` rows of units further down, and how many they are. The walk of the picture was checked, and is not
+// A pass's edges of root i, as listing writes them, the shape's `top` rows of units further down, and how many they are. The walk of the picture was checked, and is not
 // refused here.
-fn root_edges(
-    pass: Pass,
-    halved: bool,
-    w: usize,
-    h: usize,
-    top: usize,
-    splits: &[u8],
-    i: usize,
-    out: &mut [u16],
-) -> usize
-    requires { Accepted w h splits.now × (i < root_count w h) × (length out.old ≡ 512) × (top + h / 4 ≤ 1024) }
-    ensures { ListedRoot w h splits.now (pass_of pass) halved top i out.new result }
+fn root_edges(pass: Pass, shape: Shape, splits: &[u8], i: usize, out: &mut [u16]) -> usize
+    requires { Accepted shape.w shape.h splits.now × (i < root_count shape.w shape.h) × (length out.old ≡ 512) × (shape.top + shape.h / 4 ≤ 1024) }
+    ensures { ListedRoot shape.w shape.h splits.now (pass_of pass) shape.halved shape.top i out.new result }
 {
+    let Shape {
+        halved,
+        w,
+        h,
+        top,
+        ..
+    } = shape;
     let across = roots_along(w);
     let x = Pel(64 * (i % across));
     let y = Pel(64 * (i / across));
     match edges::root_list(w, h, splits, x, y, is_horizontal(pass), halved, top, out) {
-        Walked::Done(n) => n,
-        Walked::Refused(_) => 0,
+        Ok(n) => n,
+        Err(_) => 0,
     }
 }
 
-// One pass over h rows of samples, below `top` rows of units: the roots follow in raster order. The answer is how many edges were filtered.
+// One pass over the shape's rows: the roots follow in raster order. The answer is how many edges were filtered.
 pub(crate) fn deblock_pass(
-    format: Format,
     pass: Pass,
-    halved: bool,
-    w: usize,
-    h: usize,
-    top: usize,
+    shape: Shape,
     y: &mut [u16],
     u: &mut [u16],
     v: &mut [u16],
@@ -64,20 +67,20 @@ pub(crate) fn deblock_pass(
     rows: &[u8],
     entries: &[u8; 624],
 ) -> usize
-    requires { LentPicture format (w / 4) (top + h / 4) y.old u.old v.old words.now (record { motion = motion.now; refs = refs.now; keep = keep.now }) entries.now × Accepted w h splits.now × RowsLent (w / 4) words.now motion.now refs.now rows.now }
+    requires { LentPicture shape.format (shape.w / 4) (shape.top + shape.h / 4) y.old u.old v.old words.now (record { motion = motion.now; refs = refs.now; keep = keep.now }) entries.now × Accepted shape.w shape.h splits.now × RowsLent (shape.w / 4) words.now motion.now refs.now rows.now }
     ensures { PassDone (record { words = words.entry.now; over = record { motion = motion.entry.now; refs = refs.now; keep = keep.now } }) entries.now
-        (pass_of pass) (w / 4) (list_from (pass_of pass) halved top splits.now (w / 4) (h / 4))
+        (pass_of pass) (shape.w / 4) (list_from (pass_of pass) shape.halved shape.top splits.now (shape.w / 4) (shape.h / 4))
         (record { y = y.entry.now; u = u.old; v = v.old }) (record { y = y.exit.now; u = u.new; v = v.new }) result }
 {
-    let columns = w / 4;
+    let columns = shape.w / 4;
     let horizontal = is_horizontal(pass);
-    let roots = root_count(w, h);
+    let roots = root_count(shape.w, shape.h);
     let mut list = [0u16; 512];
     let mut places = [0u8; 256];
     let mut marks = [0u8; 256];
     let mut count = 0;
     for i in 0..roots {
-        let n = root_edges(pass, halved, w, h, top, splits, i, &mut list);
+        let n = root_edges(pass, shape, splits, i, &mut list);
         plan_edges(
             horizontal,
             columns,
@@ -93,7 +96,16 @@ pub(crate) fn deblock_pass(
         );
         filter_luma(pass, columns, &mut *y, entries, &list, &places, &marks, n);
         filter_chroma(
-            format, pass, columns, &mut *u, &mut *v, entries, &list, &places, &marks, n,
+            shape.format,
+            pass,
+            columns,
+            &mut *u,
+            &mut *v,
+            entries,
+            &list,
+            &places,
+            &marks,
+            n,
         );
         count += n;
     }

@@ -4,6 +4,7 @@
 --     passed    everything, from `check_of i ≡ Done`
 --     word_any, mark_any    a QP and a keep mark read at any place, since past the map there is 0
 -- Assumes nothing.
+use Rattle.std.specs.Prelude.{Ok, Err}
 use Prim.Native.Nat.{ℕ, ◌*◌, ◌/◌, ◌≤◌, ◌<◌}
 use mathlib.Core.Path.{◌≡◌, refl, subst}
 use mathlib.Core.Bool.{Bool, true}
@@ -24,8 +25,7 @@ use Rattle.def.specs.Answers.{after_checks}
 use Rattle.def.specs.Picture.{size_ok, luma_length, unit_count, root_count}
 use Rattle.def.specs.Word.{qp_of}
 use Rattle.def.specs.declared.Format.{Format}
-use Rattle.def.specs.declared.Answer.{Answer}
-use Rattle.def.specs.declared.Answer.TheVariants.{Done, Refused}
+use Rattle.def.specs.Answers.{Answer}
 use Rattle.def.proofs.Ladders.{passes}
 use Rattle.samples.specs.Samples.{samples_ok}
 use Rattle.samples.proofs.Samples.{sample_any}
@@ -83,25 +83,25 @@ offset_told f z e =
 
 -- the walk was accepted, and what came after it found nothing
 record Onward (walk k : Answer) : Type 0 where
-  accepted : walk ≡ Done
-  rest : k ≡ Done
+  accepted : walk ≡ Ok tt
+  rest : k ≡ Ok tt
 
-onward : (walk k : Answer) → after_checks Refused k walk ≡ Done → Onward walk k
-onward Done k e = record { accepted = refl; rest = e }
-onward (Refused r) k e = record { accepted = e; rest = cc }
+onward : (walk k : Answer) → after_checks Err k walk ≡ Ok tt → Onward walk k
+onward (Ok _) k e = record { accepted = refl; rest = e }
+onward (Err r) k e = record { accepted = e; rest = cc }
 
 -- from the lengths on
 pub record Rest (lent own before : ℕ) (i : Input) : Type 0 where
   pub lengths : LengthsTold i.settings.format i.w lent own (lengths_of i)
   pub settings : settings_ok i.settings ≡ true
-  pub walk : (picture_walk i.splits (i.w / 4) (own / 4)).answer ≡ Done
+  pub walk : (picture_walk i.splits (i.w / 4) (own / 4)).answer ≡ Ok tt
   pub marks : keep_ok (drop (unit_count i.w before) i.keep) ≡ true
   pub qps : qps_ok (drop (unit_count i.w before) i.words) ≡ true
   pub y : samples_ok (drop (luma_length i.w before) i.y) ≡ true
   pub u : samples_ok (drop (colour_length i.settings.format i.w before) i.u) ≡ true
   pub v : samples_ok (drop (colour_length i.settings.format i.w before) i.v) ≡ true
 
-pub rest_passed : (lent own before : ℕ) (i : Input) → from_lengths lent own before i ≡ Done → Rest lent own before i
+pub rest_passed : (lent own before : ℕ) (i : Input) → from_lengths lent own before i ≡ Ok tt → Rest lent own before i
 unfolding from_lengths planes_ok
 rest_passed lent own before i e =
     let lengths = passes _ _ _ e in
@@ -149,14 +149,14 @@ pub record Passed (i : Input) : Type 0 where
   pub limit : limit_ok i.settings.limit ≡ true
   pub u_offset : Offset i.settings.format i.settings.u_offset
   pub v_offset : Offset i.settings.format i.settings.v_offset
-  pub walk : (picture_walk i.splits (i.w / 4) (i.h / 4)).answer ≡ Done
+  pub walk : (picture_walk i.splits (i.w / 4) (i.h / 4)).answer ≡ Ok tt
   pub mark : (k : ℕ) → get_or i.keep k 0 ≤ 1
   pub qp : (k : ℕ) → qp_of (get_or i.words k 0) ≤ 51
   pub y : (k : ℕ) → get_or i.y k 0 ≤ 1023
   pub u : (k : ℕ) → get_or i.u k 0 ≤ 1023
   pub v : (k : ℕ) → get_or i.v k 0 ≤ 1023
 
-pub passed : (i : Input) → check_of i ≡ Done → Passed i
+pub passed : (i : Input) → check_of i ≡ Ok tt → Passed i
 unfolding check_of settings_ok
 passed i e =
     let s = i.settings in

@@ -1,6 +1,6 @@
 -- What deblocking refuses, of a picture or of a part of it: 1, 2, 3, then 4 or 5 as the walk meets them, 15, 6, 7.
 -- Assumes nothing: these are definitions.
-use Rattle.std.specs.Prelude.{ℕ, ◌*◌, ◌/◌, Bool, ◌&&◌, List, [], ◌∷◌, leb, eqb, ℤ, pos, negsuc, length, drop}
+use Rattle.std.specs.Prelude.{ℕ, ◌*◌, ◌/◌, Bool, ◌&&◌, List, [], ◌∷◌, leb, eqb, ℤ, pos, negsuc, length, drop, Ok, Err}
 use Rattle.std.specs.Int.Signed.{le_z}
 use Rattle.laws.specs.Call.{unless, all_of}
 use Rattle.laws.specs.Scan.{all_in}
@@ -9,8 +9,7 @@ use Rattle.def.specs.Formats.{in_format}
 pub use Rattle.def.specs.Formats.{colour_length}
 use Rattle.def.specs.Picture.{size_ok, luma_length, unit_count, root_count}
 use Rattle.def.specs.Word.{qp_of}
-use Rattle.def.specs.declared.Answer.{Answer}
-use Rattle.def.specs.declared.Answer.TheVariants.{Done, Refused}
+use Rattle.def.specs.Answers.{Answer}
 use Rattle.def.specs.declared.Format.{Format}
 use Rattle.def.specs.declared.Format.TheVariants.{Grey, Colour}
 use Rattle.def.specs.declared.Refusal.TheVariants.{Size, Length, Setting, Keep, Qp, Sample}
@@ -109,15 +108,15 @@ lengths_of i =
 unfoldable pub from_lengths : (lent own before : ℕ) → Input → Answer
 from_lengths lent own before i =
     let f = i.settings.format in
-    unless (lengths_ok f i.w lent own (lengths_of i)) (Refused Length)
-    (unless (settings_ok i.settings) (Refused Setting)
-    (after_checks Refused
-    (unless (keep_ok (drop (unit_count i.w before) i.keep)) (Refused Keep)
-    (unless (qps_ok (drop (unit_count i.w before) i.words)) (Refused Qp)
-    (unless (planes_ok (drop (luma_length i.w before) i.y) (drop (colour_length f i.w before) i.u) (drop (colour_length f i.w before) i.v)) (Refused Sample)
-    Done)))
+    unless (lengths_ok f i.w lent own (lengths_of i)) (Err Length)
+    (unless (settings_ok i.settings) (Err Setting)
+    (after_checks Err
+    (unless (keep_ok (drop (unit_count i.w before) i.keep)) (Err Keep)
+    (unless (qps_ok (drop (unit_count i.w before) i.words)) (Err Qp)
+    (unless (planes_ok (drop (luma_length i.w before) i.y) (drop (colour_length f i.w before) i.u) (drop (colour_length f i.w before) i.v)) (Err Sample)
+    (Ok tt))))
     (picture_walk i.splits (i.w / 4) (own / 4)).answer))
 
 -- of a whole picture
 unfoldable pub check_of : Input → Answer
-check_of i = unless (size_ok i.w i.h) (Refused Size) (from_lengths i.h i.h 0 i)
+check_of i = unless (size_ok i.w i.h) (Err Size) (from_lengths i.h i.h 0 i)

@@ -5,7 +5,7 @@ ghost use Rattle.df_check.specs.BandCheck.{check_of};
 use crate::Settings;
 use crate::check::from_lengths;
 use band_rows::{band_ok, lent_rows};
-use def::{Answer, Refusal};
+use def::Refusal;
 
 // 1, 14, and then what a picture's checks ask, of what is lent: the band above, if any, and the band.
 pub fn checked_band(
@@ -25,7 +25,7 @@ pub fn checked_band(
     table1: usize,
     strengths: usize,
     settings: Settings,
-) -> Answer
+) -> Result<(), Refusal>
     ensures { Gives check_of
         (record {
           next = next;
@@ -50,10 +50,10 @@ pub fn checked_band(
         result }
 {
     if !def::size_ok(w, h) {
-        return Answer::Refused(Refusal::Size);
+        return Err(Refusal::Size);
     }
     if !band_ok(next, band, h) {
-        return Answer::Refused(Refusal::Band);
+        return Err(Refusal::Band);
     }
     let rows = lent_rows(h, band);
     from_lengths(

@@ -7,7 +7,7 @@ ghost use Rattle.def.proofs.Sizes.{Sized};
 ghost use Rattle.df_check.specs.Checks.{lengths_ok, least_offset, most_offset, offset_ok, settings_ok, keep_ok, qps_ok, planes_ok, from_lengths, check_of};
 
 use crate::Settings;
-use def::{Answer, Format, Refusal, in_format, roots_along};
+use def::{Format, Refusal, in_format, roots_along};
 
 // ---- 2: lengths
 
@@ -92,10 +92,8 @@ fn keep_ok(keep: &[u8]) -> bool
     ensures { result ≡ keep_ok keep.now }
 {
     let mut ok = true;
-    let mut i = 0;
-    while i < keep.len() {
+    for i in 0..keep.len() {
         ok = ok & (keep[i] <= 1);
-        i += 1;
     }
     ok
 }
@@ -107,11 +105,9 @@ fn qps_ok(words: &[u32]) -> bool
     ensures { result ≡ qps_ok words.now }
 {
     let mut ok = true;
-    let mut i = 0;
-    while i < words.len() {
+    for i in 0..words.len() {
         let qp = def::get_qp(words[i]) as u32;
         ok = ok & (qp <= 51);
-        i += 1;
     }
     ok
 }
@@ -146,7 +142,7 @@ pub(crate) fn from_lengths(
     table1: usize,
     strengths: usize,
     settings: Settings,
-) -> Answer
+) -> Result<(), Refusal>
     requires { (size_ok w lent ≡ true) × (size_ok w own ≡ true) × (before ≤ lent) }
     ensures { result ≡ from_lengths lent own before
         (record {
@@ -181,27 +177,25 @@ pub(crate) fn from_lengths(
     };
     let format = settings.format;
     if !lengths_ok(format, w, lent, own, lengths) {
-        return Answer::Refused(Refusal::Length);
+        return Err(Refusal::Length);
     }
     if !settings_ok(settings) {
-        return Answer::Refused(Refusal::Setting);
+        return Err(Refusal::Setting);
     }
-    if let Answer::Refused(r) = split::check(w, own, splits) {
-        return Answer::Refused(r);
-    }
+    split::check(w, own, splits)?;
     let units = w / 4 * (before / 4);
     if !keep_ok(&keep[units..]) {
-        return Answer::Refused(Refusal::Keep);
+        return Err(Refusal::Keep);
     }
     if !qps_ok(&words[units..]) {
-        return Answer::Refused(Refusal::Qp);
+        return Err(Refusal::Qp);
     }
     let luma = w * before;
     let chroma = in_format(format, w / 2 * (before / 2));
     if !planes_ok(&y[luma..], &u[chroma..], &v[chroma..]) {
-        return Answer::Refused(Refusal::Sample);
+        return Err(Refusal::Sample);
     }
-    Answer::Done
+    Ok(())
 }
 
 // ---- a whole picture
@@ -221,7 +215,7 @@ pub fn checked(
     table1: usize,
     strengths: usize,
     settings: Settings,
-) -> Answer
+) -> Result<(), Refusal>
     ensures { Gives check_of
         (record {
           w = w;
@@ -242,7 +236,7 @@ pub fn checked(
         result }
 {
     if !def::size_ok(w, h) {
-        return Answer::Refused(Refusal::Size);
+        return Err(Refusal::Size);
     }
     from_lengths(
         w, h, h, h, 0, y, u, v, words, splits, motion, refs, keep, table0, table1, strengths,

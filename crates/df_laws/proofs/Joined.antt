@@ -1,5 +1,6 @@
 -- A picture done by bands: what the record `Joined` says, of every picture whose bands were all accepted.
 -- Assumes nothing.
+use Rattle.std.specs.Prelude.{Ok}
 use Prim.Native.Nat.{ℕ, zero, suc, ◌+◌, ◌-◌, ◌*◌, ◌/◌, ◌≤◌, ◌<◌}
 use mathlib.Core.Path.{◌≡◌, refl, sym, ap, ap₂, ◌∙◌, subst}
 use mathlib.Core.Bool.{Bool, true, false}
@@ -38,7 +39,6 @@ use Rattle.bands_rules.proofs.Lists.{BandDone, lists_joined, walks_joined}
 use Rattle.bands_rules.proofs.Words.{done_from_long, done_from_above, done_from_at}
 use Rattle.def.specs.Answers.{after_checks}
 use Rattle.def.specs.Picture.{size_ok, luma_length, chroma_length}
-use Rattle.def.specs.declared.Answer.TheVariants.{Done}
 use Rattle.df_check.specs.Checks.{keep_ok, qps_ok, planes_ok}
 use Rattle.samples.specs.Samples.{samples_ok}
 use Rattle.samples.proofs.Samples.{sample_at_lem, samples_pass}
@@ -396,7 +396,7 @@ module _ (i : Input) (sides : size_ok i.w i.h ≡ true) (lengths : checks.length
   some_band : 0 < bands i
   some_band = let h = (z i sides lengths).some_high in omega arith
 
-  pub accepted : check i ≡ Done
+  pub accepted : check i ≡ Ok tt
   unfolding checks.check_of checks.from_lengths planes_ok
   accepted =
       rw (

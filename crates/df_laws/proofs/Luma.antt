@@ -1,6 +1,7 @@
 -- Two calls that are lent the same luma data agree in luma; and a picture without its colour is accepted. What a call does in luma asks nothing of colour:
 -- it is what it does for the picture without it, and that picture is the same for both.
 -- Assumes nothing.
+use Rattle.std.specs.Prelude.{Ok}
 use Prim.Native.Nat.{ℕ, zero, suc, ◌<◌}
 use mathlib.Core.Path.{◌≡◌, refl, sym, ap, ◌∙◌}
 use mathlib.Core.Bool.{true}
@@ -8,7 +9,6 @@ use mathlib.Core.List.{[]}
 use native.Mathlib.Omega.{arith}
 use borrow.Author.Tests.{eq-eqb}
 use lib.IntN.{pos}
-use Rattle.def.specs.declared.Answer.TheVariants.{Done}
 use Rattle.def.specs.declared.Format.TheVariants.{Grey}
 use Rattle.samples.specs.Samples.{samples_ok}
 use Rattle.samples.proofs.Samples.{samples_pass}
@@ -55,7 +55,7 @@ module _ {i j : Input} (s : SameLuma i j) where
         settings = record { limit = s.limit t; u_offset = pos 0; v_offset = pos 0; format = Grey };
       }
 
-  pub same_luma : check i ≡ Done → check j ≡ Done → LumaAgrees i j
+  pub same_luma : check i ≡ Ok tt → check j ≡ Ok tt → LumaAgrees i j
   same_luma a b =
       let e = is_done i a in
       let f = sym (is_done j b) in
@@ -91,7 +91,7 @@ module _ {i j : Input} (s : SameLuma i j) where
 
 -- ---- a picture without its colour
 
-module _ (i : Input) (ok : check i ≡ Done) where
+module _ (i : Input) (ok : check i ≡ Ok tt) where
   abbrev told : Passed (checked i)
   told = passed (checked i) ok
 
@@ -111,7 +111,7 @@ module _ (i : Input) (ok : check i ≡ Done) where
   no_sample : samples_ok [] ≡ true
   no_sample = samples_pass [] (λ k h. absurd (omega arith))
 
-  pub stays_accepted : check (without_colour i) ≡ Done
+  pub stays_accepted : check (without_colour i) ≡ Ok tt
   unfolding checks.check_of checks.from_lengths planes_ok
   stays_accepted = rw (size i ok, grey_lengths, grey_settings, left.walk, left.marks, left.qps, left.y, no_sample) refl
 

@@ -1,26 +1,22 @@
 -- How far deblocking can move a sample, by both engines.
 -- Assumes nothing.
-use Prim.Native.Nat.{ℕ, zero, suc, ◌+◌, ◌*◌, ◌/◌, ◌≤◌, ◌<◌}
+use Rattle.std.specs.Prelude.{Ok}
+use Prim.Native.Nat.{ℕ, ◌*◌, ◌/◌, ◌≤◌}
 use mathlib.Core.Path.{◌≡◌, refl, sym, ap, ◌∙◌, subst}
-use mathlib.Core.Bool.{Bool, true}
-use mathlib.Core.List.{List, [], ◌∷◌, ◌++◌, Memᴰ}
+use mathlib.Core.List.{List}
 use native.Mathlib.Omega.{arith}
 use lib.Dec.{eqb}
 use lib.ListN.{get_or}
-use Rattle.laws.specs.Orders.{Pairwise}
 use Rattle.laws.specs.Sign.{gap_n}
-use Rattle.def.specs.Picture.{size_ok}
-use Rattle.def.specs.declared.Answer.TheVariants.{Done}
-use Rattle.split.specs.Edges.{Pass, vertical, horizontal, Edge, edge_list}
+use Rattle.split.specs.Edges.{Pass, vertical, horizontal}
 use Rattle.df_check.proofs.Passed.{passed}
 use Rattle.df_rules.specs.Filter.{finished}
 use Rattle.df_rules.specs.Moves.{largest, Once}
 use Rattle.df_rules.specs.Window.{Samples}
 use Rattle.df_rules.proofs.Finished.{accepted_demand_3}
 use Rattle.df_rules.proofs.Moves.{both_move, listed_once}
-use Rattle.bands_rules.specs.Bands.{band_list, joined}
 use Rattle.bands_rules.proofs.Called.{calls_joined}
-use Rattle.bands_rules.proofs.Lists.{lists_joined, first_once}
+use Rattle.bands_rules.proofs.Lists.{first_once}
 use Rattle.df_laws.specs.Bands.{state_after, bands, Accepted, Plane, luma_plane, u_plane, v_plane, component_of, mapped_as, plane_in, plane_of, plane_after}
 use Rattle.df.specs.Deblock.{Input, checked, check, pass_edges, maps_of, deblocked, done, outcome}
 use Rattle.df_laws.specs.Moved.{MovesIn, Moved, first_edges, MovedBands}
@@ -34,11 +30,11 @@ plane_done i luma_plane = refl
 plane_done i u_plane = refl
 plane_done i v_plane = refl
 
-some_unit : (i : Input) → check i ≡ Done → 1 ≤ i.w / 4
+some_unit : (i : Input) → check i ≡ Ok tt → 1 ≤ i.w / 4
 some_unit i fine = pos i (passed (checked i) fine).size
 
 -- a plane after the first n bands
-state_plane : (i : Input) (fine : check i ≡ Done) → Accepted i → (x : Plane) (n : ℕ) → n ≤ bands i
+state_plane : (i : Input) (fine : check i ≡ Ok tt) → Accepted i → (x : Plane) (n : ℕ) → n ≤ bands i
     → plane_of x (state_after i n) ≡ finished (maps_of i) i.strengths (mapped_as x i) (component_of x) (i.w / 4) (first_edges i vertical n) (first_edges i horizontal n) (plane_in x i)
 state_plane i fine acc x n few =
     let size = (passed (checked i) fine).size in
@@ -49,7 +45,7 @@ state_plane i fine acc x n few =
 
 -- ---- the picture at once
 
-module _ (i : Input) (fine : check i ≡ Done) where
+module _ (i : Input) (fine : check i ≡ Ok tt) where
   samples : (x : Plane) → Samples (plane_in x i)
   samples luma_plane = (passed (checked i) fine).y
   samples u_plane = (passed (checked i) fine).u

@@ -1,5 +1,6 @@
 -- A picture that the call for the whole accepts has all its bands accepted.
 -- Assumes nothing.
+use Rattle.std.specs.Prelude.{Ok, Err}
 use Prim.Native.Nat.{ℕ, zero, suc, ◌+◌, ◌-◌, ◌*◌, ◌/◌, ◌%◌, ◌≤◌, ◌<◌}
 use mathlib.Core.Path.{◌≡◌, refl, sym, ap, ◌∙◌, subst}
 use mathlib.Core.Bool.{Bool, true}
@@ -15,8 +16,7 @@ use Rattle.laws.proofs.ScanAll.{scan_pass}
 use Rattle.def.specs.Answers.{after_checks}
 use Rattle.def.specs.Picture.{size_ok, roots_along, root_count, luma_length, unit_count}
 use Rattle.def.specs.Word.{qp_of}
-use Rattle.def.specs.declared.Answer.{Answer}
-use Rattle.def.specs.declared.Answer.TheVariants.{Done, Refused}
+use Rattle.def.specs.Answers.{Answer}
 use Rattle.def.specs.declared.Refusal.TheVariants.{Size, Length}
 use Rattle.def.specs.Formats.{in_format}
 use Rattle.def.specs.declared.Format.{Format}
@@ -83,12 +83,12 @@ bytes_long i sides lengths n less =
     length-take-le (1024 * A) (drop (1024 * (n * A)) i.splits) (omega (arith, length-drop (1024 * (n * A)) i.splits, suc-mul n A))
     ∙ sym ((λ k. 1024 * (wide k * one k)) ∙ omega arith)
 
-module _ (i : Input) (ok : check i ≡ Done) where
+module _ (i : Input) (ok : check i ≡ Ok tt) where
   pub size : size_ok i.w i.h ≡ true
   unfolding checks.check_of
   size = (passes (size_ok i.w i.h) Size (checks.from_lengths i.h i.h 0 (checked i)) ok).holds
 
-  pub onward : checks.from_lengths i.h i.h 0 (checked i) ≡ Done
+  pub onward : checks.from_lengths i.h i.h 0 (checked i) ≡ Ok tt
   unfolding checks.check_of
   onward = (passes (size_ok i.w i.h) Size (checks.from_lengths i.h i.h 0 (checked i)) ok).rest
 
@@ -218,10 +218,10 @@ module _ (i : Input) (ok : check i ≡ Done) where
         let high = (sized i.w i.h size).by_four_down in
         rw (eq-eqb n j.next (sym (position i size words_long n few acc n here)), lt-ltb n (roots_along i.h) (omega arith))
 
-    walk_fine : (picture_walk j.splits W (4 * own / 4)).answer ≡ Done
+    walk_fine : (picture_walk j.splits W (4 * own / 4)).answer ≡ Ok tt
     walk_fine = let e : 4 * own / 4 ≡ own = omega arith in ap (λ (r : ℕ). (picture_walk j.splits W r).answer) e ∙ walked n less
 
-    band_fine : call.check j ≡ Done
+    band_fine : call.check j ≡ Ok tt
     unfolding band-check.check_of checks.from_lengths planes_ok
     band_fine =
         rw (
@@ -250,12 +250,12 @@ module _ (i : Input) (ok : check i ≡ Done) where
   accepted_to zero l = λ k h. absurd (omega arith)
   accepted_to (suc n) l = one_more n l (accepted_to n (omega arith))
 
-pub whole_fine : (i : Input) → (outcome i).reading.number ≡ 0 → check i ≡ Done
+pub whole_fine : (i : Input) → (outcome i).reading.number ≡ 0 → check i ≡ Ok tt
 unfolding outcome
 whole_fine i e = go (check i) refl e where
-  go : (a : Answer) → check i ≡ a → (after_checks (refused i) (done i) a).reading.number ≡ 0 → check i ≡ Done
-  go Done q z = q
-  go (Refused r) q z = absurd (omega (arith, number_some r))
+  go : (a : Answer) → check i ≡ a → (after_checks (refused i) (done i) a).reading.number ≡ 0 → check i ≡ Ok tt
+  go (Ok _) q z = q
+  go (Err r) q z = absurd (omega (arith, number_some r))
 
 pub bands_accepted : (i : Input) → Parted i
 bands_accepted i e = accepted_to i (whole_fine i e) (bands i) (omega arith)

@@ -1,10 +1,8 @@
 -- A keep map of zeros keeps no unit, so that the planes are those of filtering without marks, by both engines.
 -- Assumes nothing.
+use Rattle.std.specs.Prelude.{Ok}
 use Prim.Native.Nat.{◌/◌}
-use mathlib.Core.Bool.{true}
 use mathlib.Core.Path.{◌≡◌, ◌∙◌}
-use Rattle.def.specs.Picture.{size_ok}
-use Rattle.def.specs.declared.Answer.TheVariants.{Done}
 use Rattle.split.specs.Edges.{vertical, horizontal}
 use Rattle.df_check.proofs.Passed.{passed}
 use Rattle.df_rules.proofs.Planes.{finished_unmarked_lem, zeros_unkept}
@@ -15,7 +13,7 @@ use Rattle.df_laws.proofs.Joined.{joined}
 use Rattle.df_laws.proofs.Moved.{after}
 use Rattle.df_laws.proofs.Parted.{lengths}
 
-pub unmarked : (i : Input) → check i ≡ Done → Zeros i → Unmarked i
+pub unmarked : (i : Input) → check i ≡ Ok tt → Zeros i → Unmarked i
 unmarked i fine zeros = record { whole = whole; by_bands = λ acc x. (joined i (passed (checked i) fine).size (lengths i fine) acc).planes x ∙ whole x } where
   whole : (x : Plane) → plane_after x (outcome i) ≡ plain i x
   whole x =

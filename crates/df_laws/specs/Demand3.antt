@@ -4,7 +4,7 @@
 use Rattle.std.specs.Prelude.{ℕ, ◌/◌, List, ◌≡◌, eqb, length}
 use Rattle.def.specs.declared.Component.{Component}
 use Rattle.def.specs.declared.Component.TheVariants.{Luma, Chroma}
-use Rattle.split.specs.Edges.{Pass, vertical, horizontal}
+use Rattle.split.specs.Edges.{vertical, horizontal}
 use Rattle.split.specs.Rows.{row_list}
 use Rattle.df_rules.specs.Demand3.{Demand3}
 use Rattle.df_rules.specs.Filter.{finished}

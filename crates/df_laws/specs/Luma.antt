@@ -2,11 +2,11 @@
 -- So a grey picture's are those of the run in colour. And a picture that is accepted stays accepted without its colour. The proofs are `same_luma`,
 -- `same_bands` and `stays_accepted`, in proofs/.
 -- Assumes nothing: these are definitions.
-use Rattle.std.specs.Prelude.{ℕ, ◌≤◌, [], ◌≡◌, pos}
+use Rattle.std.specs.Prelude.{ℕ, [], ◌≡◌, pos}
 use Rattle.def.specs.declared.Format.TheVariants.{Grey}
 use Rattle.split.specs.Edges.{Pass}
-use Rattle.df_laws.specs.Bands.{State, state_after, bands}
-use Rattle.df.specs.Deblock.{Input, Outcome, pass_edges, outcome}
+use Rattle.df_laws.specs.Bands.{state_after}
+use Rattle.df.specs.Deblock.{Input, pass_edges, outcome}
 
 -- all that is lent but U, V, their tables, their offsets and the format
 pub record SameLuma (i j : Input) : Type 0 where

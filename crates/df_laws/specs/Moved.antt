@@ -8,7 +8,7 @@ use Rattle.split.specs.Edges.{Pass, vertical, horizontal, Edge}
 use Rattle.df_rules.specs.Moves.{largest, Writes, unit_of, Moves}
 use Rattle.df_rules.specs.Strength.{kept_at}
 use Rattle.bands_rules.specs.Bands.{band_list, joined}
-use Rattle.df_laws.specs.Bands.{State, state_after, bands, Plane, component_of, mapped_as, plane_in, plane_of, plane_after}
+use Rattle.df_laws.specs.Bands.{state_after, Plane, component_of, mapped_as, plane_in, plane_of, plane_after}
 use Rattle.df.specs.Deblock.{Input, pass_edges, maps_of, outcome}
 
 -- no edge of a list writes place k of a plane

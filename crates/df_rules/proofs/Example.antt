@@ -1,6 +1,7 @@
 -- The paper's sheet, width 16, height 8, splits 11110, as a picture whose two orders differ: the lists, and a chroma plane that ends the same by both. In one
 -- row of units the order counts: the windows of its two edges overlap. Computed by the checker.
 -- Assumes nothing.
+use Rattle.std.specs.Prelude.{Ok}
 use Prim.Native.Nat.{ℕ}
 use mathlib.Core.Path.{◌≡◌, refl, sym, ap, ◌∙◌}
 use mathlib.Core.Bool.{false}
@@ -9,7 +10,6 @@ use native.Mathlib.Omega.{arith}
 use lib.IntN.{pos}
 use lib.ListN.{get_or, set, replicate}
 use Rattle.def.specs.Word.{flag_at}
-use Rattle.def.specs.declared.Answer.TheVariants.{Done}
 use Rattle.def.specs.declared.Component.TheVariants.{Chroma}
 use Rattle.laws.specs.Bits.{field_of}
 use Rattle.laws.specs.Clip.{max_z, min_z, clip_z, abs_z, with_sign, held_to, sample_z}
@@ -30,7 +30,7 @@ use Rattle.df_rules.proofs.Finished.{demand_3}
 bytes : List ℕ
 bytes = set (set (set (set (replicate 1024 0) 136 1) 324 1) 546 1) 785 1
 
-accepted : (picture_walk bytes 4 2).answer ≡ Done
+accepted : (picture_walk bytes 4 2).answer ≡ Ok tt
 unfolding bytes walk leaf_walk by_byte onward in_turn
 accepted = refl
 

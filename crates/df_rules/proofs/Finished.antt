@@ -2,6 +2,7 @@
 --     demand_3    for sides in units
 --     accepted_demand_3    for sides in luma samples, of a picture that deblocking accepts as far as its walk
 -- Assumes nothing.
+use Rattle.std.specs.Prelude.{Ok}
 use Prim.Native.Nat.{ℕ, ◌*◌, ◌/◌, ◌≤◌, ◌<◌}
 use mathlib.Core.Path.{◌≡◌, ap, ◌∙◌}
 use mathlib.Core.Bool.{Bool}
@@ -9,7 +10,6 @@ use mathlib.Core.List.{List, Memᴰ}
 use mathlib.Core.Logic.{⊎_elim, ◌↔◌}
 use native.Mathlib.Omega.{arith}
 use Rattle.def.proofs.Sizes.{sized}
-use Rattle.def.specs.declared.Answer.TheVariants.{Done}
 use Rattle.def.specs.declared.Component.{Component}
 use Rattle.laws.specs.Orders.{run}
 use Rattle.laws.proofs.Flat.{flat_within}
@@ -33,7 +33,7 @@ raster w e f p o =
     ⊎_elim (λ z. let q = flat_within e.y e.x w f.y p z in omega arith)
     (λ z. let q = ap (λ (y : ℕ). y * w) z.0 in let r = z.1 in omega arith) o
 
-module _ (halved : Bool) (s : List ℕ) (w h : ℕ) (pos : 1 ≤ w) (accepted : (picture_walk s w h).answer ≡ Done) where
+module _ (halved : Bool) (s : List ℕ) (w h : ℕ) (pos : 1 ≤ w) (accepted : (picture_walk s w h).answer ≡ Ok tt) where
   abbrev row_edges : (d : Pass) (e : Edge) → Memᴰ e (row_list d halved s w h) ↔ EdgeOf d halved s w h e
   row_edges = row_members halved s w h pos accepted
 

@@ -1,6 +1,7 @@
 -- A pass's list and its list row by row come to the same plane. A window reads and writes in one row of units in the vertical pass, in one column of
 -- units in the horizontal one; there both lists have the same order, and windows of different rows, or columns, commute.
 -- Assumes nothing.
+use Rattle.std.specs.Prelude.{Ok}
 use Prim.Native.Nat.{ℕ, ◌+◌, ◌-◌, ◌*◌, ◌/◌, ◌%◌, ◌≤◌, ◌<◌}
 use mathlib.Core.Path.{◌≡◌, refl, sym, ap, ◌∙◌}
 use mathlib.Core.Bool.{Bool}
@@ -9,7 +10,6 @@ use mathlib.Core.Logic.{◌↔◌}
 use native.Mathlib.Nat.{add-mul, mul_comm, mul-one}
 use native.Mathlib.Omega.{arith}
 use lib.Arith.{digits_div, digits_mod}
-use Rattle.def.specs.declared.Answer.TheVariants.{Done}
 use Rattle.def.specs.declared.Component.{Component}
 use Rattle.def.specs.declared.Component.TheVariants.{Luma, Chroma}
 use Rattle.laws.specs.Orders.{Pairwise, run}
@@ -68,7 +68,7 @@ windowed k d c w st e o p = window_local _ k st _ _ _ _ (unit_along_lem (unit_si
 
 -- ---- the two lists
 
-module _ (halved : Bool) (s : List ℕ) (w h : ℕ) (pos : 1 ≤ w) (accepted : (picture_walk s w h).answer ≡ Done) (d : Pass) where
+module _ (halved : Bool) (s : List ℕ) (w h : ℕ) (pos : 1 ≤ w) (accepted : (picture_walk s w h).answer ≡ Ok tt) (d : Pass) where
   -- what either list has of an edge and one that follows it
   record Follows (e f : Edge) : Type 0 where
     first : EdgeOf d halved s w h e

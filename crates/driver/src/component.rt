@@ -25,15 +25,14 @@ pub(crate) struct Block {
 
 // ---- the lent prediction
 
-// n samples of `to` from place `at` are those of `given` from place `from`.
+// n samples of `to` from place `at` become those of `given` from place `from`.
+// kept: in each crate that copies rows, and index by index: recon's `copy_row` says why.
 fn copy_row(to: &mut [u16], at: usize, given: &[u16], from: usize, n: usize)
     requires { (at + n ≤ length to.old) × (from + n ≤ length given.now) }
     ensures { to.new ≡ with_row 0 at n (λ (j : ℕ). get_or given.now (from + j) 0) to.old }
 {
-    let mut j = 0;
-    while j < n {
+    for j in 0..n {
         to[at + j] = given[from + j];
-        j += 1;
     }
 }
 
@@ -42,10 +41,8 @@ fn copy_block(w: usize, x: usize, y: usize, n: usize, lent: &[u16], pred: &mut [
     requires { Copied w x y n lent.now pred.old }
     ensures { pred.new ≡ block_of n (λ (r c : ℕ). get_or lent.now ((y + r) * w + x + c) 0) }
 {
-    let mut r = 0;
-    while r < n {
+    for r in 0..n {
         copy_row(pred, r * n, lent, (y + r) * w + x, n);
-        r += 1;
     }
 }
 
@@ -64,7 +61,7 @@ fn copy_lent(block: Block, lent: &[u16], pred: &mut [u16])
 // ---- a mode
 
 // The mode from the run of the block's neighbours, which is gathered at the start of `room`.
-// Neither call refuses: the block and the lengths are right, and what is gathered was written by this call.
+// Neither call refuses: the block and the lengths are right, and what is gathered was written by this call. That each unwrap finds no refusal is proved.
 fn predict(block: Block, mode: u8, plane: &[u16], words: &[u32], room: &mut [u16], pred: &mut [u16])
     requires { BlockAsked (around_block block plane.now words.now) × (mode ≤ 4) × (length pred.old ≡ sample_count block.component block.side) × (length room.old ≡ 257) }
     ensures { pred.new ≡ block_of (side_of block.component block.side) (predicted mode (side_of block.component block.side) (run_of (around_block block plane.now words.now))) }
@@ -84,8 +81,9 @@ fn predict(block: Block, mode: u8, plane: &[u16], words: &[u32], room: &mut [u16
         block.side,
         block.constrained,
         &mut *run,
-    );
-    ipred::ipred_b(mode, n, &*run, pred);
+    )
+    .unwrap();
+    ipred::ipred_b(mode, n, &*run, pred).unwrap();
 }
 
 // ---- both
@@ -115,10 +113,8 @@ fn lay_rows(w: usize, x: usize, y: usize, n: usize, pred: &[u16], plane: &mut [u
     requires { Copied w x y n plane.old pred.now }
     ensures { plane.new ≡ with_block 0 w x y n n (λ (r c : ℕ). get_or pred.now (r * n + c) 0) plane.old }
 {
-    let mut r = 0;
-    while r < n {
+    for r in 0..n {
         copy_row(plane, (y + r) * w + x, pred, r * n, n);
-        r += 1;
     }
 }
 
@@ -156,7 +152,8 @@ fn draw(
     prediction(block, kind, lent, &*plane, words, run, &mut *pred);
     recon::recon_plane(
         component, block.w, block.h, block.x, block.y, block.side, true, &*pred, coef, plane,
-    );
+    )
+    .unwrap();
 }
 
 // Where it is not coded no residual is lent: the prediction, of `long` samples, is laid in the plane as it is.

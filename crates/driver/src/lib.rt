@@ -7,7 +7,7 @@ ghost use Rattle.def.specs.Answers.{answer_number};
 ghost use Rattle.driver_rules.specs.Call.{outcome};
 ghost use Rattle.driver.specs.Lends.{given_of};
 
-use def::{Answer, Format};
+use def::{Format, Refusal};
 use driver_check::checked_leaves;
 use unit_maps::clear_words;
 use walk::draw_picture;
@@ -34,7 +34,7 @@ pub fn reconstruct(
     words: &mut [u32],
     modes: &mut [u8],
     keep: &mut [u8],
-) -> Answer
+) -> Result<(), Refusal>
     ensures { Gives outcome
         (record {
           given = given_of w h format constrained leaves.now residual.now pred_y.now pred_u.now pred_v.now;
@@ -48,7 +48,7 @@ pub fn reconstruct(
         })
         (record { number = answer_number result; y = y.new; u = u.new; v = v.new; words = words.new; modes = modes.new; keep = keep.new }) }
 {
-    if let Answer::Refused(r) = checked_leaves(
+    checked_leaves(
         w,
         h,
         format,
@@ -64,9 +64,7 @@ pub fn reconstruct(
         words.len(),
         modes.len(),
         keep.len(),
-    ) {
-        return Answer::Refused(r);
-    }
+    )?;
     clear_words(&mut *words);
     draw_picture(
         w,
@@ -86,5 +84,5 @@ pub fn reconstruct(
         modes,
         keep,
     );
-    Answer::Done
+    Ok(())
 }

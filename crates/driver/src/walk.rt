@@ -15,7 +15,6 @@ ghost use Rattle.unit_maps.specs.Maps.{Inside};
 use crate::component::{Block, component};
 use def::{Component, Format, Pel, pel2scu};
 use leaf_record::{coded_u, coded_v, coded_y, mode_of, word_of};
-use split::Walked;
 use unit_maps::tell_units;
 
 // A root's place, in luma samples.
@@ -34,6 +33,7 @@ pub(crate) struct Leaf {
 }
 
 // A leaf's record.
+// kept: its four bytes, as lomsakeun_reconstruct is lent them, and as the rule reads them (`kind_at`, `record_mask`).
 #[derive(Clone, Copy)]
 pub(crate) struct Record {
     pub(crate) kind: u8,
@@ -75,10 +75,8 @@ fn pack(list: &[u16], n: usize, leaves: &mut [u16])
     requires { Sides list.now n × (length leaves.old ≡ 256) }
     ensures { Packed list.now n leaves.new }
 {
-    let mut j = 0;
-    while j < n {
+    for j in 0..n {
         leaves[j] = packed_leaf(list[3 * j], list[3 * j + 1], list[3 * j + 2]);
-        j += 1;
     }
 }
 
@@ -97,7 +95,7 @@ fn pack_root(
 {
     let long = 768;
     let list = &mut room[0..long];
-    let Walked::Done(n) = split::root_leaves(w, h, splits, i, &mut *list) else {
+    let Ok(n) = split::root_leaves(w, h, splits, i, &mut *list) else {
         return 0;
     };
     pack(&*list, n, leaves);

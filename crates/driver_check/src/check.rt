@@ -7,8 +7,7 @@ ghost use Rattle.driver_rules.specs.Call.{colour_length, read_ok, written_ok, le
 ghost use Rattle.driver_rules.specs.Records.{bytes_ok, most_mask, walked_to, first, passed};
 
 use crate::records::{leaf_end, mask_at};
-use def::{Answer, Format, Refusal};
-use split::Walked;
+use def::{Format, Refusal};
 
 // ---- how far the walk comes
 
@@ -42,7 +41,7 @@ fn past_picture(w: usize, h: usize, splits: &[u8], leaves: &[u8]) -> Place
     let mut list = [0u16; 768];
     let mut place = Place { at: 0, k: 0 };
     for i in 0..roots {
-        let Walked::Done(n) = split::root_leaves(w, h, splits, i, &mut list) else {
+        let Ok(n) = split::root_leaves(w, h, splits, i, &mut list) else {
             return place;
         };
         place = past_leaves(leaves, &list, n, place);
@@ -124,10 +123,8 @@ fn bytes_ok(leaves: &[u8], n: usize, b: usize, m: u8) -> bool
     ensures { result ≡ bytes_ok leaves.now n b m }
 {
     let mut ok = true;
-    let mut k = 0;
-    while k < n {
-        ok = ok & (leaves[4 * k + b] <= m);
-        k += 1;
+    for k in 0..n {
+        ok &= leaves[4 * k + b] <= m;
     }
     ok
 }
@@ -162,25 +159,25 @@ fn data_checked(
     pred_y: &[u16],
     pred_u: &[u16],
     pred_v: &[u16],
-) -> Answer
+) -> Result<(), Refusal>
     requires { Accepted w h splits.now }
     ensures { result ≡ data_check format leaves.now residual pred_y.now pred_u.now pred_v.now (leaves_of w h splits.now) }
 {
     let end = past_picture(w, h, splits, leaves);
     let n = end.k;
     if !records_ok(format, leaves, residual, end.at, n) {
-        return Answer::Refused(Refusal::Record);
+        return Err(Refusal::Record);
     }
     if !bytes_ok(leaves, n, 0, 5) {
-        return Answer::Refused(Refusal::Mode);
+        return Err(Refusal::Mode);
     }
     if !bytes_ok(leaves, n, 1, 51) {
-        return Answer::Refused(Refusal::Qp);
+        return Err(Refusal::Qp);
     }
     if !lent_ok(pred_y, pred_u, pred_v) {
-        return Answer::Refused(Refusal::Sample);
+        return Err(Refusal::Sample);
     }
-    Answer::Done
+    Ok(())
 }
 
 // 1, 2, then 4 or 5 as the walk meets them, and then the data.
@@ -200,11 +197,11 @@ pub fn checked_leaves(
     words: usize,
     modes: usize,
     keep: usize,
-) -> Answer
+) -> Result<(), Refusal>
     ensures { result ≡ check_of w h format splits.now leaves.now residual pred_y.now pred_u.now pred_v.now y u v words modes keep }
 {
     if !def::size_ok(w, h) {
-        return Answer::Refused(Refusal::Size);
+        return Err(Refusal::Size);
     }
     if !read_ok(
         w,
@@ -215,15 +212,13 @@ pub fn checked_leaves(
         pred_u.len(),
         pred_v.len(),
     ) {
-        return Answer::Refused(Refusal::Length);
+        return Err(Refusal::Length);
     }
     if !written_ok(w, h, format, y, u, v, words, modes, keep) {
-        return Answer::Refused(Refusal::Length);
+        return Err(Refusal::Length);
     }
-    match split::check(w, h, splits) {
-        Answer::Refused(r) => Answer::Refused(r),
-        Answer::Done => data_checked(
-            w, h, format, splits, leaves, residual, pred_y, pred_u, pred_v,
-        ),
-    }
+    split::check(w, h, splits)?;
+    data_checked(
+        w, h, format, splits, leaves, residual, pred_y, pred_u, pred_v,
+    )
 }

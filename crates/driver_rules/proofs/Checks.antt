@@ -4,6 +4,7 @@
 --     walk_answer, onward    the answer of the walk, where size and splits passed
 --     data_row_lem, records_long    the data's checks, by where the walk ended
 -- Assumes nothing.
+use Rattle.std.specs.Prelude.{Ok, Err}
 use Prim.Native.Nat.{ℕ, ◌+◌, ◌*◌, ◌/◌, ◌≤◌, ◌<◌}
 use mathlib.Core.Path.{◌≡◌, refl, sym, ap, ◌∙◌}
 use mathlib.Core.Bool.{true}
@@ -23,8 +24,7 @@ use Rattle.def.specs.Answers.{after_checks}
 use Rattle.def.specs.Components.{plane_length}
 use Rattle.def.specs.Formats.{in_format}
 use Rattle.def.specs.Picture.{size_ok, luma_length, root_count, unit_count}
-use Rattle.def.specs.declared.Answer.{Answer}
-use Rattle.def.specs.declared.Answer.TheVariants.{Done, Refused}
+use Rattle.def.specs.Answers.{Answer}
 use Rattle.def.specs.declared.Component.TheVariants.{Luma, Chroma}
 use Rattle.def.specs.declared.Format.{Format}
 use Rattle.def.specs.declared.Format.TheVariants.{Colour}
@@ -49,12 +49,12 @@ walk_answer w h s z e = rw (z, eq-eqb _ _ e)
 
 -- a walk that is not refused, and what is asked after it
 pub record Onward (k a : Answer) : Type 0 where
-  pub walked : a ≡ Done
-  pub rest : k ≡ Done
+  pub walked : a ≡ Ok tt
+  pub rest : k ≡ Ok tt
 
-pub onward : (k a : Answer) → after_checks Refused k a ≡ Done → Onward k a
-onward k Done e = record { walked = refl; rest = e }
-onward k (Refused r) e = record { walked = cc; rest = cc }
+pub onward : (k a : Answer) → after_checks Err k a ≡ Ok tt → Onward k a
+onward k (Ok _) e = record { walked = refl; rest = e }
+onward k (Err r) e = record { walked = cc; rest = cc }
 
 -- ---- the lengths
 
@@ -119,7 +119,7 @@ masks_most r n m e b k = go (dec_lt k n) where
   go (yes p) = leb-true _ _ (scan_at (λ (j : ℕ). leb (byte_at r j 2) m) n k p b)
   go (no p) = let z = get_or-eq_default r 0 {n = 4 * k + 2} (omega arith) in omega (arith, z)
 
-pub all_passed : (i : Input) → check i ≡ Done → Passed i
+pub all_passed : (i : Input) → check i ≡ Ok tt → Passed i
 unfolding check_of data_check records_ok lent_ok
 all_passed i e =
     let g = i.given in
@@ -131,7 +131,7 @@ all_passed i e =
     let records = passes (records_ok g.format g.leaves (length g.residual) (passed g.leaves l first).at (length l)) Record _ walk.rest in
     let modes = passes (bytes_ok g.leaves (length l) 0 5) Mode _ records.rest in
     let qps = passes (bytes_ok g.leaves (length l) 1 51) Qp _ modes.rest in
-    let lent = passes (lent_ok g.pred_y g.pred_u g.pred_v) Sample Done qps.rest in
+    let lent = passes (lent_ok g.pred_y g.pred_u g.pred_v) Sample (Ok tt) qps.rest in
     let r = read_told _ _ g.format _ _ _ _ read.holds in
     let w = written_told _ _ g.format _ _ _ _ _ _ written.holds in
     let tests = lent_tests g.pred_y g.pred_u g.pred_v in
@@ -173,7 +173,7 @@ all_passed i e =
       qps = qps.holds;
     }
 
-pub outcome_done : (i : Input) → check i ≡ Done → outcome i ≡ done i
+pub outcome_done : (i : Input) → check i ≡ Ok tt → outcome i ≡ done i
 unfolding outcome
 outcome_done i e = rw e
 
@@ -181,11 +181,11 @@ outcome_done i e = rw e
 
 abbrev pub data_row : Format → (r : List ℕ) (residual at n : ℕ) (py pu pv : List ℕ) → Answer
 data_row f r residual at n py pu pv =
-    unless (records_ok f r residual at n) (Refused Record)
-    (unless (bytes_ok r n 0 5) (Refused Mode)
-    (unless (bytes_ok r n 1 51) (Refused Qp)
-    (unless (lent_ok py pu pv) (Refused Sample)
-    Done)))
+    unless (records_ok f r residual at n) (Err Record)
+    (unless (bytes_ok r n 0 5) (Err Mode)
+    (unless (bytes_ok r n 1 51) (Err Qp)
+    (unless (lent_ok py pu pv) (Err Sample)
+    (Ok tt))))
 
 pub data_row_lem : (f : Format) (r : List ℕ) (residual at n : ℕ) (py pu pv : List ℕ) (l : List Leaf) → record { at = at; k = n } ≡ passed r l first
     → data_row f r residual at n py pu pv ≡ data_check f r residual py pu pv l

@@ -3,6 +3,7 @@
 --     step_alike, steps_alike    a leaf; the leaves of a list
 --     held_for_nothing    the theorem
 -- Assumes nothing.
+use Rattle.std.specs.Prelude.{Ok}
 use Prim.Native.Nat.{ℕ, ◌*◌, ◌/◌, ◌<◌}
 use mathlib.Core.Path.{◌≡◌, refl, sym, ap, ◌∙◌, subst}
 use mathlib.Core.Bool.{Bool, true}
@@ -21,7 +22,6 @@ use Rattle.def.specs.Formats.{in_format}
 use Rattle.def.specs.Picture.{size_ok, unit_count}
 use Rattle.def.specs.Units.{unit_at}
 use Rattle.def.specs.Word.{done_of}
-use Rattle.def.specs.declared.Answer.TheVariants.{Done}
 use Rattle.def.specs.declared.Component.{Component}
 use Rattle.def.specs.declared.Component.TheVariants.{Luma, Chroma}
 use Rattle.def.specs.declared.Format.{Format}
@@ -150,14 +150,14 @@ module _ (i j : Input) (e : SameButHeld i j) where
   is_again : again ≡ j
   is_again = (λ k. record { given = e.given k; splits = e.splits k; y = j.y; u = j.u; v = j.v; words = j.words; modes = j.modes; keep = j.keep })
 
-  module _ (accepted : check i ≡ Done) where
+  module _ (accepted : check i ≡ Ok tt) where
     abbrev w : ℕ
     w = i.given.w
 
     abbrev h : ℕ
     h = i.given.h
 
-    too : check again ≡ Done
+    too : check again ≡ Ok tt
     too = ap check is_again ∙ sym same_check ∙ accepted
 
     size : size_ok w h ≡ true

@@ -4,6 +4,7 @@
 --     finished    the theorem
 --     reconstructed    the same from an answer of 0 of the call
 -- Assumes nothing.
+use Rattle.std.specs.Prelude.{Ok, Err}
 use Prim.Native.Nat.{ℕ, suc, ◌+◌, ◌*◌, ◌/◌, ◌%◌, ◌≤◌, ◌<◌}
 use mathlib.Core.Path.{◌≡◌, refl, sym, ap, ◌∙◌, subst}
 use mathlib.Core.Bool.{Bool, true, false}
@@ -27,8 +28,7 @@ use Rattle.def.specs.Formats.{in_format}
 use Rattle.def.specs.Picture.{size_ok, unit_count}
 use Rattle.def.specs.Word.{qp_of, done_of}
 use Rattle.def.specs.Answers.{after_checks}
-use Rattle.def.specs.declared.Answer.{Answer}
-use Rattle.def.specs.declared.Answer.TheVariants.{Done, Refused}
+use Rattle.def.specs.Answers.{Answer}
 use Rattle.def.proofs.Answers.{number_some}
 use Rattle.def.specs.declared.Component.{Component}
 use Rattle.def.specs.declared.Component.TheVariants.{Luma, Chroma}
@@ -174,7 +174,7 @@ colour_small Colour w h plane words s long d all = plane_small Chroma w h plane 
 
 -- ---- the theorem
 
-module _ (i : Input) (accepted : check i ≡ Done) where
+module _ (i : Input) (accepted : check i ≡ Ok tt) where
   abbrev p : Passed i
   p = all_passed i accepted
 
@@ -187,7 +187,7 @@ module _ (i : Input) (accepted : check i ≡ Done) where
   abbrev l : List Leaf
   l = leaves_of w h i.splits
 
-  fine : (j : ℕ) → j < roots (w / 4) (h / 4) → (root_walk i.splits (w / 4) (h / 4) j).answer ≡ Done
+  fine : (j : ℕ) → j < roots (w / 4) (h / 4) → (root_walk i.splits (w / 4) (h / 4) j).answer ≡ Ok tt
   fine = each_done (root_walk i.splits (w / 4) (h / 4)) (roots (w / 4) (h / 4)) p.accepted.walked
 
   some : 1 ≤ w / 4
@@ -263,8 +263,8 @@ pub record Reconstructed (i : Input) (o : Outcome) : Type 0 where
   pub whole : Finished i
 
 told_by_lem : (i : Input) (o : Outcome) (k : Answer) → check i ≡ k → o ≡ after_checks (refused i) (done i) k → o.number ≡ 0 → Reconstructed i o
-told_by_lem i o Done e g n = record { made = g; whole = finished i e }
-told_by_lem i o (Refused r) e g n = absurd (omega (arith, number_some r, ap (λ (q : Outcome). q.number) g))
+told_by_lem i o (Ok _) e g n = record { made = g; whole = finished i e }
+told_by_lem i o (Err r) e g n = absurd (omega (arith, number_some r, ap (λ (q : Outcome). q.number) g))
 
 pub reconstructed : (i : Input) (o : Outcome) → Gives outcome i o → o.number ≡ 0 → Reconstructed i o
 unfolding outcome

@@ -4,6 +4,7 @@
 --     leaves_same    each leaf has the same luma data
 --     without_colour_lem    the theorem
 -- Assumes nothing.
+use Rattle.std.specs.Prelude.{Ok}
 use Prim.Native.Nat.{ℕ, zero, suc, ◌+◌, ◌*◌, ◌/◌, ◌%◌, ◌≤◌, ◌<◌}
 use mathlib.Core.Path.{◌≡◌, refl, sym, ap, ◌∙◌}
 use mathlib.Core.Bool.{Bool, true, false}
@@ -25,7 +26,6 @@ use Rattle.laws.proofs.Tabulate.{length_tabulate, get_d_tabulate}
 use Rattle.def.specs.Components.{plane_length}
 use Rattle.def.specs.Picture.{luma_length}
 use Rattle.def.specs.Word.{flag_at}
-use Rattle.def.specs.declared.Answer.TheVariants.{Done}
 use Rattle.def.specs.declared.Component.TheVariants.{Luma}
 use Rattle.samples.specs.Samples.{samples_ok}
 use Rattle.samples.proofs.Samples.{samples_pass}
@@ -160,7 +160,7 @@ module _ (g : Given) where
 
 -- ---- the theorem
 
-module _ (i : Input) (accepted : check i ≡ Done) where
+module _ (i : Input) (accepted : check i ≡ Ok tt) where
   abbrev p : Passed i
   p = all_passed i accepted
 
@@ -176,7 +176,7 @@ module _ (i : Input) (accepted : check i ≡ Done) where
   empty : samples_ok [] ≡ true
   empty = samples_pass [] (λ k q. absurd (omega (arith, q)))
 
-  pub stays : check grey ≡ Done
+  pub stays : check grey ≡ Ok tt
   unfolding check_of read_ok written_ok data_check records_ok lent_ok
   stays =
       let w = written_told g.w g.h g.format _ _ _ _ _ _ p.written in

@@ -3,6 +3,7 @@
 --     steps_same    the leaves of a list
 --     same_luma    the theorem
 -- Assumes nothing.
+use Rattle.std.specs.Prelude.{Ok}
 use Prim.Native.Nat.{ℕ, suc, ◌*◌}
 use mathlib.Core.Path.{◌≡◌, refl, sym, ap, ◌∙◌}
 use mathlib.Core.Bool.{Bool, true, false}
@@ -12,7 +13,6 @@ use lib.IntN.{ℤ}
 use Rattle.laws.specs.Index.{pick}
 use Rattle.laws.specs.Orders.{run}
 use Rattle.def.specs.Word.{leaf_word}
-use Rattle.def.specs.declared.Answer.TheVariants.{Done}
 use Rattle.def.specs.declared.Component.TheVariants.{Luma}
 use Rattle.nbr.specs.Gather.{Around}
 use Rattle.split.specs.Walk.{Leaf}
@@ -80,7 +80,7 @@ module _ (i j : Input) (e : SameLuma i j) where
       (steps_same i.given j.given e.given (leaves_of i.given.w i.given.h i.splits) (start i) (start alike)
       (record { y = refl; words = refl; modes = refl; keep = refl }) e.leaves)
 
-  pub same_luma : check i ≡ Done → check j ≡ Done → LumaAgrees (outcome i) (outcome j)
+  pub same_luma : check i ≡ Ok tt → check j ≡ Ok tt → LumaAgrees (outcome i) (outcome j)
   same_luma c d =
       rw (held.all d, outcome_done i c, outcome_done alike (sym held.answer ∙ d))
       (record { y = same_end.y; words = same_end.words; modes = same_end.modes; keep = same_end.keep })

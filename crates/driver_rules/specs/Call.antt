@@ -1,6 +1,6 @@
 -- The call `reconstruct`: its input, its outcome and the rule between them.
 -- Assumes nothing: these are definitions.
-use Rattle.std.specs.Prelude.{ℕ, ◌*◌, ◌/◌, Bool, List, [], ◌∷◌, eqb, length}
+use Rattle.std.specs.Prelude.{ℕ, ◌*◌, ◌/◌, Bool, List, [], ◌∷◌, eqb, length, Ok, Err}
 use Rattle.laws.specs.Call.{unless, all_of}
 use Rattle.laws.specs.Index.{tabulate}
 use Rattle.def.specs.Answers.{after_checks}
@@ -10,8 +10,7 @@ use Rattle.def.specs.Refusals.{number_of}
 use Rattle.def.specs.declared.Format.{Format}
 use Rattle.def.specs.declared.Refusal.{Refusal}
 use Rattle.def.specs.declared.Refusal.TheVariants.{Size, Length, Record, Mode, Qp, Sample}
-use Rattle.def.specs.declared.Answer.{Answer}
-use Rattle.def.specs.declared.Answer.TheVariants.{Done, Refused}
+use Rattle.def.specs.Answers.{Answer}
 use Rattle.samples.specs.Samples.{samples_ok}
 use Rattle.split.specs.Picture.{picture_walk, all_leaves}
 use Rattle.split.specs.Walk.{Leaf}
@@ -74,19 +73,19 @@ lent_ok py pu pv = all_of (lent_tests py pu pv)
 -- over all leaves, 13, 9, 6 and 7
 unfoldable pub data_check : Format → (r : List ℕ) (residual : ℕ) (py pu pv : List ℕ) (l : List Leaf) → Answer
 data_check f r residual py pu pv l =
-    unless (records_ok f r residual (passed r l first).at (length l)) (Refused Record)
-    (unless (bytes_ok r (length l) 0 5) (Refused Mode)
-    (unless (bytes_ok r (length l) 1 51) (Refused Qp)
-    (unless (lent_ok py pu pv) (Refused Sample)
-    Done)))
+    unless (records_ok f r residual (passed r l first).at (length l)) (Err Record)
+    (unless (bytes_ok r (length l) 0 5) (Err Mode)
+    (unless (bytes_ok r (length l) 1 51) (Err Qp)
+    (unless (lent_ok py pu pv) (Err Sample)
+    (Ok tt))))
 
 -- 1, 2, then 4 or 5 as the walk meets them, and then the data. residual and what is written by their lengths
 unfoldable pub check_of : (w h : ℕ) → Format → (splits leaves : List ℕ) (residual : ℕ) (py pu pv : List ℕ) (y u v words modes keep : ℕ) → Answer
 check_of w h f splits leaves residual py pu pv y u v words modes keep =
-    unless (size_ok w h) (Refused Size)
-    (unless (read_ok w h f (length splits) (length py) (length pu) (length pv)) (Refused Length)
-    (unless (written_ok w h f y u v words modes keep) (Refused Length)
-    (after_checks Refused (data_check f leaves residual py pu pv (leaves_of w h splits))
+    unless (size_ok w h) (Err Size)
+    (unless (read_ok w h f (length splits) (length py) (length pu) (length pv)) (Err Length)
+    (unless (written_ok w h f y u v words modes keep) (Err Length)
+    (after_checks Err (data_check f leaves residual py pu pv (leaves_of w h splits))
     (picture_walk splits (w / 4) (h / 4)).answer)))
 
 abbrev pub check : Input → Answer

@@ -1,7 +1,6 @@
 -- What the planes, the words, the modes and the keep bytes held before the call counts for nothing. The proof is `held_for_nothing`, in proofs/.
 -- Assumes nothing: these are definitions.
-use Rattle.std.specs.Prelude.{◌≡◌, length}
-use Rattle.def.specs.declared.Answer.TheVariants.{Done}
+use Rattle.std.specs.Prelude.{◌≡◌, length, Ok}
 use Rattle.driver_rules.specs.Call.{Input, check, outcome}
 
 -- two calls that differ at most in what these held
@@ -18,4 +17,4 @@ pub record SameButHeld (i j : Input) : Type 0 where
 -- both are refused alike or neither is, and where neither is all that they leave is the same
 pub record HeldForNothing (i j : Input) : Type 0 where
   pub answer : check i ≡ check j
-  pub all : check i ≡ Done → outcome i ≡ outcome j
+  pub all : check i ≡ Ok tt → outcome i ≡ outcome j

@@ -2,9 +2,8 @@
 -- So a grey picture's are those of the run in colour. That the leaves are the same needs no word: `leaves_of` is not given the format.
 -- And a picture without its colour is accepted where the picture is (`without_colour_lem`, in proofs/).
 -- Assumes nothing: these are definitions.
-use Rattle.std.specs.Prelude.{ℕ, ◌*◌, ◌%◌, ◌<◌, ◌≡◌, true, List, [], ◌∷◌, ◌++◌, eqb, ℤ, length, get_or, take, drop}
+use Rattle.std.specs.Prelude.{ℕ, ◌*◌, ◌%◌, ◌<◌, ◌≡◌, true, List, [], ◌∷◌, ◌++◌, eqb, ℤ, length, get_or, take, drop, Ok}
 use Rattle.laws.specs.Index.{pick, tabulate}
-use Rattle.def.specs.declared.Answer.TheVariants.{Done}
 use Rattle.def.specs.declared.Component.TheVariants.{Luma}
 use Rattle.def.specs.declared.Format.TheVariants.{Grey}
 use Rattle.split.specs.Walk.{Leaf, leaf}
@@ -92,5 +91,5 @@ without_colour i =
     }
 
 pub record WithoutColour (i : Input) : Type 0 where
-  pub accepted : check (without_colour i) ≡ Done
+  pub accepted : check (without_colour i) ≡ Ok tt
   pub luma : LumaAgrees (outcome i) (outcome (without_colour i))

@@ -236,6 +236,8 @@ fn count_chroma(format: Format, columns: usize, n: usize, long_u: usize, long_v:
 }
 
 // The first n edges of a list in luma, turn by turn.
+// kept: a turn answers where the next one starts, so that no range counts the turns. And the slices and arrays are handed on one by one: a struct of them
+// would need a proof by hand of 100 to 230 lines for each function that takes it.
 pub fn filter_luma(
     pass: Pass,
     columns: usize,
@@ -258,6 +260,7 @@ pub fn filter_luma(
 }
 
 // And in chroma, by the picture's format.
+// kept: a turn answers where the next one starts, so that no range counts the turns.
 pub fn filter_chroma(
     format: Format,
     pass: Pass,

@@ -3,7 +3,7 @@
 // The Rust beside it: df.rs, evc_get_tbl_qp_to_st.
 #![tactic(auto)]
 
-ghost use Rattle.std.specs.Prelude.{◌≡◌, ◌/◌, ◌≤◌, ◌<◌, min, length};
+ghost use Rattle.std.specs.Prelude.{◌≡◌, ◌/◌, ◌≤◌, ◌<◌, length};
 ghost use Rattle.laws.specs.Bits.{field_of};
 ghost use Rattle.split.specs.Edges.{edge, pass_of};
 ghost use Rattle.df_rules.specs.Places.{step_across, unit_q};
@@ -70,17 +70,11 @@ fn marks_at(keep: &[u8], q: usize, p: usize) -> u8
 
 // ---- where an edge's units are
 
-fn lesser(a: usize, b: usize) -> usize
-    ensures { result ≡ min a b }
-{
-    if a < b { a } else { b }
-}
-
 // How many units there are in all of the maps, by their lengths.
 fn units_in(words: usize, motion: usize, refs: usize, keep: usize) -> usize
     ensures { result ≡ units_in words motion refs keep }
 {
-    lesser(lesser(words, motion / 4), lesser(refs / 2, keep))
+    words.min(motion / 4).min((refs / 2).min(keep))
 }
 
 // How many edges are planned: n, or as many as there are numbers and room for. A row has at most 65,535 units, so that no unit's number overflows.
@@ -90,7 +84,7 @@ fn edges_in(columns: usize, list: usize, n: usize, places: usize, marks: usize) 
     if columns > 65535 {
         return 0;
     }
-    lesser(lesser(n, list / 2), lesser(places, marks))
+    n.min(list / 2).min(places.min(marks))
 }
 
 // From a unit to the next across the pass's edges.

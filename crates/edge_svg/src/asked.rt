@@ -1,107 +1,105 @@
 // What the arguments ask for: options, and words that are none. No word is a sheet from standard input, one names a sheet, four are W, H, LIMIT and a map.
+use tree_file::Tree;
+
+#[derive(Clone, Copy)]
+pub(crate) enum Form {
+    Sheet,
+    // a map by its bytes, and whether it is mended
+    Bytes(Tree, bool),
+    Digits(Tree),
+}
+
 #[derive(Clone, Copy)]
 pub(crate) struct Asked {
-    pub(crate) good: bool,
     pub(crate) numbers: bool,
-    pub(crate) torn: bool,
-    pub(crate) digits: bool,
-    // whether a map is named, and not a sheet
-    pub(crate) map: bool,
-    pub(crate) w: usize,
-    pub(crate) h: usize,
-    pub(crate) limit: usize,
+    pub(crate) form: Form,
     // where the file's name is among the arguments, 0 for standard input
     pub(crate) file: usize,
 }
 
-// 1, 2 and 3 for an option that is known, 4 for one that is not, 0 for a word that is none.
-fn option(rt: &HostRuntime, at: usize) -> usize {
+// ---- words
+
+#[derive(Clone, Copy, PartialEq, Eq)]
+enum Word {
+    Numbers,
+    Torn,
+    Digits,
+    Unknown,
+    // no option
+    Plain,
+}
+
+fn kind_of(word: &[u8]) -> Word {
+    match word {
+        b"--numbers" => Word::Numbers,
+        b"--torn" => Word::Torn,
+        b"--digits" => Word::Digits,
+        [b'-', ..] => Word::Unknown,
+        _ => Word::Plain,
+    }
+}
+
+fn kind_at(rt: &HostRuntime, at: usize) -> Word {
     let mut word = files::buffer();
     let n = files::arg(rt, at, &mut word);
-    let known = words::which(&word[..n], b"--numbers --torn --digits ");
-    if known != 0 {
-        return known;
-    }
-    if (0 < n) & (word[0] == b'-') { 4 } else { 0 }
+    kind_of(&word[..n])
 }
 
-// Whether an option is among the arguments.
-fn given(rt: &HostRuntime, number: usize) -> bool {
-    let count = files::arg_count(rt);
-    let mut at: usize = 1;
-    while at < count {
-        if option(rt, at) == number {
-            return true;
-        }
-        at += 1;
-    }
-    false
+// Whether such a word is among the arguments.
+fn given(rt: &HostRuntime, kind: Word) -> bool {
+    (1..files::arg_count(rt)).any(|at| kind_at(rt, at) == kind)
 }
 
-// Where the n-th word that is no option is, from 1 on; 0 where there are fewer.
-fn place(rt: &HostRuntime, n: usize) -> usize {
-    let count = files::arg_count(rt);
-    let mut met: usize = 0;
-    let mut at: usize = 1;
-    while at < count {
-        if option(rt, at) == 0 {
-            met = std::num::wrapping_add_usize(met, 1);
-            if met == n {
-                return at;
-            }
-        }
-        at += 1;
-    }
-    0
+// Where the n-th word that is no option is, from 0 on.
+fn place(rt: &HostRuntime, n: usize) -> Option<usize> {
+    (1..files::arg_count(rt))
+        .filter(|at| kind_at(rt, *at) == Word::Plain)
+        .nth(n)
 }
 
-// A sheet, or a map with its three numbers.
-fn words_said(rt: &HostRuntime, numbers: bool, map: bool, file: usize) -> Asked {
-    let w = words::number_arg(rt, place(rt, 1));
-    let h = words::number_arg(rt, place(rt, 2));
-    let limit = words::number_arg(rt, place(rt, 3));
-    let torn = given(rt, 2);
-    let digits = given(rt, 3);
-    let limit_ok = (limit.value == 5) | (limit.value == 6);
-    let sheet_ok = !map & !torn & !digits;
-    let map_ok = map & w.good & h.good & limit_ok & !(torn & digits);
-    Asked {
-        good: (sheet_ok | map_ok) & !given(rt, 4),
+fn number(rt: &HostRuntime, n: usize) -> Option<usize> {
+    words::number_arg(rt, place(rt, n)?)
+}
+
+// ---- the arguments
+
+// A map with its three numbers.
+fn map(rt: &HostRuntime, torn: bool, digits: bool) -> Option<Form> {
+    let w = number(rt, 0)?;
+    let h = number(rt, 1)?;
+    let limit = number(rt, 2)?;
+    let tree = Tree { w, h, limit };
+    if (limit != 5) & (limit != 6) | (torn & digits) {
+        return None;
+    }
+    Some(if digits {
+        Form::Digits(tree)
+    } else {
+        Form::Bytes(tree, torn)
+    })
+}
+
+pub(crate) fn arguments(rt: &HostRuntime) -> Option<Asked> {
+    if place(rt, 4).is_some() || given(rt, Word::Unknown) {
+        return None;
+    }
+    let numbers = given(rt, Word::Numbers);
+    let torn = given(rt, Word::Torn);
+    let digits = given(rt, Word::Digits);
+    if let Some(file) = place(rt, 3) {
+        let form = map(rt, torn, digits)?;
+        return Some(Asked {
+            numbers,
+            form,
+            file,
+        });
+    }
+    if place(rt, 1).is_some() || torn || digits {
+        return None;
+    }
+    Some(Asked {
         numbers,
-        torn,
-        digits,
-        map,
-        w: w.value,
-        h: h.value,
-        limit: limit.value,
-        file,
-    }
-}
-
-fn none() -> Asked {
-    Asked {
-        good: false,
-        numbers: false,
-        torn: false,
-        digits: false,
-        map: false,
-        w: 0,
-        h: 0,
-        limit: 0,
-        file: 0,
-    }
-}
-
-pub(crate) fn arguments(rt: &HostRuntime) -> Asked {
-    let fourth = place(rt, 4);
-    if place(rt, 5) != 0 {
-        return none();
-    }
-    if fourth != 0 {
-        return words_said(rt, given(rt, 1), true, fourth);
-    }
-    if place(rt, 2) != 0 {
-        return none();
-    }
-    words_said(rt, given(rt, 1), false, place(rt, 1))
+        form: Form::Sheet,
+        file: place(rt, 0).unwrap_or(0),
+    })
 }

@@ -1,74 +1,49 @@
 // The parts of the picture as SVG. Inside, a unit of length is a luma sample; the frame around it, with the legend and the scales, is in pixels.
-ghost use Rattle.std.specs.Prelude.{◌≤◌};
+ghost use Rattle.std.specs.Prelude.{◌*◌, ◌≤◌};
 
-use crate::Job;
-use crate::pen::{Pen, form, words};
+use crate::{Counts, Job, Out};
+use std::io;
+use std::io::Write;
 
-fn larger(a: usize, b: usize) -> usize {
-    if a < b { b } else { a }
-}
-
-fn smaller(a: usize, b: usize) -> usize {
-    if a < b { a } else { b }
-}
-
-pub(crate) fn plus(a: usize, b: usize) -> usize {
-    std::num::wrapping_add_usize(a, b)
+// A pass of deblocking, by the edges that it visits.
+#[derive(Clone, Copy, PartialEq, Eq)]
+pub(crate) enum Pass {
+    Vertical,
+    Horizontal,
 }
 
 // ---- the frame
 
 // Pixels a sample, by the longer side, so that a picture of any size is seen whole.
-fn scale_by(side: usize) -> usize
+fn scale_by(side: usize) -> u8
     ensures { result ≤ 24 }
 {
-    if side <= 32 {
-        return 24;
+    match side {
+        0..=32 => 24,
+        33..=64 => 12,
+        65..=128 => 8,
+        129..=256 => 4,
+        257..=1024 => 2,
+        _ => 1,
     }
-    if side <= 64 {
-        return 12;
-    }
-    if side <= 128 {
-        return 8;
-    }
-    if side <= 256 {
-        return 4;
-    }
-    if side <= 1024 {
-        return 2;
-    }
-    1
 }
 
 // What is written inside asks for twice as many.
-pub(crate) fn scale(w: usize, h: usize, written: bool) -> usize {
-    let n = scale_by(larger(w, h));
-    if written & (n < 24) {
-        return 2 * n;
-    }
-    n
+pub(crate) fn scale(w: usize, h: usize, written: bool) -> u8 {
+    let n = scale_by(w.max(h));
+    if written & (n < 24) { 2 * n } else { n }
 }
 
-// Samples in pixels, at one of those scales.
-fn pixels(job: Job, samples: usize) -> usize {
-    let n = samples % 8192;
-    let scale = job.scale;
-    match scale {
-        1 => n,
-        2 => 2 * n,
-        4 => 4 * n,
-        8 => 8 * n,
-        12 => 12 * n,
-        16 => 16 * n,
-        _ => 24 * n,
-    }
+// Samples in pixels.
+fn pixels(job: Job, samples: usize) -> usize
+    ensures { result ≤ 8191 * 255 }
+{
+    samples % 8192 * job.scale as usize
 }
 
 // How a part is drawn, by its class: two colours that the colour-blind tell apart, too, for both passes.
-fn style(pen: Pen, out: &mut [u8; 65536]) -> Pen {
-    words(
-        pen,
-        out,
+fn style(out: &mut Out) -> io::Result<()> {
+    out.write_all(
         b"<style>\n\
 text{font:13px sans-serif;fill:#222}\n\
 .l{fill:none;stroke:#999}\n\
@@ -86,87 +61,74 @@ text{font:13px sans-serif;fill:#222}\n\
 
 // A pixel, in hundredths of a sample, but never more than a quarter.
 fn thin(job: Job) -> usize {
-    smaller(100 / (job.scale % 64 + 1), 25)
+    (100 / (job.scale as usize + 1)).min(25)
 }
 
 // The frame, and the picture's ground. A leaf's outline is as thin as can be seen.
-pub(crate) fn start(pen: Pen, out: &mut [u8; 65536], job: Job) -> Pen {
-    let width = larger(plus(pixels(job, job.w), 72), 640);
-    let height = plus(pixels(job, job.h), 104);
-    let p = form(
-        pen,
+pub(crate) fn start(out: &mut Out, job: Job) -> io::Result<()> {
+    let width = (pixels(job, job.w) + 72).max(640);
+    let height = pixels(job, job.h) + 104;
+    write!(
         out,
-        b"<svg xmlns=\"http://www.w3.org/2000/svg\" width=\"@\" height=\"@\">\n",
-        &[width, height],
-    );
-    let p = style(p, out);
-    form(
-        p,
+        "<svg xmlns=\"http://www.w3.org/2000/svg\" width=\"{width}\" height=\"{height}\">\n"
+    )?;
+    style(&mut *out)?;
+    let scale = job.scale;
+    let thin = thin(job);
+    let w = job.w;
+    let h = job.h;
+    write!(
         out,
-        b"<rect width=\"100%\" height=\"100%\" fill=\"#fff\"/>\n\
-<g transform=\"translate(48 80) scale(@)\" stroke-width=\"@e-2\">\n\
-<rect width=\"@\" height=\"@\" class=\"l\"/>\n",
-        &[job.scale, thin(job), job.w, job.h],
+        "<rect width=\"100%\" height=\"100%\" fill=\"#fff\"/>\n\
+<g transform=\"translate(48 80) scale({scale})\" stroke-width=\"{thin}e-2\">\n\
+<rect width=\"{w}\" height=\"{h}\" class=\"l\"/>\n"
     )
 }
 
 // ---- leaves and edges
 
-pub(crate) fn leaves_path(pen: Pen, out: &mut [u8; 65536]) -> Pen {
-    words(pen, out, b"<path class=\"l\" d=\"")
+pub(crate) fn leaves_path(out: &mut Out) -> io::Result<()> {
+    out.write_all(b"<path class=\"l\" d=\"")
 }
 
 // The path of a pass's edges.
-pub(crate) fn edges_path(pen: Pen, out: &mut [u8; 65536], horizontal: bool) -> Pen {
-    if horizontal {
-        return words(pen, out, b"<path class=\"h\" d=\"");
+pub(crate) fn edges_path(out: &mut Out, pass: Pass) -> io::Result<()> {
+    match pass {
+        Pass::Vertical => out.write_all(b"<path class=\"v\" d=\""),
+        Pass::Horizontal => out.write_all(b"<path class=\"h\" d=\""),
     }
-    words(pen, out, b"<path class=\"v\" d=\"")
 }
 
-pub(crate) fn end_path(pen: Pen, out: &mut [u8; 65536]) -> Pen {
-    words(pen, out, b"\"/>\n")
+pub(crate) fn end_path(out: &mut Out) -> io::Result<()> {
+    out.write_all(b"\"/>\n")
 }
 
 // A leaf's outline, half a sample inside it: the edges around it stay to be seen.
-pub(crate) fn leaf(pen: Pen, out: &mut [u8; 65536], x: usize, y: usize, side: usize) -> Pen {
-    let inner = std::num::wrapping_sub_usize(side, 1);
-    form(pen, out, b"M@.5 @.5h@v@h-@z", &[x, y, inner, inner, inner])
+pub(crate) fn leaf(out: &mut Out, x: usize, y: usize, side: usize) -> io::Result<()> {
+    let inner = side.wrapping_sub(1);
+    write!(out, "M{x}.5 {y}.5h{inner}v{inner}h-{inner}z")
 }
 
 // An edge, with a gap at both ends: each is one of its own.
-pub(crate) fn edge(pen: Pen, out: &mut [u8; 65536], horizontal: bool, x: usize, y: usize) -> Pen {
-    if horizontal {
-        return form(pen, out, b"M@.2 @h3.6", &[x, y]);
+pub(crate) fn edge(out: &mut Out, pass: Pass, x: usize, y: usize) -> io::Result<()> {
+    match pass {
+        Pass::Vertical => write!(out, "M{x} {y}.2v3.6"),
+        Pass::Horizontal => write!(out, "M{x}.2 {y}h3.6"),
     }
-    form(pen, out, b"M@ @.2v3.6", &[x, y])
 }
 
-// The text of a number. One of more than four digits is written small, so that it keeps to its edge.
-fn text_of(pen: Pen, out: &mut [u8; 65536], n: usize) -> Pen {
-    if n < 10000 {
-        return words(pen, out, b"<text class=\"n\"");
-    }
-    words(pen, out, b"<text class=\"n s\"")
-}
-
-// The place of an edge in its pass's order, at its middle.
-pub(crate) fn order(
-    pen: Pen,
-    out: &mut [u8; 65536],
-    horizontal: bool,
-    x: usize,
-    y: usize,
-    n: usize,
-) -> Pen {
-    let right = if horizontal { 2 } else { 0 };
-    let down = if horizontal { 0 } else { 2 };
-    let p = text_of(pen, out, n);
-    form(
-        p,
+// The place of an edge in its pass's order, at its middle. A number of more than four digits is written small, so that it keeps to its edge.
+pub(crate) fn order(out: &mut Out, pass: Pass, x: usize, y: usize, n: usize) -> io::Result<()> {
+    let class = if n < 10000 { "n" } else { "n s" };
+    let (right, down) = match pass {
+        Pass::Vertical => (0, 2),
+        Pass::Horizontal => (2, 0),
+    };
+    let x = x.wrapping_add(right);
+    let y = y.wrapping_add(down);
+    write!(
         out,
-        b" x=\"@\" y=\"@.4\">@</text>\n",
-        &[plus(x, right), plus(y, down), n],
+        "<text class=\"{class}\" x=\"{x}\" y=\"{y}.4\">{n}</text>\n"
     )
 }
 
@@ -174,123 +136,105 @@ pub(crate) fn order(
 
 // As much of a side as lies in the picture.
 fn inside(at: usize, side: usize, end: usize) -> usize {
-    if end < plus(at, side) {
-        return std::num::wrapping_sub_usize(end, at);
+    if end < at.wrapping_add(side) {
+        return end.wrapping_sub(at);
     }
     side
 }
 
 // A block whose byte was changed.
-pub(crate) fn changed(pen: Pen, out: &mut [u8; 65536], job: Job, b: map_file::Block) -> Pen {
+pub(crate) fn changed(out: &mut Out, job: Job, b: map_file::Block) -> io::Result<()> {
     let width = inside(b.x, b.side, job.w);
     let height = inside(b.y, b.side, job.h);
-    form(
-        pen,
+    let x = b.x;
+    let y = b.y;
+    write!(
         out,
-        b"<rect class=\"c\" x=\"@\" y=\"@\" width=\"@\" height=\"@\"/>\n",
-        &[b.x, b.y, width, height],
+        "<rect class=\"c\" x=\"{x}\" y=\"{y}\" width=\"{width}\" height=\"{height}\"/>\n"
     )
 }
 
 // What its byte was and is; by its level in a line of its own, since a block and a part of it start at one place. What is left of a block in the picture
 // has at least two lines.
 pub(crate) fn change(
-    pen: Pen,
-    out: &mut [u8; 65536],
+    out: &mut Out,
     job: Job,
     b: map_file::Block,
     level: usize,
-    old: usize,
-    new: usize,
-) -> Pen {
-    let last = std::num::wrapping_sub_usize(inside(b.y, b.side, job.h), 2);
-    let line = smaller(2 * (level % 4), last);
-    form(
-        pen,
+    old: u16,
+    new: u16,
+) -> io::Result<()> {
+    let last = inside(b.y, b.side, job.h).wrapping_sub(2);
+    let line = (2 * (level % 4)).min(last);
+    let x = b.x;
+    let y = b.y.wrapping_add(line).wrapping_add(1);
+    write!(
         out,
-        b"<text class=\"k\" x=\"@.6\" y=\"@.4\">@&#8594;@</text>\n",
-        &[b.x, plus(plus(b.y, line), 1), old, new],
+        "<text class=\"k\" x=\"{x}.6\" y=\"{y}.4\">{old}&#8594;{new}</text>\n"
     )
 }
 
 // ---- the scales and the legend, in pixels
 
 // A number on a scale: the column or the row of samples that starts there.
-fn mark(pen: Pen, out: &mut [u8; 65536], job: Job, down: bool, at: usize) -> Pen {
+fn mark(out: &mut Out, job: Job, down: bool, at: usize) -> io::Result<()> {
     let pixel = pixels(job, at);
     if down {
-        return form(
-            pen,
-            out,
-            b"<text class=\"y\" x=\"42\" y=\"@\">@</text>\n",
-            &[plus(84, pixel), at],
-        );
+        let y = pixel + 84;
+        return write!(out, "<text class=\"y\" x=\"42\" y=\"{y}\">{at}</text>\n");
     }
-    form(
-        pen,
-        out,
-        b"<text class=\"x\" y=\"74\" x=\"@\">@</text>\n",
-        &[plus(48, pixel), at],
-    )
+    let x = pixel + 48;
+    write!(out, "<text class=\"x\" y=\"74\" x=\"{x}\">{at}</text>\n")
 }
 
 // Every root, and the end; a root has no number where there is no room for both.
-fn scale_of(pen: Pen, out: &mut [u8; 65536], job: Job, down: bool, end: usize) -> Pen {
-    let mut p = pen;
-    let mut root: usize = 0;
-    while root < 64 {
+fn scale_of(out: &mut Out, job: Job, down: bool, end: usize) -> io::Result<()> {
+    for root in 0..64 {
         let at = 64 * root;
-        if plus(pixels(job, at), 32) < pixels(job, end) {
-            p = mark(p, out, job, down, at);
+        if pixels(job, at) + 32 < pixels(job, end) {
+            mark(&mut *out, job, down, at)?;
         }
-        root += 1;
     }
-    mark(p, out, job, down, end)
+    mark(out, job, down, end)
 }
 
 // What the picture has: its size, the edges of both passes and the leaves.
-fn legend(pen: Pen, out: &mut [u8; 65536], job: Job, drawn: Pen) -> Pen {
-    form(
-        pen,
+fn legend(out: &mut Out, job: Job, drawn: Counts) -> io::Result<()> {
+    let w = job.w;
+    let h = job.h;
+    let limit = job.limit;
+    let vertical = drawn.vertical;
+    let horizontal = drawn.horizontal;
+    let leaves = drawn.leaves;
+    write!(
         out,
-        b"<text x=\"48\" y=\"22\">@ x @ samples, transform limit @</text>\n\
+        "<text x=\"48\" y=\"22\">{w} x {h} samples, transform limit {limit}</text>\n\
 <path d=\"M54 34v16\" stroke=\"#d55e00\" stroke-width=\"4\"/>\n\
-<text x=\"66\" y=\"47\">vertical edges, first pass: @</text>\n\
+<text x=\"66\" y=\"47\">vertical edges, first pass: {vertical}</text>\n\
 <path d=\"M330 42h16\" stroke=\"#0072b2\" stroke-width=\"4\"/>\n\
-<text x=\"352\" y=\"47\">horizontal edges, second pass: @</text>\n\
+<text x=\"352\" y=\"47\">horizontal edges, second pass: {horizontal}</text>\n\
 <rect x=\"330\" y=\"12\" width=\"12\" height=\"12\" fill=\"none\" stroke=\"#8a8a8a\"/>\n\
-<text x=\"352\" y=\"22\">leaves: @</text>\n",
-        &[
-            job.w,
-            job.h,
-            job.limit,
-            drawn.vertical,
-            drawn.horizontal,
-            drawn.leaves,
-        ],
+<text x=\"352\" y=\"22\">leaves: {leaves}</text>\n"
     )
 }
 
 // The changes, of a torn map.
-fn changes(pen: Pen, out: &mut [u8; 65536], job: Job, n: usize) -> Pen {
-    if !job.torn {
-        return pen;
-    }
-    form(
-        pen,
+fn changes(out: &mut Out, n: usize) -> io::Result<()> {
+    write!(
         out,
-        b"<rect x=\"464\" y=\"12\" width=\"12\" height=\"12\" fill=\"#ffe98a\" stroke=\"#7a5c00\" stroke-dasharray=\"3 2\"/>\n\
-<text x=\"484\" y=\"22\">split bytes mended: @</text>\n",
-        &[n],
+        "<rect x=\"464\" y=\"12\" width=\"12\" height=\"12\" fill=\"#ffe98a\" stroke=\"#7a5c00\" stroke-dasharray=\"3 2\"/>\n\
+<text x=\"484\" y=\"22\">split bytes mended: {n}</text>\n"
     )
 }
 
 // The end of the picture: what was drawn is known by now.
-pub(crate) fn end(pen: Pen, out: &mut [u8; 65536], job: Job) -> Pen {
-    let p = words(pen, out, b"</g>\n");
-    let p = scale_of(p, out, job, false, job.w);
-    let p = scale_of(p, out, job, true, job.h);
-    let p = legend(p, out, job, pen);
-    let p = changes(p, out, job, pen.changes);
-    words(p, out, b"</svg>\n")
+pub(crate) fn end(out: &mut Out, job: Job, drawn: Counts) -> io::Result<()> {
+    out.write_all(b"</g>\n")?;
+    scale_of(&mut *out, job, false, job.w)?;
+    scale_of(&mut *out, job, true, job.h)?;
+    legend(&mut *out, job, drawn)?;
+    if job.torn {
+        changes(&mut *out, drawn.changes)?;
+    }
+    out.write_all(b"</svg>\n")
 }

@@ -1,5 +1,6 @@
 -- The outcome of `list_edges`, by what its checks find.
 -- Assumes nothing.
+use Rattle.std.specs.Prelude.{Ok, Err}
 use mathlib.Core.Bool.{true}
 use mathlib.Core.List.{List, [], ◌∷◌}
 use mathlib.Core.Path.{◌≡◌}
@@ -9,8 +10,7 @@ use borrow.Author.Tests.{eqb-true}
 use lib.Dec.{eqb}
 use lib.ListN.{length}
 use Rattle.def.specs.Picture.{size_ok, root_count, unit_count}
-use Rattle.def.specs.declared.Answer.{Answer}
-use Rattle.def.specs.declared.Answer.TheVariants.{Done, Refused}
+use Rattle.def.specs.Answers.{Answer}
 use Rattle.def.specs.declared.Refusal.{Refusal}
 use Rattle.def.specs.declared.Refusal.TheVariants.{Size, Length, Setting}
 use Rattle.def.proofs.Answers.{on_refusal, on_done}
@@ -21,7 +21,6 @@ use Rattle.split.specs.Accepted.{Accepted}
 use Rattle.split.specs.Edges.{Edge, vertical, horizontal, edge_numbers}
 use Rattle.split.specs.ListCall as list-call
 use Rattle.split.specs.Picture.{picture_walk}
-use Rattle.split.specs.declared.Listed.TheVariants.{Done as Listed', Refused as NotListed}
 use Rattle.split.proofs.Demand3.{edges_twice}
 use Rattle.split.proofs.Outcomes.{past}
 use Rattle.edges.specs.Put.{Put}
@@ -39,13 +38,13 @@ pub record Passed (w h : ℕ) (s : List ℕ) (limit m n : ℕ) : Type 0 where
   pub vertical : m ≡ 2 * unit_count w h
   pub horizontal : n ≡ 2 * unit_count w h
 
-pub list_passed : (w h : ℕ) (s : List ℕ) (limit m n : ℕ) → list-call.check_of w h s limit m n ≡ Done → Passed w h s limit m n
+pub list_passed : (w h : ℕ) (s : List ℕ) (limit m n : ℕ) → list-call.check_of w h s limit m n ≡ Ok tt → Passed w h s limit m n
 unfolding list-call.check_of
 list_passed w h s limit m n e =
     let t = list-call.lengths_ok w h (length s) m n in
     let k = (picture_walk s (w / 4) (h / 4)).answer in
-    let rest = unless (list-call.limit_ok limit) (Refused Setting) k in
-    let a = past (size_ok w h) Size (unless t (Refused Length) rest) e in
+    let rest = unless (list-call.limit_ok limit) (Err Setting) k in
+    let a = past (size_ok w h) Size (unless t (Err Length) rest) e in
     let b = past t Length rest a.1 in
     let c = past (list-call.limit_ok limit) Setting k b.1 in
     let l = list_lengths_told w h (length s) m n b.0 in
@@ -55,13 +54,13 @@ list_passed w h s limit m n e =
 counted_half : (l : List Edge) {out out₁ : List ℕ} {k : ℕ} → Put (each edge_numbers l) out 0 out₁ k → k / 2 ≡ length l
 counted_half l p = omega (arith, p.count, edges_twice l)
 
-pub list_refused : (i : list-call.Input) (a : Answer) (r : Refusal) → a ≡ list-call.check i → a ≡ Refused r → list-call.after (NotListed r) i.vertical i.horizontal ≡ list-call.outcome i
+pub list_refused : (i : list-call.Input) (a : Answer) (r : Refusal) → a ≡ list-call.check i → a ≡ Err r → list-call.after (Err r) i.vertical i.horizontal ≡ list-call.outcome i
 unfolding list-call.outcome
 list_refused i a r e q = on_refusal (list-call.refused i) (list-call.done i) a (list-call.check i) r e q
 
-pub list_done : (i : list-call.Input) (a : Answer) (m n : List ℕ) (u v : ℕ) → a ≡ list-call.check i → a ≡ Done
+pub list_done : (i : list-call.Input) (a : Answer) (m n : List ℕ) (u v : ℕ) → a ≡ list-call.check i → a ≡ Ok tt
     → Put (each edge_numbers (list-call.pass_edges vertical i)) i.vertical 0 m u → Put (each edge_numbers (list-call.pass_edges horizontal i)) i.horizontal 0 n v
-    → list-call.after (Listed' (u / 2) (v / 2)) m n ≡ list-call.outcome i
+    → list-call.after (Ok (record { vertical = u / 2; horizontal = v / 2 })) m n ≡ list-call.outcome i
 unfolding list-call.outcome
 list_done i a m n u v e q p o =
     on_done (list-call.refused i) (list-call.done i) a (list-call.check i) _ e q

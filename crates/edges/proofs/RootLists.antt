@@ -1,21 +1,18 @@
 -- The outcome of `root_list`, by what its checks and the call for the leaves find; and the room that a root's edges take.
 -- Assumes nothing.
-use Prim.Native.Nat.{ℕ, ◌+◌, ◌-◌, ◌*◌, ◌/◌, ◌^◌, ◌≤◌, ◌<◌, zero-le}
-use mathlib.Core.Bool.{Bool, true, false}
-use mathlib.Core.List.{List, [], ◌∷◌, ◌++◌, map, Memᴰ}
+use Rattle.std.specs.Prelude.{Ok, Err, Result}
+use Prim.Native.Nat.{ℕ, ◌+◌, ◌*◌, ◌/◌, ◌^◌, ◌≤◌, ◌<◌, zero-le}
+use mathlib.Core.Bool.{true, false}
+use mathlib.Core.List.{List, ◌++◌, map, Memᴰ}
 use mathlib.Core.Path.{◌≡◌, refl, sym, ap, ◌∙◌, subst}
 use native.Mathlib.Nat.{two-pow-succ}
 use native.Mathlib.Omega.{arith}
 use borrow.Author.Tests.{le-leb, lt-leb, eq-eqb, ne_eqb}
-use lib.Dec.{leb, eqb}
 use lib.ListN.{length, get_or}
 use lib.Seq.{sets}
-use Rattle.def.proofs.Sizes.{Sized, sized}
 use Rattle.def.specs.Answers.{after_checks}
 use Rattle.def.specs.Picture.{size_ok}
-use Rattle.def.specs.Refusals.{number_of}
-use Rattle.def.specs.declared.Answer.{Answer}
-use Rattle.def.specs.declared.Answer.TheVariants.{Done, Refused}
+use Rattle.def.specs.Answers.{Answer}
 use Rattle.def.specs.declared.Refusal.{Refusal}
 use Rattle.def.specs.declared.Refusal.TheVariants.{Size, Length}
 use Rattle.def.proofs.Answers.{number_some}
@@ -26,10 +23,8 @@ use Rattle.split.specs.LeavesCall as leaves-call
 use Rattle.split.specs.Picture.{root_bytes, root_x, root_y}
 use Rattle.split.specs.RootCall as root-call
 use Rattle.split.specs.RootCall.{leaf_down}
-use Rattle.split.specs.Stored.{area, leaf_from, leaves_from, LeafAt, Ready}
+use Rattle.split.specs.Stored.{area, leaf_from, leaves_from, Ready}
 use Rattle.split.specs.Walk.{Leaf, walk}
-use Rattle.split.specs.declared.Walked.{Walked}
-use Rattle.split.specs.declared.Walked.TheVariants.{Done as Counted, Refused as NotCounted}
 use Rattle.split.proofs.Area.{area_append}
 use Rattle.split.proofs.Callers.{Told, leaves_told, from_in}
 use Rattle.split.proofs.Demand3.{edges_twice}
@@ -62,7 +57,7 @@ module _ (s : List ℕ) (w h : ℕ) where
         (omega (arith, area_append l₀ (l₁ ++ (l₂ ++ l₃)), area_append l₁ (l₂ ++ l₃), area_append l₂ l₃)) c₀ c₁ c₂ c₃;
   }
 
-  pub block_few : (k x y : ℕ) → (walk s w h k x y).answer ≡ Done → area (walk s w h k x y).list ≤ 2 ^ k * 2 ^ k
+  pub block_few : (k x y : ℕ) → (walk s w h k x y).answer ≡ Ok tt → area (walk s w h k x y).list ≤ 2 ^ k * 2 ^ k
   block_few = walk_ind s w h Few few_cases
 
 -- ---- the outcome
@@ -78,15 +73,15 @@ pub record Early (i : root-call.Input) : Type 0 where
   pub long : length i.out ≡ 512
 
 module _ (i : root-call.Input) where
-  pub size_refused : size_ok i.w i.h ≡ false → Gives root-call.outcome i (leaves-call.after (NotCounted Size) i.out)
+  pub size_refused : size_ok i.w i.h ≡ false → Gives root-call.outcome i (leaves-call.after (Err Size) i.out)
   unfolding root-call.outcome root-call.check_of
   size_refused e = rw e
 
-  pub top_refused : size_ok i.w i.h ≡ true → 1024 < i.top + i.h / 4 → Gives root-call.outcome i (leaves-call.after (NotCounted Size) i.out)
+  pub top_refused : size_ok i.w i.h ≡ true → 1024 < i.top + i.h / 4 → Gives root-call.outcome i (leaves-call.after (Err Size) i.out)
   unfolding root-call.outcome root-call.check_of
   top_refused e g = rw (e, lt-leb (i.top + i.h / 4) 1024 g)
 
-  pub long_refused : size_ok i.w i.h ≡ true → i.top + i.h / 4 ≤ 1024 → (length i.out ≡ 512 → ⊥) → Gives root-call.outcome i (leaves-call.after (NotCounted Length) i.out)
+  pub long_refused : size_ok i.w i.h ≡ true → i.top + i.h / 4 ≤ 1024 → (length i.out ≡ 512 → ⊥) → Gives root-call.outcome i (leaves-call.after (Err Length) i.out)
   unfolding root-call.outcome root-call.check_of
   long_refused e g n = rw (e, le-leb (i.top + i.h / 4) 1024 g, ne_eqb (length i.out) 512 n)
 
@@ -95,28 +90,28 @@ module _ (i : root-call.Input) where
     unfolding root-call.check_of
     check_is = rw (early.size, le-leb (i.top + i.h / 4) 1024 early.high, eq-eqb (length i.out) 512 early.long)
 
-    refused_as : (k : Answer) (q : Refusal) (j : leaves-call.Input) (o : List ℕ) → leaves-call.after (NotCounted q) o ≡ after_checks (leaves-call.refused j) (leaves-call.done j) k
-        → leaves-call.after (NotCounted q) i.out ≡ after_checks (root-call.refused i) (root-call.done i) k
-    refused_as Done q j o e = absurd (omega (arith, number_some q, ap (λ (p : leaves-call.Outcome). p.reading.number) e))
-    refused_as (Refused r) q j o e = ap (λ (p : leaves-call.Outcome). record { reading = p.reading; out = i.out }) e
+    refused_as : (k : Answer) (q : Refusal) (j : leaves-call.Input) (o : List ℕ) → leaves-call.after (Err q) o ≡ after_checks (leaves-call.refused j) (leaves-call.done j) k
+        → leaves-call.after (Err q) i.out ≡ after_checks (root-call.refused i) (root-call.done i) k
+    refused_as (Ok _) q j o e = absurd (omega (arith, number_some q, ap (λ (p : leaves-call.Outcome). p.reading.number) e))
+    refused_as (Err r) q j o e = ap (λ (p : leaves-call.Outcome). record { reading = p.reading; out = i.out }) e
 
-    done_as : (k : Answer) (j : leaves-call.Input) (n : ℕ) (o : List ℕ) → leaves-call.after (Counted n) o ≡ after_checks (leaves-call.refused j) (leaves-call.done j) k → k ≡ Done
-    done_as Done j n o e = refl
-    done_as (Refused r) j n o e = absurd (omega (arith, number_some r, ap (λ (p : leaves-call.Outcome). p.reading.number) e))
+    done_as : (k : Answer) (j : leaves-call.Input) (n : ℕ) (o : List ℕ) → leaves-call.after (Ok n) o ≡ after_checks (leaves-call.refused j) (leaves-call.done j) k → k ≡ Ok tt
+    done_as (Ok _) j n o e = refl
+    done_as (Err r) j n o e = absurd (omega (arith, number_some r, ap (λ (p : leaves-call.Outcome). p.reading.number) e))
 
-    pub leaves_refused : (list o : List ℕ) (r : Walked) (q : Refusal) → length list ≡ 768 → Gives leaves-call.outcome (leaves_input i list) (leaves-call.after r o) → r ≡ NotCounted q
-        → Gives root-call.outcome i (leaves-call.after (NotCounted q) i.out)
+    pub leaves_refused : (list o : List ℕ) (r : Result ℕ Refusal) (q : Refusal) → length list ≡ 768 → Gives leaves-call.outcome (leaves_input i list) (leaves-call.after r o) → r ≡ Err q
+        → Gives root-call.outcome i (leaves-call.after (Err q) i.out)
     unfolding root-call.outcome leaves-call.outcome
     leaves_refused list o r q room g e =
         refused_as (leaves-call.check_of i.w i.h i.splits i.x i.y 768) q (leaves_input i list) o
-        (ap (λ (a : Walked). leaves-call.after a o) (sym e) ∙ g
+        (ap (λ (a : Result ℕ Refusal). leaves-call.after a o) (sym e) ∙ g
         ∙ ap (λ (n : ℕ). after_checks (leaves-call.refused (leaves_input i list)) (leaves-call.done (leaves_input i list))
         (leaves-call.check_of i.w i.h i.splits i.x i.y n)) room)
         ∙ ap (after_checks (root-call.refused i) (root-call.done i)) (sym check_is)
 
-    module _ (list o : List ℕ) (r : Walked) (n : ℕ) (room : length list ≡ 768) (g : Gives leaves-call.outcome (leaves_input i list) (leaves-call.after r o)) (e : r ≡ Counted n) where
+    module _ (list o : List ℕ) (r : Result ℕ Refusal) (n : ℕ) (room : length list ≡ 768) (g : Gives leaves-call.outcome (leaves_input i list) (leaves-call.after r o)) (e : r ≡ Ok n) where
       abbrev t : Told (leaves_input i list) o n
-      t = leaves_told (leaves_input i list) o n (ap (λ (a : Walked). leaves-call.after a o) (sym e) ∙ g)
+      t = leaves_told (leaves_input i list) o n (ap (λ (a : Result ℕ Refusal). leaves-call.after a o) (sym e) ∙ g)
 
       abbrev at : ℕ
       at = leaves-call.root_index i.w i.x i.y
@@ -139,18 +134,18 @@ module _ (i : root-call.Input) where
         omega (arith, early.long, ap area t.back, block_few (root_bytes i.splits at) (i.w / 4) (i.h / 4) 4 (root_x (i.w / 4) at) (root_y (i.w / 4) at) t.passed.walked),
       )
 
-      fine : leaves-call.check_of i.w i.h i.splits i.x i.y 768 ≡ Done
+      fine : leaves-call.check_of i.w i.h i.splits i.x i.y 768 ≡ Ok tt
       unfolding leaves-call.outcome
-      fine = done_as _ (leaves_input i list) n o (ap (λ (a : Walked). leaves-call.after a o) (sym e) ∙ g
+      fine = done_as _ (leaves_input i list) n o (ap (λ (a : Result ℕ Refusal). leaves-call.after a o) (sym e) ∙ g
           ∙ ap (λ (b : ℕ). after_checks (leaves-call.refused (leaves_input i list)) (leaves-call.done (leaves_input i list))
           (leaves-call.check_of i.w i.h i.splits i.x i.y b)) room)
 
       pub root_done : (out : List ℕ) (k : ℕ) → Put (each edge_numbers (edges_of (pass_of i.horizontal) i.halved (map (leaf_down i.top) (leaves_from o n)))) i.out 0 out k
-          → Gives root-call.outcome i (leaves-call.after (Counted (k / 2)) out)
+          → Gives root-call.outcome i (leaves-call.after (Ok (k / 2)) out)
       unfolding root-call.outcome
       root_done out k z =
           let es = edges_of (pass_of i.horizontal) i.halved (map (leaf_down i.top) (leaves_from o n)) in
           let half : k / 2 ≡ length es = omega (arith, z.count, edges_twice es) in
           let same : es ≡ root-call.edges_at i = ap (λ (l : List Leaf). edges_of (pass_of i.horizontal) i.halved (map (leaf_down i.top) l)) t.back in
-          (λ j. leaves-call.after (Counted (half j)) (z.put j)) ∙ ap (λ (l : List Edge). leaves-call.after (Counted (length l)) (sets i.out 0 (each edge_numbers l))) same
+          (λ j. leaves-call.after (Ok (half j)) (z.put j)) ∙ ap (λ (l : List Edge). leaves-call.after (Ok (length l)) (sets i.out 0 (each edge_numbers l))) same
           ∙ ap (after_checks (root-call.refused i) (root-call.done i)) (sym (check_is ∙ fine))

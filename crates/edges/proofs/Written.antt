@@ -1,5 +1,6 @@
 -- A pass's edges of a list of leaves, as they are written: a leaf more, a root more, and the room that they take.
 -- Assumes nothing.
+use Rattle.std.specs.Prelude.{Ok}
 use mathlib.Core.Bool.{Bool, true, false, ◌&&◌}
 use mathlib.Core.List.Memᴰ
 use mathlib.Core.List.{List, [], ◌∷◌, ◌++◌, map, append-nil, Memᴰ}
@@ -14,7 +15,6 @@ use borrow.Author.Tests.{lt-ltb, le-ltb, ne_eqb}
 use lib.Dec.{ltb, eqb}
 use lib.ListN.{length, get_or}
 use lib.Pow.{pow_pos}
-use Rattle.def.specs.declared.Answer.TheVariants.{Done}
 use Rattle.laws.specs.Index.{pick}
 use Rattle.laws.specs.Orders.{each}
 use Rattle.laws.proofs.Orders.{each_append, each_each}
@@ -222,7 +222,7 @@ module _ {b halved : Bool} {s : List ℕ} {w h : ℕ} {out₀ out : List ℕ} {i
   all_rooted p q = let e : i ≡ roots w h = omega arith in put_as (ap (λ (n : ℕ). numbers_of (pass_of b) halved (leaves_of s w h n)) e) z.written
 
   -- what the next root's edges take is left
-  pub root_room : 1 ≤ w → (picture_walk s w h).answer ≡ Done → i < roots w h → k + 2 * area (root_leaves s w h i) ≤ 2 * (w * h)
+  pub root_room : 1 ≤ w → (picture_walk s w h).answer ≡ Ok tt → i < roots w h → k + 2 * area (root_leaves s w h i) ≤ 2 * (w * h)
   unfolding leaves_of
   root_room pos accepted g =
       let fine = each_done (root_walk s w h) (roots w h) accepted in

@@ -18,8 +18,8 @@ ghost use Rattle.split.specs.RootCall.{leaf_down};
 ghost use Rattle.split.specs.Stored.{area, leaves_from};
 ghost use Rattle.edges.specs.Put.{Put, Starts, ReadyAt, stretch_numbers, near_numbers, leaf_edge_numbers};
 
-use def::{Answer, Pel, Refusal, roots_along, size_ok};
-use split::{Listed, Walked};
+use def::{Pel, Refusal, roots_along, size_ok};
+use split::EdgeCounts;
 
 // An edge, at `cross` across the pass's edges and `along` along them: its x and y go to the list.
 fn put_edge(horizontal: bool, cross: Pel, along: Pel, out: &mut [u16], at: usize)
@@ -47,10 +47,8 @@ fn put_stretch(
     requires { Starts cross.0 along.0 n × (at + 2 * n ≤ length out.old) }
     ensures { Put (stretch_numbers horizontal cross.0 along.0 n) out.old at out.new result }
 {
-    let mut j = 0;
-    while j < n {
+    for j in 0..n {
         put_edge(horizontal, cross, Pel(along.0 + 4 * j), out, at + 2 * j);
-        j += 1;
     }
     at + 2 * n
 }
@@ -122,15 +120,13 @@ fn leaves_edges(
     ensures { Put (each edge_numbers (edges_of (pass_of horizontal) halved (map (leaf_down top) (leaves_from list.now n)))) out.old at out.new result }
 {
     let mut k = at;
-    let mut j = 0;
-    while j < n {
+    for j in 0..n {
         let x = Pel(number_at(list, 3 * j));
         let y = Pel(number_at(list, 3 * j + 1) + 4 * top);
         let side = number_at(list, 3 * j + 2);
         let cross = across(horizontal, x, y);
         let along = across(horizontal, y, x);
         k = leaf_edges(horizontal, halved, cross, along, side, out, k);
-        j += 1;
     }
     k
 }
@@ -150,7 +146,7 @@ fn root_edges(
     ensures { Put (each edge_numbers (edges_of (pass_of horizontal) halved (root_leaves splits.now (w / 4) (h / 4) i))) out.old at out.new result }
 {
     let mut list = [0u16; 768];
-    let Walked::Done(n) = split::root_leaves(w, h, splits, i, &mut list) else {
+    let Ok(n) = split::root_leaves(w, h, splits, i, &mut list) else {
         return at;
     };
     leaves_edges(&list, n, horizontal, halved, 0, out, at)
@@ -170,10 +166,8 @@ fn pass_edges(
 {
     let n = splits.len() / 1024;
     let mut k = 0;
-    let mut i = 0;
-    while i < n {
+    for i in 0..n {
         k = root_edges(w, h, splits, i, horizontal, halved, out, k);
-        i += 1;
     }
     k
 }
@@ -203,17 +197,17 @@ fn list_checked(
     limit: u8,
     vertical: usize,
     horizontal: usize,
-) -> Answer
+) -> Result<(), Refusal>
     ensures { result ≡ ListCall.check_of w h splits.now limit vertical horizontal }
 {
     if !size_ok(w, h) {
-        return Answer::Refused(Refusal::Size);
+        return Err(Refusal::Size);
     }
     if !list_lengths_ok(w, h, splits.len(), vertical, horizontal) {
-        return Answer::Refused(Refusal::Length);
+        return Err(Refusal::Length);
     }
     if !limit_ok(limit) {
-        return Answer::Refused(Refusal::Setting);
+        return Err(Refusal::Setting);
     }
     split::check(w, h, splits)
 }
@@ -226,22 +220,18 @@ pub fn list_edges(
     limit: u8,
     vertical: &mut [u16],
     horizontal: &mut [u16],
-) -> Listed
+) -> Result<EdgeCounts, Refusal>
     ensures { Gives ListCall.outcome
         (record { w = w; h = h; splits = splits.now; limit = limit; vertical = vertical.old; horizontal = horizontal.old })
         (record { reading = ListCall.reading_of result; vertical = vertical.new; horizontal = horizontal.new }) }
 {
-    match list_checked(w, h, splits, limit, vertical.len(), horizontal.len()) {
-        Answer::Refused(r) => Listed::Refused(r),
-        Answer::Done => {
-            let vertical_end = pass_edges(w, h, splits, false, limit == 5, vertical);
-            let horizontal_end = pass_edges(w, h, splits, true, limit == 5, horizontal);
-            Listed::Done {
-                vertical: vertical_end / 2,
-                horizontal: horizontal_end / 2,
-            }
-        }
-    }
+    list_checked(w, h, splits, limit, vertical.len(), horizontal.len())?;
+    let vertical_end = pass_edges(w, h, splits, false, limit == 5, vertical);
+    let horizontal_end = pass_edges(w, h, splits, true, limit == 5, horizontal);
+    Ok(EdgeCounts {
+        vertical: vertical_end / 2,
+        horizontal: horizontal_end / 2,
+    })
 }
 
 // A pass's edges of the root at (x, y), as `list_edges` writes them, `top` rows of units further down: a band's top edge is one where something lies above.
@@ -255,26 +245,22 @@ pub fn root_list(
     halved: bool,
     top: usize,
     out: &mut [u16],
-) -> Walked
+) -> Result<usize, Refusal>
     ensures { Gives RootCall.outcome
         (record { w = w; h = h; splits = splits.now; x = x.0; y = y.0; horizontal = horizontal; halved = halved; top = top; out = out.old })
         (LeavesCall.after result out.new) }
 {
     if !size_ok(w, h) {
-        return Walked::Refused(Refusal::Size);
+        return Err(Refusal::Size);
     }
     if 1024 - h / 4 < top {
-        return Walked::Refused(Refusal::Size);
+        return Err(Refusal::Size);
     }
     if out.len() != 512 {
-        return Walked::Refused(Refusal::Length);
+        return Err(Refusal::Length);
     }
     let mut list = [0u16; 768];
-    match split::leaves(w, h, splits, x, y, &mut list) {
-        Walked::Refused(r) => Walked::Refused(r),
-        Walked::Done(n) => {
-            let k = leaves_edges(&list, n, horizontal, halved, top, out, 0);
-            Walked::Done(k / 2)
-        }
-    }
+    let n = split::leaves(w, h, splits, x, y, &mut list)?;
+    let k = leaves_edges(&list, n, horizontal, halved, top, out, 0);
+    Ok(k / 2)
 }

@@ -49,22 +49,9 @@ pub fn write_all(rt: &HostRuntime, to: Stream, bytes: &[u8]) -> io::Result<()> {
     }
 }
 
-// Writes a number, in decimal digits.
-pub fn print_decimal(rt: &HostRuntime, to: Stream, n: u64) -> io::Result<()> {
-    let mut digits = [0u8; 20];
-    let count = decimal(n, &mut digits);
-    write_all(rt, to, &digits[..count])
-}
-
-// The same two, to a file.
+// The same, to a file.
 pub fn put_all(file: &mut File, bytes: &[u8]) -> io::Result<()> {
     file.write_all(bytes)
-}
-
-pub fn put_decimal(file: &mut File, n: u64) -> io::Result<()> {
-    let mut digits = [0u8; 20];
-    let count = decimal(n, &mut digits);
-    put_all(file, &digits[..count])
 }
 
 // ---- what is read
@@ -97,9 +84,8 @@ pub fn read_full(file: &mut Source, room: &mut [u8]) -> usize
     let mut done = 0;
     while done < room.len() {
         match read_some(file, &mut room[done..]) {
-            Ok(0) => break,
+            Ok(0) | Err(_) => break,
             Ok(n) => done += n,
-            Err(_) => break,
         }
     }
     done
@@ -108,10 +94,7 @@ pub fn read_full(file: &mut Source, room: &mut [u8]) -> usize
 // Why a read of one byte more fails, if it does: that is asked where a file seems to end, as one does that is a directory.
 pub fn failure(file: &mut Source) -> Option<io::Error> {
     let mut byte = [0u8; 1];
-    match read_some(file, &mut byte) {
-        Ok(_) => None,
-        Err(e) => Some(e),
-    }
+    read_some(file, &mut byte).err()
 }
 
 // ---- files by name
@@ -120,10 +103,7 @@ pub fn failure(file: &mut Source) -> Option<io::Error> {
 const ILLEGAL_SEQUENCE: i32 = 84;
 
 fn path_of(path: &[u8]) -> io::Result<&str> {
-    match std::str::from_utf8(path) {
-        Ok(text) => Ok(text),
-        Err(_) => Err(io::Error::from_raw_os_error(ILLEGAL_SEQUENCE)),
-    }
+    std::str::from_utf8(path).map_err(|_| io::Error::from_raw_os_error(ILLEGAL_SEQUENCE))
 }
 
 // Opens a file, to be read.
@@ -142,39 +122,27 @@ pub fn open_overwrite(rt: &HostRuntime, path: &[u8]) -> io::Result<File> {
 pub fn arg(rt: &HostRuntime, i: usize, room: &mut [u8]) -> usize
     ensures { IsPrefixLen result room.new }
 {
-    match rt.arg(i, room) {
-        Ok(n) => n,
-        Err(_) => 0,
-    }
+    rt.arg(i, room).unwrap_or(0)
 }
 
 fn has_arg(rt: &HostRuntime, i: usize) -> bool {
     let mut first = [0u8; 1];
-    match rt.arg(i, &mut first) {
-        Err(FillError::NotPresent) => false,
-        _ => true,
-    }
+    !matches!(rt.arg(i, &mut first), Err(FillError::NotPresent))
 }
 
 // How many arguments there are, the program's own name among them.
 pub fn arg_count(rt: &HostRuntime) -> usize {
-    let mut count = 0;
-    while count < usize::MAX {
-        if !has_arg(rt, count) {
-            return count;
-        }
-        count += 1;
-    }
-    count
+    (0..usize::MAX).take_while(|i| has_arg(rt, *i)).count()
 }
 
 // ---- what failed
 
-// Tells on standard error that something failed, by its name, and why: `none.y4m: No such file or directory`.
+// Tells on standard error that something failed, by its name, and why: `none.y4m: No such file or directory`. The name need not be text.
 pub fn fail(rt: &HostRuntime, name: &[u8], error: io::Error) {
-    let why = text::of(error);
     let _ = write_all(rt, Stream::Errors, name);
-    let _ = write_all(rt, Stream::Errors, b": ");
-    let _ = write_all(rt, Stream::Errors, why.words());
-    let _ = write_all(rt, Stream::Errors, b"\n");
+    let _ = match text::of(rt.alloc(), error) {
+        Ok(why) => eprintln!(rt; ": {why}"),
+        // where there is no memory for the words, with the number behind them
+        Err(_) => eprintln!(rt; ": {error}"),
+    };
 }

@@ -4,6 +4,7 @@ ghost use Rattle.files.specs.Counts.{IsPrefixLen};
 ghost use Rattle.files.specs.Digits.{last_digits, IsDigitCount};
 
 // Puts a number's decimal digits at the start of the room: how many there are.
+// kept: programs print by std's macros; what `decimal` promises of the bytes, and its must-fail edits, are stated of this function
 pub fn decimal(n: u64, out: &mut [u8; 20]) -> usize
     ensures in_bounds { IsPrefixLen result out.new }
     ensures len { IsDigitCount n result }
@@ -33,10 +34,8 @@ fn write_digits(n: u64, k: usize, out: &mut [u8])
     ensures digits { take k out.new ≡ last_digits k n }
     ensures rest { drop k out.new ≡ drop k out.old }
 {
-    let mut i = k;
     let mut rest = n;
-    while i > 0 {
-        i -= 1;
+    for i in (0..k).rev() {
         out[i] = digit_to_ascii(rest % 10);
         rest /= 10;
     }

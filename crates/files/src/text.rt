@@ -1,68 +1,14 @@
 // Why something failed, in the system's words alone: std sets the error's number behind them, `Is a directory (os error 21)`.
-ghost use Rattle.std.specs.Prelude.{◌≤◌, length};
-ghost use Rattle.files.specs.Counts.{IsPrefixLen};
+use std::alloc::{AllocError, Global};
+use std::io;
 
-use std::fmt::Write;
-use std::{fmt, io};
-
-// Some words: the first 256 bytes of what is written to it.
-#[derive(Drop)]
-pub struct Text {
-    bytes: [u8; 256],
-    len: usize,
-}
-
-impl Text {
-    fn push(&mut self, b: u8) {
-        let at = self.len;
-        if at < 256 {
-            self.bytes[at] = b;
-            self.len = at + 1;
-        }
+// The words, up to the error's number.
+pub fn of(alloc: Global, error: io::Error) -> Result<String, AllocError> {
+    let mut words = error.to_string(alloc)?;
+    if let Some(end) = words.find(" (os error ") {
+        words.truncate(end);
     }
-
-    // The words, up to the error's number.
-    pub fn words(&self) -> &[u8] {
-        let n = self.len;
-        let all = &self.bytes[..];
-        if 256 < n {
-            return all;
-        }
-        let end = before_number(&all[..n]);
-        &all[..end]
-    }
-}
-
-impl Write for Text {
-    fn write_str(&mut self, s: &str) -> fmt::Result {
-        for b in s.as_bytes() {
-            self.push(*b);
-        }
-        Ok(())
-    }
-}
-
-// Where a text's ` (os error ` starts, or its end.
-fn before_number(text: &[u8]) -> usize
-    ensures { result ≤ length text.now }
-{
-    let mut i = 0;
-    while i < text.len() {
-        if text[i..].starts_with(b" (os error ") {
-            return i;
-        }
-        i += 1;
-    }
-    i
-}
-
-pub fn of(error: io::Error) -> Text {
-    let mut text = Text {
-        bytes: [0; 256],
-        len: 0,
-    };
-    let _ = text.write(error);
-    text
+    Ok(words)
 }
 
 #[cfg(test)]
@@ -71,12 +17,16 @@ mod tests {
 
     // What the C library says of these numbers; and a failure of std's own, which has no number.
     #[test]
-    fn no_number_is_told(rt: HostRuntime) {
-        let missing = of(io::Error::from_raw_os_error(2));
-        assert!(rt; missing.words() == b"No such file or directory".as_slice());
-        let full = of(io::Error::from_raw_os_error(28));
-        assert!(rt; full.words() == b"No space left on device".as_slice());
-        let other = of(io::Error::new(io::ErrorKind::Other, "(os error"));
-        assert!(rt; other.words() == b"(os error".as_slice());
+    fn no_number_is_told(rt: HostRuntime) -> Result<(), AllocError> {
+        let missing = of(rt.alloc(), io::Error::from_raw_os_error(2))?;
+        assert!(rt; missing.as_str() == "No such file or directory");
+        let full = of(rt.alloc(), io::Error::from_raw_os_error(28))?;
+        assert!(rt; full.as_str() == "No space left on device");
+        let other = of(
+            rt.alloc(),
+            io::Error::new(io::ErrorKind::Other, "(os error"),
+        )?;
+        assert!(rt; other.as_str() == "(os error");
+        Ok(())
     }
 }

@@ -1,73 +1,42 @@
 // The split tree, read into a room for the map of the stream's picture.
-use crate::asked;
-use crate::asked::Asked;
+use crate::Job;
+use crate::words_asked::Form;
 use files::Source;
+use say::Stop;
+use y4m_file::Header;
 
-// The exit status of reading it, and the transform limit.
-#[derive(Drop)]
-pub struct Tree {
-    pub status: u8,
-    pub limit: u8,
-}
-
-pub(crate) fn came(status: u8, limit: u8) -> Tree {
-    Tree { status, limit }
-}
-
-// A sheet says a size of its own, which is to be the stream's.
-fn differs(rt: &HostRuntime, at: usize, w: usize, h: usize, t: tree_file::Tree) -> u8 {
-    words::name(rt, at);
-    say::counted(rt, b"the sheet's picture is ", t.w);
-    say::counted(rt, b"x", t.h);
-    say::counted(rt, b", the stream's ", w);
-    say::counted(rt, b"x", h);
-    say::line(rt, b"");
-    1
-}
-
+// The tree of a sheet, and its limit. A sheet says a size of its own, which is to be the stream's.
 fn from_sheet(
     rt: &HostRuntime,
     at: usize,
     file: &mut Source,
-    w: usize,
-    h: usize,
+    header: Header,
     map: &mut [u8],
-) -> Tree {
-    let t = tree_file::by_sheet(rt, at, file, map);
-    if t.status != 0 {
-        return came(t.status, 0);
+) -> Result<u8, Stop> {
+    let t = tree_file::by_sheet(rt, at, file, map)?;
+    if (t.w != header.w) | (t.h != header.h) {
+        let across = t.w;
+        let down = t.h;
+        let w = header.w;
+        let h = header.h;
+        words::name(rt, at);
+        let _ = eprintln!(rt; "the sheet's picture is {across}x{down}, the stream's {w}x{h}");
+        return Err(Stop::Refused);
     }
-    if (t.w != w) | (t.h != h) {
-        return came(differs(rt, at, w, h, t), 0);
-    }
-    came(0, if t.limit == 5 { 5 } else { 6 })
+    Ok(if t.limit == 5 { 5 } else { 6 })
 }
 
-// The tree of an open file, of the form that is asked for.
-fn from_file(
-    rt: &HostRuntime,
-    a: Asked,
-    file: &mut Source,
-    w: usize,
-    h: usize,
-    map: &mut [u8],
-) -> Tree {
-    if a.sheet != 0 {
-        return from_sheet(rt, a.sheet, file, w, h, map);
+// The tree that is asked for, and its limit. What it is refused for is told by tree_file.
+pub(crate) fn read(rt: &HostRuntime, job: Job, map: &mut [u8]) -> Result<u8, Stop> {
+    let tree = job.asked.tree;
+    let at = tree.at;
+    let w = job.header.w;
+    let h = job.header.h;
+    let mut file = words::open(rt, at).ok_or(Stop::Failed)?;
+    match tree.form {
+        Form::Sheet => return from_sheet(rt, at, &mut file, job.header, map),
+        Form::Digits => tree_file::by_digits(rt, at, &mut file, w, h, map)?,
+        Form::Map => tree_file::by_bytes(rt, at, &mut file, w, h, false, map)?,
     }
-    if a.digits != 0 {
-        return came(tree_file::by_digits(rt, a.digits, file, w, h, map), a.limit);
-    }
-    came(
-        tree_file::by_bytes(rt, a.map, file, w, h, false, map),
-        a.limit,
-    )
-}
-
-// The tree that is asked for. What it is refused for is told by tree_file.
-pub(crate) fn read(rt: &HostRuntime, a: Asked, w: usize, h: usize, map: &mut [u8]) -> Tree {
-    match words::open(rt, asked::tree(a)) {
-        None => came(2, 0),
-        Some(mut file) => from_file(rt, a, &mut file, w, h, map),
-    }
+    Ok(job.asked.limit)
 }

@@ -3,62 +3,16 @@
 // it, whose output is compared, too.
 #![tactic(auto)]
 
-use decoder::HeaderRead;
-use files::Source;
 use finish_asked::{Asked, Job};
+use say::Stop;
 use std::process::ExitCode;
 
 mod rooms; // rooms.rt: room for a frame and its maps
 mod stream; // stream.rt: every frame
 
-// ---- the stream
-
-// The stream of an open file: its header, and then its frames.
-fn opened(rt: &HostRuntime, asked: Asked, file: &mut Source) -> u8 {
-    let mut head = [0u8; 256];
-    let n = y4m_file::first_line(file, &mut head);
-    if n == 0 {
-        if words::unreadable(rt, asked.stream, file) {
-            return 2;
-        }
-    }
-    match decoder::read_header(&head[..n]) {
-        HeaderRead::Refused(r, at) => {
-            y4m_file::refused_in(rt, asked.stream, decoder::refusal_number(r), at);
-            1
-        }
-        HeaderRead::Read {
-            w,
-            h,
-            f,
-            g,
-            a,
-            b,
-            next,
-        } => rooms::finished(
-            rt,
-            file,
-            Job {
-                asked,
-                w,
-                h,
-                f,
-                g,
-                a,
-                b,
-                next,
-            },
-            false,
-        ),
-    }
-}
-
-// ---- the call
-
 fn help(rt: &HostRuntime) {
-    say::words(
-        rt,
-        b"usage: finish (--sheet FILE | --digits FILE | --map FILE) --qp N [OPTION..] [STREAM]
+    let _ = eprint!(rt;
+        "usage: finish (--sheet FILE | --digits FILE | --map FILE) --qp N [OPTION..] [STREAM]
 Deblocks every frame of a YUV4MPEG2 stream of 10 bits (C420p10) and writes it as a stream to standard output.
 Every unit counts as intra, and chroma has luma's QP.
 --sheet FILE      the split tree as a sheet, of a picture up to 256 by 256; the transform limit is the sheet's
@@ -73,34 +27,28 @@ Every unit counts as intra, and chroma has luma's QP.
 --moved           tells how many samples moved, by how much at most, and how far any can
 STREAM            the stream, instead of standard input
 status: 0 done, 1 refused, 2 bad usage or a failure of input or output
-",
+"
     );
 }
 
-fn by_name(rt: &HostRuntime, a: Asked) -> u8 {
-    match words::open(rt, a.stream) {
-        None => 2,
-        Some(mut file) => opened(rt, a, &mut file),
-    }
-}
-
-fn finished_as(rt: &HostRuntime, a: Asked) -> u8 {
-    if !a.good {
-        say::line(rt, b"(finish --help tells how it is used)");
-        return 2;
-    }
-    if a.stream == 0 {
-        let mut input = files::standard_input(rt);
-        return opened(rt, a, &mut input);
-    }
-    by_name(rt, a)
+// The stream that is asked for: its header, and then its frames.
+fn finished(rt: &HostRuntime, asked: Asked) -> Result<(), Stop> {
+    let mut file = y4m_file::open(rt, asked.stream)?;
+    let header = y4m_file::read_header(rt, asked.stream, &mut file)?;
+    rooms::finished(rt, &mut file, Job { asked, header })
 }
 
 // The program, by its arguments.
 pub fn run(rt: &HostRuntime) -> ExitCode {
     if finish_asked::help(rt) {
         help(rt);
-        return say::status(0);
+        return y4m_file::exit_code(Ok(()));
     }
-    say::status(finished_as(rt, finish_asked::arguments(rt)))
+    y4m_file::exit_code(match finish_asked::arguments(rt) {
+        Ok(asked) => finished(rt, asked),
+        Err(stop) => {
+            let _ = eprintln!(rt; "(finish --help tells how it is used)");
+            Err(stop)
+        }
+    })
 }

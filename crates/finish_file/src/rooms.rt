@@ -1,71 +1,36 @@
-// Room for a frame's bytes and planes, which y4m_file has the arrays of, and for the maps of its units. The small room has a picture of 262,144 luma samples
-// and 256 roots, and fits the stack that every program has. The large one has one of 4096 by 4096. Room for the split tree has a byte more, so that a file
-// that is too long is seen.
-ghost use Rattle.std.specs.Prelude.{◌≤◌};
+// Room for a frame's bytes and planes and for the maps of its units. The small room has a picture of 262,144 luma samples and 256 roots, and fits the stack
+// that every program has. The large one has one of 4096 by 4096. Room for the split tree has a byte more, so that a file that is too long is seen.
+ghost use Rattle.std.specs.Prelude.{◌+◌, ◌*◌, ◌≤◌};
 
 use crate::stream;
 use files::Source;
 use finish_asked::Job;
+use finish_frame::Lent;
+use say::Stop;
+use y4m_file::{
+    LARGE_BYTES, LARGE_CHROMA, LARGE_LUMA, Picture, SMALL_BYTES, SMALL_CHROMA, SMALL_LUMA,
+};
 
-// The word of every unit: intra, of the QP that is asked for.
-fn word_of(job: Job) -> u32 {
-    decoder::leaf_word(true, job.asked.qp, false)
-}
+const SMALL_UNITS: usize = 16384;
 
-// ---- arrays: a call for each keeps the checker from looking into it
+const SMALL_REFS: usize = 32768;
 
-fn small_words(word: u32) -> [u32; 16384] {
-    [word; 16384]
-}
+const SMALL_MAP: usize = 262145;
 
-fn small_map() -> [u8; 262145] {
-    [0u8; 262145]
-}
+const LARGE_UNITS: usize = 1048576;
 
-fn small_motion() -> [i16; 65536] {
-    [0i16; 65536]
-}
+const LARGE_REFS: usize = 2097152;
 
-fn small_refs() -> [i8; 32768] {
-    [0i8; 32768]
-}
-
-fn small_keep() -> [u8; 16384] {
-    [0u8; 16384]
-}
-
-fn large_words(word: u32) -> [u32; 1048576] {
-    [word; 1048576]
-}
-
-fn large_map() -> [u8; 4194305] {
-    [0u8; 4194305]
-}
-
-fn large_motion() -> [i16; 4194304] {
-    [0i16; 4194304]
-}
-
-fn large_refs() -> [i8; 2097152] {
-    [0i8; 2097152]
-}
-
-fn large_keep() -> [u8; 1048576] {
-    [0u8; 1048576]
-}
-
-// ---- the stream, in such a room
-
-// The job by the transform limit of its tree.
-fn with_limit(mut job: Job, limit: u8) -> Job {
-    let mut asked = job.asked;
-    asked.limit = limit;
-    job.asked = asked;
-    job
-}
+const LARGE_MAP: usize = 4194305;
 
 // The frames, by what is lent beside them. Motion and references are not looked at between intra units.
-fn small_frames(
+fn frames_in<
+    const BYTES: usize,
+    const LUMA: usize,
+    const CHROMA: usize,
+    const UNITS: usize,
+    const REFS: usize,
+>(
     rt: &HostRuntime,
     file: &mut Source,
     job: Job,
@@ -74,148 +39,96 @@ fn small_frames(
     keep: &[u8],
     table: &[i8; 70],
     entries: &[u8; 208],
-) -> u8
-    requires { units ≤ 16384 }
+) -> Result<(), Stop>
+    requires frame { (6 + 48 * units ≤ BYTES) × (16 * units ≤ LUMA) × (4 * units ≤ CHROMA) }
+    requires maps { (units ≤ UNITS) × (2 * units ≤ REFS) }
+    requires in_memory { (BYTES ≤ 50331654) × (LUMA ≤ 16777216) × (CHROMA ≤ 4194304) × (UNITS ≤ 1048576) × (REFS ≤ 2097152) }
 {
-    let mut bytes = y4m_file::small_bytes();
-    let mut y = y4m_file::small_luma();
-    let mut u = y4m_file::small_chroma();
-    let mut v = y4m_file::small_chroma();
-    let mut words = small_words(word_of(job));
-    let motion = small_motion();
-    let refs = small_refs();
+    let mut bytes = [0u8; BYTES];
+    let mut y = [0u16; LUMA];
+    let mut u = [0u16; CHROMA];
+    let mut v = [0u16; CHROMA];
+    // the word of every unit: intra, of the QP that is asked for
+    let mut words = [decoder::leaf_word(true, job.asked.qp, false); UNITS];
+    let motion = [0i16; CHROMA];
+    let refs = [0i8; REFS];
+    let mut picture = Picture {
+        w: job.header.w,
+        h: job.header.h,
+        y: &mut y[..16 * units],
+        u: &mut u[..4 * units],
+        v: &mut v[..4 * units],
+    };
+    let lent = Lent {
+        map,
+        motion: &motion[..4 * units],
+        refs: &refs[..2 * units],
+        keep,
+        table,
+        entries,
+    };
     let size = 6 + 48 * units;
-    let four = 4 * units;
     stream::finished(
         rt,
         file,
         job,
+        &mut picture,
         &mut bytes[..size],
-        &mut y[..16 * units],
-        &mut u[..four],
-        &mut v[..four],
         &mut words[..units],
-        map,
-        &motion[..four],
-        &refs[..2 * units],
-        keep,
-        table,
-        entries,
+        lent,
     )
 }
 
-// What is lent beside the frames, and then the frames. Answers the exit status.
-fn in_small(rt: &HostRuntime, file: &mut Source, job: Job, units: usize, roots: usize) -> u8
-    requires { (units ≤ 16384) × (roots ≤ 256) }
-{
-    let mut map = small_map();
-    let mut keep = small_keep();
-    let mut table = [0i8; 70];
-    let mut entries = [0u8; 208];
-    let tree = finish_asked::lend(rt, job, &mut map, &mut keep, &mut table, &mut entries);
-    if tree.status != 0 {
-        return tree.status;
-    }
-    let splits = 1024 * roots;
-    small_frames(
-        rt,
-        file,
-        with_limit(job, tree.limit),
-        units,
-        &map[..splits],
-        &keep[..units],
-        &table,
-        &entries,
-    )
-}
-
-// The same for a large picture.
-fn large_frames(
-    rt: &HostRuntime,
-    file: &mut Source,
-    job: Job,
-    units: usize,
-    map: &[u8],
-    keep: &[u8],
-    table: &[i8; 70],
-    entries: &[u8; 208],
-) -> u8
-    requires { units ≤ 1048576 }
-{
-    let mut bytes = y4m_file::large_bytes();
-    let mut y = y4m_file::large_luma();
-    let mut u = y4m_file::large_chroma();
-    let mut v = y4m_file::large_chroma();
-    let mut words = large_words(word_of(job));
-    let motion = large_motion();
-    let refs = large_refs();
-    let size = 6 + 48 * units;
-    let four = 4 * units;
-    stream::finished(
-        rt,
-        file,
-        job,
-        &mut bytes[..size],
-        &mut y[..16 * units],
-        &mut u[..four],
-        &mut v[..four],
-        &mut words[..units],
-        map,
-        &motion[..four],
-        &refs[..2 * units],
-        keep,
-        table,
-        entries,
-    )
-}
-
-// The large arrays stay in a frame of their own: a function that took them into its own would need the room at each call.
+// What is lent beside the frames, and then the frames. The arrays stay in a frame of their own: a function that took the large ones into its own would need
+// the room at each call.
 #[inline(never)]
-fn in_large(rt: &HostRuntime, file: &mut Source, job: Job, units: usize, roots: usize) -> u8
-    requires { (units ≤ 1048576) × (roots ≤ 4096) }
+fn in_room<
+    const BYTES: usize,
+    const LUMA: usize,
+    const CHROMA: usize,
+    const UNITS: usize,
+    const REFS: usize,
+    const MAP: usize,
+>(rt: &HostRuntime, file: &mut Source, mut job: Job, units: usize, roots: usize) -> Result<(), Stop>
+    requires frame { (6 + 48 * units ≤ BYTES) × (16 * units ≤ LUMA) × (4 * units ≤ CHROMA) }
+    requires maps { (units ≤ UNITS) × (2 * units ≤ REFS) × (1024 * roots ≤ MAP) }
+    requires in_memory { (BYTES ≤ 50331654) × (LUMA ≤ 16777216) × (CHROMA ≤ 4194304) × (UNITS ≤ 1048576) × (REFS ≤ 2097152) × (MAP ≤ 4194305) }
 {
-    let mut map = large_map();
-    let mut keep = large_keep();
+    let mut map = [0u8; MAP];
+    let mut keep = [0u8; UNITS];
     let mut table = [0i8; 70];
     let mut entries = [0u8; 208];
-    let tree = finish_asked::lend(rt, job, &mut map, &mut keep, &mut table, &mut entries);
-    if tree.status != 0 {
-        return tree.status;
-    }
-    let splits = 1024 * roots;
-    large_frames(
+    job.asked.limit = finish_asked::lend(rt, job, &mut map, &mut keep, &mut table, &mut entries)?;
+    frames_in::<BYTES, LUMA, CHROMA, UNITS, REFS>(
         rt,
         file,
-        with_limit(job, tree.limit),
+        job,
         units,
-        &map[..splits],
+        &map[..1024 * roots],
         &keep[..units],
         &table,
         &entries,
     )
 }
 
-// The stream. A picture that the small room does not hold is gone to by a call of itself.
-pub(crate) fn finished(rt: &HostRuntime, file: &mut Source, job: Job, large: bool) -> u8 {
-    let units = finish_frame::units(job.h / 4, job.w);
-    let roots = decoder::root_count(job.w, job.h);
+// The stream.
+pub(crate) fn finished(rt: &HostRuntime, file: &mut Source, job: Job) -> Result<(), Stop> {
+    let units = finish_frame::units(job.header.h / 4, job.header.w);
+    let roots = decoder::root_count(job.header.w, job.header.h);
     if 4096 < roots {
-        return 2;
+        return Err(Stop::Failed);
     }
-    if large {
-        return in_large(rt, file, job, units, roots);
-    }
-    if units <= 16384 {
-        if roots <= 256 {
-            return in_small(rt, file, job, units, roots);
-        }
-    }
-    let status = finished(rt, file, job, true);
-    if status == 2 {
-        say::line(
-            rt,
-            b"(the picture is large: its frames are kept in a room of 120 megabytes)",
+    if (units <= SMALL_UNITS) && (roots <= 256) {
+        return in_room::<SMALL_BYTES, SMALL_LUMA, SMALL_CHROMA, SMALL_UNITS, SMALL_REFS, SMALL_MAP>(
+            rt, file, job, units, roots,
         );
     }
-    status
+    let came = in_room::<LARGE_BYTES, LARGE_LUMA, LARGE_CHROMA, LARGE_UNITS, LARGE_REFS, LARGE_MAP>(
+        rt, file, job, units, roots,
+    );
+    y4m_file::with_note(
+        rt,
+        came,
+        b"(the picture is large: its frames are kept in a room of 120 megabytes)",
+    )
 }

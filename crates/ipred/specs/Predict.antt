@@ -1,14 +1,13 @@
 -- What a call of `ipred_b` does: its input, its outcome and the rule between them.
 -- Assumes nothing: these are definitions.
-use Rattle.std.specs.Prelude.{ℕ, ◌+◌, ◌*◌, ◌≤◌, ◌≡◌, Bool, List, [], ◌∷◌, leb, eqb, length}
+use Rattle.std.specs.Prelude.{ℕ, ◌+◌, ◌*◌, ◌≤◌, ◌≡◌, Bool, List, [], ◌∷◌, leb, eqb, length, Ok, Err}
 use Rattle.laws.specs.Call.{unless, all_of}
 use Rattle.def.specs.Answers.{after_checks}
 use Rattle.def.specs.Blocks.{component_side_ok}
 use Rattle.def.specs.Refusals.{number_of}
 use Rattle.def.specs.declared.Refusal.{Refusal}
 use Rattle.def.specs.declared.Refusal.TheVariants.{Block, Length, Mode, Sample}
-use Rattle.def.specs.declared.Answer.{Answer}
-use Rattle.def.specs.declared.Answer.TheVariants.{Done, Refused}
+use Rattle.def.specs.Answers.{Answer}
 use Rattle.samples.specs.Samples.{samples_ok}
 use Rattle.ipred.specs.Modes.{predicted, block_of}
 
@@ -32,14 +31,14 @@ mode_ok mode = leb mode 4
 -- 9, and then 7
 abbrev pub data_check : Input → Answer
 data_check i =
-    unless (mode_ok i.mode) (Refused Mode)
-    (unless (samples_ok i.run) (Refused Sample)
-    Done)
+    unless (mode_ok i.mode) (Err Mode)
+    (unless (samples_ok i.run) (Err Sample)
+    (Ok tt))
 
 abbrev pub check : Input → Answer
 check i =
-    unless (component_side_ok i.side) (Refused Block)
-    (unless (lengths_ok i.side (length i.run) (length i.block)) (Refused Length)
+    unless (component_side_ok i.side) (Err Block)
+    (unless (lengths_ok i.side (length i.run) (length i.block)) (Err Length)
     (data_check i))
 
 abbrev pub refused : Input → Refusal → Outcome

@@ -9,25 +9,12 @@ ghost use Rattle.lanes.specs.Lanes.{rows, halves, held_line, lanes_of};
 
 use line::Quad;
 
-// x - y, or 0 where y is the larger.
-fn less(x: u16, y: u16) -> u16
-    ensures { result ≡ x - y }
-{
-    if y < x { x - y } else { 0 }
-}
-
-fn least(x: u16, y: u16) -> u16
-    ensures { result ≡ min x y }
-{
-    if x < y { x } else { y }
-}
-
 // c, of |d| and the strength. On samples |d| is at most (1023 + 4 * 1023) / 8.
 fn limit(m: u16, st: u16) -> u16
     requires { m ≤ 639 }
     ensures { (result ≡ m - 2 * (m - st)) × (result ≤ 639) }
 {
-    less(m, 2 * less(m, st))
+    m.saturating_sub(2 * m.saturating_sub(st))
 }
 
 // What raises B: c, where A - 4B + 4C - D is above 0. With the line turned round, what lowers it.
@@ -35,7 +22,7 @@ fn rise(a: u16, b: u16, c: u16, d: u16, st: u16) -> u16
     requires { (a ≤ 1023) × (b ≤ 1023) × (c ≤ 1023) × (d ≤ 1023) }
     ensures { (result ≡ rise_of a b c d st) × (result ≤ 639) }
 {
-    limit(less(a + 4 * c, 4 * b + d) / 8, st)
+    limit((a + 4 * c).saturating_sub(4 * b + d) / 8, st)
 }
 
 // What D gains from A, at most h.
@@ -43,7 +30,7 @@ fn ease(a: u16, d: u16, h: u16) -> u16
     requires { a ≤ 1023 }
     ensures { (result ≡ ease_of a d h) × (result ≤ a) × (result ≤ 255) }
 {
-    least(less(a, d) / 4, h)
+    (a.saturating_sub(d) / 4).min(h)
 }
 
 // x, lowered and raised, and clipped to a sample.
@@ -51,7 +38,7 @@ fn nudge(x: u16, lower: u16, raise: u16) -> u16
     requires { (x ≤ 1023) × (raise ≤ 639) }
     ensures { result ≡ min ((x - lower) + raise) 1023 }
 {
-    least(less(x, lower) + raise, 1023)
+    (x.saturating_sub(lower) + raise).min(1023)
 }
 
 // The line filter on samples. One of u and v is 0, and one of e and f: A and D close in on each other, so neither leaves 0..1023.
@@ -76,7 +63,7 @@ fn lane(a: u16, b: u16, c: u16, d: u16, st: u16) -> Quad
 fn held(x: u16) -> u16
     ensures { (result ≡ min x 1023) × (result ≤ 1023) }
 {
-    least(x, 1023)
+    x.min(1023)
 }
 
 // A line whose samples lie at these places.

@@ -26,6 +26,7 @@ pub fn coded_v(mask: u8) -> bool
 }
 
 // The mode byte of a kind: 255 for the lent prediction.
+// kept: bytes, as lomsakeun_reconstruct is lent the records and the mode map in bytes.
 pub fn mode_of(kind: u8) -> u8
     ensures { result ≡ pick (is_mode kind) kind 255 }
 {

@@ -49,25 +49,12 @@ pub fn mask_of(component: Component, keep_p: bool, keep_q: bool) -> Mask
     }
 }
 
-// x - y, or 0 where y is the larger.
-fn less(x: u32, y: u32) -> u32
-    ensures { result ≡ x - y }
-{
-    if y < x { x - y } else { 0 }
-}
-
 // How far x and y lie apart.
 fn gap(x: u32, y: u32) -> u32
     requires { (x ≤ 327675) × (y ≤ 327675) }
     ensures { (result ≡ (x - y) + (y - x)) × (result ≤ 327675) }
 {
-    if y < x { x - y } else { y - x }
-}
-
-fn least(x: u32, y: u32) -> u32
-    ensures { result ≡ min x y }
-{
-    if x < y { x } else { y }
+    x.abs_diff(y)
 }
 
 // c, of |d| and the strength.
@@ -75,7 +62,7 @@ fn limit(m: u32, st: u16) -> u32
     requires { m ≤ 65535 }
     ensures { (result ≡ m - 2 * (m - st)) × (result ≤ 65535) }
 {
-    less(m, 2 * less(m, st as u32))
+    m.saturating_sub(2 * m.saturating_sub(st as u32))
 }
 
 // |d2|, of |A - D| and c.
@@ -83,20 +70,20 @@ fn reach(g: u32, c: u32) -> u32
     requires { c ≤ 65535 }
     ensures { (result ≡ min (g / 4) (c / 2)) × (result ≤ 65535) }
 {
-    least(g / 4, c / 2)
+    (g / 4).min(c / 2)
 }
 
 fn up(x: u16, m: u32) -> u16
     requires { m ≤ 65535 }
     ensures { result ≡ min (x + m) 1023 }
 {
-    least((x as u32) + m, 1023) as u16
+    ((x as u32) + m).min(1023) as u16
 }
 
 fn down(x: u16, m: u32) -> u16
     ensures { result ≡ min (x - m) 1023 }
 {
-    least(less(x as u32, m), 1023) as u16
+    (x as u32).saturating_sub(m).min(1023) as u16
 }
 
 // x moved by m, down or up, and clipped to a sample.

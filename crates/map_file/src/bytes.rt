@@ -1,61 +1,42 @@
 // Where a split map is refused: the first byte of the walk that its block cannot have.
 use crate::{root_count, tell_block, tell_root, tell_size};
-use marks::Marked;
+use def::Refusal;
+use say::Stop;
 
 // ---- the byte
 
 // A byte of a map: 0 past its end.
 fn byte_at(map: &[u8], i: usize) -> u8 {
-    if map.len() <= i {
-        return 0;
-    }
-    map[i]
+    map.get(i).copied().unwrap_or(0)
 }
 
 // Of the first n marks of a root whose bytes start at a place: the place of the first, among the root's bytes, that has another byte than its block can
-// have. 1,024 where none has.
-fn torn_in(map: &[u8], start: usize, list: &[u16], n: usize) -> usize {
-    let mut i: usize = 0;
-    while i < n {
-        if list.len() <= i {
-            return 1024;
+// have.
+fn torn_in(map: &[u8], start: usize, list: &[u16], n: usize) -> Option<usize> {
+    for mark in list.iter().take(n) {
+        let place = marks::mark_place(*mark);
+        if byte_at(map, start.wrapping_add(place)) != marks::mark_byte(*mark) {
+            return Some(place);
         }
-        let place = marks::mark_place(list[i]);
-        let byte = byte_at(map, std::num::wrapping_add_usize(start, place));
-        if byte != marks::mark_byte(list[i]) {
-            return place;
-        }
-        i += 1;
     }
-    1024
+    None
 }
 
 // The same of a root by its number.
-fn torn(w: usize, h: usize, map: &[u8], root: usize) -> usize {
+fn torn(w: usize, h: usize, map: &[u8], root: usize) -> Option<usize> {
     let mut list = [0u16; 85];
-    match marks::list_marks(w, h, map, root, &mut list) {
-        Marked::Refused(_) => 1024,
-        Marked::Done(n) => torn_in(map, 1024 * (root % 4096), &list, n),
-    }
+    let n = marks::list_marks(w, h, map, root, &mut list).ok()?;
+    torn_in(map, 1024 * (root % 4096), &list, n)
 }
 
-// A byte of a root, by its place in the map, with the root and the block.
-fn tell_byte(rt: &HostRuntime, w: usize, root: usize, place: usize) {
-    say::form(rt, b"byte @, ", &[1024 * (root % 4096) + place % 1024]);
-    tell_block(rt, w, root, place);
-}
-
-// Tells the first such byte of a map.
+// Tells the first such byte of a map, with the root and the block.
 fn tell_torn(rt: &HostRuntime, w: usize, h: usize, map: &[u8]) {
-    let count = root_count(w, h);
-    let mut root: usize = 0;
-    while root < count {
-        let place = torn(w, h, map, root);
-        if place < 1024 {
-            tell_byte(rt, w, root, place);
+    for root in 0..root_count(w, h) {
+        if let Some(place) = torn(w, h, map, root) {
+            let _ = eprint!(rt; "byte {}, ", 1024 * (root % 4096) + place % 1024);
+            tell_block(rt, w, root, place);
             return;
         }
-        root += 1;
     }
 }
 
@@ -64,28 +45,31 @@ fn tell_torn(rt: &HostRuntime, w: usize, h: usize, map: &[u8]) {
 // How long a map is and has to be, and the root in which a short one ends.
 fn tell_lengths(rt: &HostRuntime, w: usize, h: usize, n: usize) {
     let asked = 1024 * root_count(w, h);
-    say::form(
-        rt,
-        b"the map has @ bytes, and that of the picture @",
-        &[n, asked],
-    );
+    let _ = eprint!(rt; "the map has {n} bytes, and that of the picture {asked}");
     if n < asked {
-        say::words(rt, b", it ends in ");
+        let _ = eprint!(rt; ", it ends in ");
         tell_root(rt, w, n / 1024);
     }
-    say::words(rt, b": ");
+    let _ = eprint!(rt; ": ");
 }
 
 // ---- the call
 
-// Tells where the map of a picture of w by h, from the file that an argument names, is refused, and for what. Answers the exit status.
-pub fn refused_map(rt: &HostRuntime, at: usize, w: usize, h: usize, map: &[u8], number: u8) -> u8 {
+// Tells where the map of a picture of w by h, from the file that an argument names, is refused, and for what.
+pub fn refused_map(
+    rt: &HostRuntime,
+    at: usize,
+    w: usize,
+    h: usize,
+    map: &[u8],
+    refusal: Refusal,
+) -> Stop {
     words::name(rt, at);
-    match number {
-        1 => tell_size(rt, w, h),
-        2 => tell_lengths(rt, w, h, map.len()),
+    match refusal {
+        Refusal::Size => tell_size(rt, w, h),
+        Refusal::Length => tell_lengths(rt, w, h, map.len()),
         _ => tell_torn(rt, w, h, map),
     }
-    say::refused(rt, number);
-    1
+    say::refused(rt, def::refusal_number(refusal));
+    Stop::Refused
 }

@@ -2,13 +2,12 @@
 // handing it fewer.
 use crate::{root_count, tell_block, tell_size};
 use bits::{get_bit, put_bit};
-use marks::Marked;
+use def::Refusal;
+use say::Stop;
 
-// The digit that is refused: its place among the bits, its root, and its block by the place among the root's bytes. Where every root is taken none is
-// refused, and the place is the one behind the last digit.
-#[derive(Drop)]
+// The digit that is refused: its place among the bits, its root, and its block by the place among the root's bytes.
+#[derive(Clone, Copy)]
 pub struct Digit {
-    pub refused: bool,
     pub at: usize,
     pub root: usize,
     pub place: usize,
@@ -17,56 +16,39 @@ pub struct Digit {
 // ---- a root
 
 // How many digits a root takes, of the bits from one place up to another.
-#[derive(Drop)]
-struct Count {
-    number: u8,
-    count: usize,
-}
-
-fn taken(w: usize, h: usize, src: &[u8], from: usize, to: usize, root: usize) -> Count {
+fn taken(
+    w: usize,
+    h: usize,
+    src: &[u8],
+    from: usize,
+    to: usize,
+    root: usize,
+) -> Result<usize, Refusal> {
     let mut list = [0u16; 85];
-    match marks::take_marks(w, h, src, from, to, root, &mut list) {
-        Marked::Refused(r) => Count {
-            number: def::refusal_number(r),
-            count: 0,
-        },
-        Marked::Done(count) => Count { number: 0, count },
-    }
+    marks::take_marks(w, h, src, from, to, root, &mut list)
 }
 
-// How many digits of a refused root stand before the one that it is refused for: as long as they are too few alone, 16, the next one counts.
+// How many digits of a refused root stand before the one that it is refused for: as long as they are too few alone, the next one counts.
 fn before(w: usize, h: usize, src: &[u8], from: usize, to: usize, root: usize) -> usize {
-    let mut n: usize = 0;
-    while n < 85 {
-        let next = std::num::wrapping_add_usize(from, n);
+    for n in 0..85 {
+        let next = from.wrapping_add(n);
         if to <= next {
             return n;
         }
-        let t = taken(w, h, src, from, next + 1, root);
-        if t.number != 16 {
+        if taken(w, h, src, from, next + 1, root) != Err(Refusal::Bits) {
             return n;
         }
-        n += 1;
     }
-    n
+    85
 }
 
 // ---- its block
 
 // Some bits from a place on, put first into others.
 fn copy(src: &[u8], from: usize, n: usize, bits: &mut [u8]) {
-    let mut i = 0;
-    while i < n {
-        put_bit(bits, i, get_bit(src, std::num::wrapping_add_usize(from, i)));
-        i += 1;
+    for i in 0..n {
+        put_bit(bits, i, get_bit(src, from.wrapping_add(i)));
     }
-}
-
-fn mark_at(list: &[u16], i: usize) -> u16 {
-    if list.len() <= i {
-        return 0;
-    }
-    list[i]
 }
 
 // The place of the block that a root's digit n stands for: those before it are taken as they are, and each from it on counts as 1, so that none is refused.
@@ -75,8 +57,8 @@ fn place_of(w: usize, h: usize, src: &[u8], from: usize, n: usize, root: usize) 
     copy(src, from, n, &mut bits);
     let mut list = [0u16; 85];
     match marks::take_marks(w, h, &bits, 0, 88, root, &mut list) {
-        Marked::Refused(_) => 0,
-        Marked::Done(_) => marks::mark_place(mark_at(&list, n)),
+        Err(_) => 0,
+        Ok(_) => marks::mark_place(list.get(n).copied().unwrap_or(0)),
     }
 }
 
@@ -86,51 +68,38 @@ fn place_of(w: usize, h: usize, src: &[u8], from: usize, n: usize, root: usize) 
 fn in_root(w: usize, h: usize, src: &[u8], from: usize, to: usize, root: usize) -> Digit {
     let n = before(w, h, src, from, to, root);
     Digit {
-        refused: true,
-        at: std::num::wrapping_add_usize(from, n),
+        at: from.wrapping_add(n),
         root,
         place: place_of(w, h, src, from, n, root),
     }
 }
 
-// The digit that a map's digits are refused for: they are the bits up to a place.
-pub fn offending(w: usize, h: usize, src: &[u8], to: usize) -> Digit {
-    let count = root_count(w, h);
+// The digit that a map's digits are refused for: they are the bits up to a place. Where every root is taken it is the place behind the last digit.
+pub fn behind(w: usize, h: usize, src: &[u8], to: usize) -> Result<usize, Digit> {
     let mut at: usize = 0;
-    let mut root: usize = 0;
-    while root < count {
-        let t = taken(w, h, src, at, to, root);
-        if t.number != 0 {
-            return in_root(w, h, src, at, to, root);
+    for root in 0..root_count(w, h) {
+        match taken(w, h, src, at, to, root) {
+            Ok(n) => at = at.wrapping_add(n),
+            Err(_) => return Err(in_root(w, h, src, at, to, root)),
         }
-        at = std::num::wrapping_add_usize(at, t.count);
-        root += 1;
     }
-    Digit {
-        refused: false,
-        at,
-        root,
-        place: 0,
-    }
+    Ok(at)
 }
 
 // ---- a file of digits
 
 // A bit by its byte and its place there, the high one first: `byte 20, bit 0`.
 fn tell_bit(rt: &HostRuntime, at: usize) {
-    say::form(rt, b"byte @, bit @", &[at / 8, at % 8]);
+    let _ = eprint!(rt; "byte {}, bit {}", at / 8, at % 8);
 }
 
 // The first bit of the last byte that is set behind the last digit.
 fn set_behind(src: &[u8], from: usize) -> usize {
-    let mut at = from;
-    let mut i: usize = 0;
-    while i < 8 {
+    for i in 0..8 {
+        let at = from.wrapping_add(i);
         if get_bit(src, at) != 0 {
             return at;
         }
-        at = std::num::wrapping_add_usize(at, 1);
-        i += 1;
     }
     from
 }
@@ -142,34 +111,41 @@ fn bits_of(bytes: usize) -> usize {
 
 fn tell_digit(rt: &HostRuntime, w: usize, h: usize, src: &[u8]) {
     let to = bits_of(src.len());
-    let d = offending(w, h, src, to);
-    if !d.refused {
-        tell_bit(rt, set_behind(src, d.at));
-        say::words(rt, b", behind the last digit: ");
-        return;
+    match behind(w, h, src, to) {
+        Ok(end) => {
+            tell_bit(rt, set_behind(src, end));
+            let _ = eprint!(rt; ", behind the last digit: ");
+        }
+        Err(digit) => {
+            tell_bit(rt, digit.at);
+            tell_refused(rt, w, digit, to, "file");
+        }
     }
-    tell_bit(rt, d.at);
-    if to <= d.at {
-        say::words(rt, b", where the file ends");
-    }
-    say::words(rt, b", ");
-    tell_block(rt, w, d.root, d.place);
 }
 
-// Tells where the digits of a picture's map, from the file that an argument names, are refused, and for what. Answers the exit status.
+// What is behind the place of a digit that is refused: whether the digits end there, in a file or a line, and its root and block.
+pub fn tell_refused(rt: &HostRuntime, w: usize, digit: Digit, to: usize, of: &str) {
+    if to <= digit.at {
+        let _ = eprint!(rt; ", where the {of} ends");
+    }
+    let _ = eprint!(rt; ", ");
+    tell_block(rt, w, digit.root, digit.place);
+}
+
+// Tells where the digits of a picture's map, from the file that an argument names, are refused, and for what.
 pub fn refused_digits(
     rt: &HostRuntime,
     at: usize,
     w: usize,
     h: usize,
     src: &[u8],
-    number: u8,
-) -> u8 {
+    refusal: Refusal,
+) -> Stop {
     words::name(rt, at);
-    match number {
-        1 => tell_size(rt, w, h),
+    match refusal {
+        Refusal::Size => tell_size(rt, w, h),
         _ => tell_digit(rt, w, h, src),
     }
-    say::refused(rt, number);
-    1
+    say::refused(rt, def::refusal_number(refusal));
+    Stop::Refused
 }

@@ -4,18 +4,19 @@
 
 ghost use Rattle.std.specs.Prelude.{◌≤◌};
 
+use say::Stop;
 use std::io;
 
 mod bytes; // bytes.rt: where a map is refused
 mod digits; // digits.rt: where its digits are refused
 
 pub use bytes::refused_map;
-pub use digits::{Digit, offending, refused_digits};
+pub use digits::{Digit, behind, refused_digits, tell_refused};
 
 // ---- a block of a map
 
 // Where a block lies, in luma samples.
-#[derive(Drop)]
+#[derive(Clone, Copy)]
 pub struct Block {
     pub x: usize,
     pub y: usize,
@@ -24,18 +25,12 @@ pub struct Block {
 
 // The side of a block, by its level.
 fn side_of(level: usize) -> usize {
-    match level {
-        0 => 64,
-        1 => 32,
-        2 => 16,
-        _ => 8,
-    }
+    64 >> level.min(3)
 }
 
 // Where a block starts, across or down: its centre is a unit of the root that starts at a place.
 fn start(root: usize, unit: usize, side: usize) -> usize {
-    let centre = std::num::wrapping_add_usize(root, 4 * (unit % 16));
-    std::num::wrapping_sub_usize(centre, side / 2)
+    root.wrapping_add(4 * (unit % 16)).wrapping_sub(side / 2)
 }
 
 // The block of the root at (x, y) that has a level and a place there, as the list of changes names it.
@@ -50,17 +45,11 @@ pub fn block_at(x: usize, y: usize, level: usize, place: usize) -> Block {
 
 // Where root n starts, in a picture that has so many roots across: it has at most 64 of them, and as many down.
 pub fn root_x(across: usize, n: usize) -> usize {
-    if across == 0 {
-        return 0;
-    }
-    64 * (n % across % 64)
+    64 * (n.checked_rem(across).unwrap_or(0) % 64)
 }
 
 pub fn root_y(across: usize, n: usize) -> usize {
-    if across == 0 {
-        return 0;
-    }
-    64 * (n / across % 64)
+    64 * (n.checked_div(across).unwrap_or(0) % 64)
 }
 
 // How many roots a picture has, and no more than 4,096.
@@ -79,11 +68,7 @@ pub fn root_count(w: usize, h: usize) -> usize
 // Root n of a picture of width w: `root 1 at 64 0`.
 pub fn tell_root(rt: &HostRuntime, w: usize, n: usize) {
     let across = def::roots_along(w);
-    say::form(
-        rt,
-        b"root @ at @ @",
-        &[n, root_x(across, n), root_y(across, n)],
-    );
+    let _ = eprint!(rt; "root {n} at {} {}", root_x(across, n), root_y(across, n));
 }
 
 // The block of root n that has a place among its root's bytes: `root 1 at 64 0, block of 16 at 96 0: `.
@@ -92,31 +77,24 @@ pub fn tell_block(rt: &HostRuntime, w: usize, n: usize, place: usize) {
     let x = root_x(across, n);
     let y = root_y(across, n);
     let b = block_at(x, y, place / 256, place % 256);
-    say::form(
-        rt,
-        b"root @ at @ @, block of @ at @ @: ",
-        &[n, x, y, b.side, b.x, b.y],
+    let _ = eprint!(rt;
+        "root {n} at {x} {y}, block of {} at {} {}: ",
+        b.side, b.x, b.y
     );
 }
 
 // The size of a picture that there is not.
 fn tell_size(rt: &HostRuntime, w: usize, h: usize) {
-    say::form(rt, b"a picture of @x@: ", &[w, h]);
+    let _ = eprint!(rt; "a picture of {w}x{h}: ");
 }
 
 // ---- a file
 
-// Writes the file that argument i names, made or emptied before; false where that fails, which is told.
-pub fn save(rt: &HostRuntime, i: usize, bytes: &[u8]) -> bool {
+// Writes the file that argument i names, made or emptied before.
+pub fn save(rt: &HostRuntime, i: usize, bytes: &[u8]) -> Result<(), Stop> {
     let mut path = files::buffer();
     let n = files::arg(rt, i, &mut path);
-    match written(rt, &path[..n], bytes) {
-        Ok(()) => true,
-        Err(error) => {
-            files::fail(rt, &path[..n], error);
-            false
-        }
-    }
+    written(rt, &path[..n], bytes).map_err(|error| say::failed(rt, &path[..n], error))
 }
 
 fn written(rt: &HostRuntime, path: &[u8], bytes: &[u8]) -> io::Result<()> {

@@ -3,16 +3,12 @@
 --     Halved, halved    what it hands to its parts
 --     skip, started    whether it starts in the picture
 -- Assumes nothing.
-use mathlib.Core.Bool.{Bool, true, false, ◌||◌}
-use mathlib.Core.List.{List, []}
-use mathlib.Core.Path.{◌≡◌, refl, sym, ap, ap₂, ◌∙◌}
+use mathlib.Core.Path.{◌≡◌, refl, ap, ap₂, ◌∙◌}
 use Prim.Native.Nat.{ℕ, zero, suc, ◌+◌, ◌-◌, ◌*◌, ◌/◌, ◌%◌, ◌^◌, ◌≤◌, ◌<◌}
 use native.Mathlib.Nat.{two-pow-succ}
 use native.Mathlib.Omega.{arith}
 use borrow.Author.Tests.{le-leb, lt-leb}
-use lib.Dec.{leb}
 use lib.Pow.{pow_pos}
-use Rattle.laws.specs.Index.{pick}
 use Rattle.split.proofs.Blocks.{at_most_half}
 use Rattle.split.specs.Stored.{Block}
 use Rattle.split.specs.Walk.{by_byte, place}

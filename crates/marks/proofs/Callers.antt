@@ -4,20 +4,19 @@
 --     roots_told    what `root_count` answers for a size that passes
 --     numbers_back, marks_back, small_back, marks_none, marks_more, marks_rest, bits_back    the numbers of a list as marks
 -- Assumes nothing.
-use mathlib.Core.Bool.{Bool, true, false}
+use Rattle.std.specs.Prelude.{Ok, Err, Result}
+use mathlib.Core.Bool.{Bool, true}
 use mathlib.Core.List.{List, [], ◌∷◌, ◌++◌, map, Memᴰ}
 use mathlib.Core.Path.{◌≡◌, refl, sym, ap, ap₂, ◌∙◌, subst}
 use Prim.Native.Nat.{ℕ, zero, suc, ◌+◌, ◌-◌, ◌*◌, ◌/◌, ◌%◌, ◌≤◌, ◌<◌}
 use native.Mathlib.Numerals.{add-one}
 use native.Mathlib.Omega.{arith}
 use borrow.Author.Tests.{eq-eqb, lt-ltb}
-use lib.Dec.{eqb}
-use lib.ListN.{length, get_or, take, drop, length-map, get_or-map, length-take}
+use lib.ListN.{length, get_or, take, drop, length-map, get_or-map}
 use lib.Seq.{sets, length-sets, take-suc, take-add, drop-cons, get_or-take}
 use Rattle.def.specs.Answers.{after_checks}
 use Rattle.def.specs.Picture.{size_ok, root_count}
-use Rattle.def.specs.declared.Answer.{Answer}
-use Rattle.def.specs.declared.Answer.TheVariants.{Done, Refused}
+use Rattle.def.specs.Answers.{Answer}
 use Rattle.def.specs.declared.Refusal.{Refusal}
 use Rattle.def.proofs.Answers.{number_some, number_apart}
 use Rattle.laws.specs.Call.{Gives}
@@ -34,8 +33,6 @@ use Rattle.marks_rules.specs.Marks.{Mark, mark, bytes, blocks_in}
 use Rattle.marks.specs.ListCall as list-call
 use Rattle.marks.specs.TakeCall as take-call
 use Rattle.marks.specs.Stored.{mark_number, numbers, counted, mark_from, marks_in, Small}
-use Rattle.marks.specs.declared.Marked.{Marked}
-use Rattle.marks.specs.declared.Marked.TheVariants.{Done as Counted, Refused as NotCounted}
 
 pub roots_told : (w h r : ℕ) → size_ok w h ≡ true → r ≡ pick (size_ok w h) (root_count w h) 0 → r ≡ root_count w h
 roots_told w h r z e = e ∙ ap (λ (t : Bool). pick t (root_count w h) 0) z
@@ -88,21 +85,21 @@ told_by_lem l t f out list room e =
 
 -- ---- what an answer's reading tells
 
-read_done : (r : Marked) (n : ℕ) → list-call.reading_of r ≡ record { number = 0; count = n } → r ≡ Counted n
-read_done (Counted m) n e = ap Counted (ap (λ (x : list-call.Reading). x.count) e)
-read_done (NotCounted q) n e = absurd (omega (arith, number_some q, ap (λ (x : list-call.Reading). x.number) e))
+read_done : (r : Result ℕ Refusal) (n : ℕ) → list-call.reading_of r ≡ record { number = 0; count = n } → r ≡ Ok n
+read_done (Ok m) n e = ap Ok (ap (λ (x : list-call.Reading). x.count) e)
+read_done (Err q) n e = absurd (omega (arith, number_some q, ap (λ (x : list-call.Reading). x.number) e))
 
-read_refused : (r : Marked) (q : Refusal) → list-call.reading_of r ≡ list-call.reading_of (NotCounted q) → r ≡ NotCounted q
-read_refused (Counted m) q e = absurd (omega (arith, number_some q, ap (λ (x : list-call.Reading). x.number) e))
-read_refused (NotCounted p) q e = ap NotCounted (number_apart p q (ap (λ (x : list-call.Reading). x.number) e))
+read_refused : (r : Result ℕ Refusal) (q : Refusal) → list-call.reading_of r ≡ list-call.reading_of (Err q) → r ≡ Err q
+read_refused (Ok m) q e = absurd (omega (arith, number_some q, ap (λ (x : list-call.Reading). x.number) e))
+read_refused (Err p) q e = ap Err (number_apart p q (ap (λ (x : list-call.Reading). x.number) e))
 
-module _ (i : list-call.Input) (r : Marked) (o : List ℕ) (z : size_ok i.w i.h ≡ true) (bytes : length i.splits ≡ 1024 * root_count i.w i.h)
+module _ (i : list-call.Input) (r : Result ℕ Refusal) (o : List ℕ) (z : size_ok i.w i.h ≡ true) (bytes : length i.splits ≡ 1024 * root_count i.w i.h)
     (room : length i.out ≡ 85) (inside : i.root < root_count i.w i.h)
     (g : Gives list-call.outcome i (record { reading = list-call.reading_of r; out = o })) where
   abbrev l : List Mark
   l = list-call.root_marks i.w i.h i.splits i.root
 
-  passed : list-call.check i ≡ Done
+  passed : list-call.check i ≡ Ok tt
   unfolding list-call.check list-call.lengths_ok
   passed = rw (z, eq-eqb _ _ bytes, eq-eqb _ _ room, lt-ltb _ _ inside)
 
@@ -114,14 +111,14 @@ module _ (i : list-call.Input) (r : Marked) (o : List ℕ) (z : size_ok i.w i.h 
   unfolding blocks_in
   root_few = few (mend_byte (root_bytes i.splits i.root) (i.w / 4) (i.h / 4)) (i.w / 4) (i.h / 4) 4 (root_x (i.w / 4) i.root) (root_y (i.w / 4) i.root)
 
-  pub list_told : (r ≡ Counted (length l)) × Told l o
+  pub list_told : (r ≡ Ok (length l)) × Told l o
   list_told = (
     read_done r (length l) (ap (λ (x : list-call.Outcome). x.reading) is_done),
     told_by_lem l (tidy_mended (root_bytes i.splits i.root) (i.w / 4) (i.h / 4) 4 (root_x (i.w / 4) i.root) (root_y (i.w / 4) i.root)) root_few i.out o room
         (ap (λ (x : list-call.Outcome). x.out) is_done),
   )
 
-module _ (i : take-call.Input) (r : Marked) (o : List ℕ) (z : size_ok i.w i.h ≡ true) (room : length i.out ≡ 85) (inside : i.root < root_count i.w i.h)
+module _ (i : take-call.Input) (r : Result ℕ Refusal) (o : List ℕ) (z : size_ok i.w i.h ≡ true) (room : length i.out ≡ 85) (inside : i.root < root_count i.w i.h)
     (g : Gives take-call.outcome i (record { reading = list-call.reading_of r; out = o })) where
   abbrev d : Answer
   d = (take-call.descent i).walk.answer
@@ -137,20 +134,20 @@ module _ (i : take-call.Input) (r : Marked) (o : List ℕ) (z : size_ok i.w i.h 
   unfolding blocks_in
   grown_few = few_grown (i.w / 4) (i.h / 4) 4 (root_x (i.w / 4) i.root) (root_y (i.w / 4) i.root) (bits_from i.src i.from (i.to - i.from))
 
-  by : (a : Answer) → d ≡ a → (r ≡ counted (length l') a) × (a ≡ Done → Told l' o)
+  by : (a : Answer) → d ≡ a → (r ≡ counted (length l') a) × (a ≡ Ok tt → Told l' o)
   unfolding take-call.outcome
-  by Done e =
+  by (Ok _) e =
       let f = g ∙ ap (after_checks (take-call.refused i) (take-call.done i)) (checked ∙ e) in (
         read_done r (length l') (ap (λ (x : list-call.Outcome). x.reading) f),
         λ q.
             told_by_lem l' (tidy_grown (i.w / 4) (i.h / 4) 4 (root_x (i.w / 4) i.root) (root_y (i.w / 4) i.root) (bits_from i.src i.from (i.to - i.from))) grown_few i.out o room
             (ap (λ (x : list-call.Outcome). x.out) f),
       )
-  by (Refused q) e =
+  by (Err q) e =
       let f = g ∙ ap (after_checks (take-call.refused i) (take-call.done i)) (checked ∙ e) in
       (read_refused r q (ap (λ (x : list-call.Outcome). x.reading) f), λ d. absurd (not_done q d))
 
-  pub take_told : (r ≡ counted (length l') d) × (d ≡ Done → Told l' o)
+  pub take_told : (r ≡ counted (length l') d) × (d ≡ Ok tt → Told l' o)
   take_told = by d refl
 
 -- the marks of a list, one after the other

@@ -1,37 +1,32 @@
 -- A root's marks, in luma samples and in units, and the outcomes of the public calls by what their checks find.
 -- Assumes nothing.
-use mathlib.Core.Bool.{Bool, true, false}
+use Rattle.std.specs.Prelude.{Ok, Err, Result}
+use mathlib.Core.Bool.{true}
 use mathlib.Core.List.{List, [], ◌∷◌}
-use mathlib.Core.Path.{◌≡◌, refl, sym, ap, ap₂, ◌∙◌, subst}
+use mathlib.Core.Path.{◌≡◌, sym, ap, ap₂, ◌∙◌, subst}
 use Prim.Native.Nat.{ℕ, ◌+◌, ◌-◌, ◌*◌, ◌/◌, ◌%◌, ◌≤◌, ◌<◌}
 use native.Mathlib.Nat.{zero-add}
 use native.Mathlib.Omega.{arith}
-use borrow.Author.Tests.{eqb-true, ltb-true}
-use lib.Dec.{eqb, ltb}
-use lib.ListN.{length, take, drop, length-map, drop_of_length-le}
+use borrow.Author.Tests.{eqb-true}
+use lib.Dec.{eqb}
+use lib.ListN.{length, take, drop, length-map}
 use lib.Seq.{sets, length-sets}
 use Rattle.bits.specs.Bits.{bits_from}
-use Rattle.def.specs.Answers.{after_checks}
 use Rattle.def.specs.Picture.{roots_along, root_count}
-use Rattle.def.specs.declared.Answer.{Answer}
-use Rattle.def.specs.declared.Answer.TheVariants.{Done, Refused}
 use Rattle.def.specs.declared.Refusal.{Refusal}
 use Rattle.def.proofs.Sizes.{Sized}
 use Rattle.laws.proofs.Calls.{all_at}
 use Rattle.split.proofs.Roots.{across_units, root_block}
 use Rattle.split.proofs.Stores.{take_sets}
 use Rattle.marks_rules.proofs.Descents.{few_grown}
-use Rattle.marks_rules.proofs.Marks.{few}
-use Rattle.marks_rules.specs.Descent.{Descent, descend, root_descent}
-use Rattle.marks_rules.specs.Marks.{Mark, marks, blocks_in}
-use Rattle.marks_rules.specs.Mended.{mend_byte, mend_marks}
+use Rattle.marks_rules.specs.Descent.{descend, root_descent}
+use Rattle.marks_rules.specs.Marks.{blocks_in}
+use Rattle.marks_rules.specs.Mended.{mend_marks}
 use Rattle.split.specs.Picture.{root_x, root_y}
 use Rattle.split.specs.Stored.{Block}
 use Rattle.marks.specs.ListCall as list-call
 use Rattle.marks.specs.TakeCall as take-call
-use Rattle.marks.specs.Stored.{mark_number, numbers, counted, Listed, Grew}
-use Rattle.marks.specs.declared.Marked.{Marked}
-use Rattle.marks.specs.declared.Marked.TheVariants.{Done as Counted, Refused as NotCounted}
+use Rattle.marks.specs.Stored.{mark_number, numbers, Listed, Grew}
 use Rattle.marks.proofs.Growing.{counted_done, counted_refused}
 
 -- ---- a root
@@ -62,21 +57,21 @@ module _ {w h : ℕ} (z : Sized w h) (i : ℕ) where
   root_grown ds e f = rw (e, f, column_is, row_is)
 
 -- as many digits as lie from one place up to another
-pub grew_between : (w h i from to : ℕ) (s : List ℕ) {n : ℕ} {list₀ list : List ℕ} {r : Marked} → n ≡ to - from
+pub grew_between : (w h i from to : ℕ) (s : List ℕ) {n : ℕ} {list₀ list : List ℕ} {r : Result ℕ Refusal} → n ≡ to - from
     → Grew (root_descent w h i (bits_from s from n)) (bits_from s from n) list₀ 0 list r → Grew (root_descent w h i (bits_from s from (to - from))) (bits_from s from (to - from)) list₀ 0 list r
 grew_between w h i from to s {n} {list₀} {list} {r} e d = subst (λ (k : ℕ). Grew (root_descent w h i (bits_from s from k)) (bits_from s from k) list₀ 0 list r) e d
 
 -- ---- list_marks
 
 module _ (i : list-call.Input) where
-  pub list_refused : (r : Refusal) → Refused r ≡ list-call.check i → record { reading = list-call.reading_of (NotCounted r); out = i.out } ≡ list-call.outcome i
+  pub list_refused : (r : Refusal) → Err r ≡ list-call.check i → record { reading = list-call.reading_of (Err r); out = i.out } ≡ list-call.outcome i
   unfolding list-call.outcome
   list_refused r e = rw (sym e)
 
-  pub list_done : (n : ℕ) (o : List ℕ) → Done ≡ list-call.check i → Listed (list-call.root_marks i.w i.h i.splits i.root) i.out 0 o n
-      → record { reading = list-call.reading_of (Counted n); out = o } ≡ list-call.outcome i
+  pub list_done : (n : ℕ) (o : List ℕ) → (Ok tt) ≡ list-call.check i → Listed (list-call.root_marks i.w i.h i.splits i.root) i.out 0 o n
+      → record { reading = list-call.reading_of (Ok n); out = o } ≡ list-call.outcome i
   unfolding list-call.outcome
-  list_done n o e d = rw (sym e) (ap₂ (λ (k : ℕ) (l : List ℕ). record { reading = list-call.reading_of (Counted k); out = l }) (d.count ∙ zero-add _) d.stored)
+  list_done n o e d = rw (sym e) (ap₂ (λ (k : ℕ) (l : List ℕ). record { reading = list-call.reading_of (Ok k); out = l }) (d.count ∙ zero-add _) d.stored)
 
 pub lengths_told : (w h splits out : ℕ) → list-call.lengths_ok w h splits out ≡ true → (splits ≡ 1024 * root_count w h) × (out ≡ 85)
 unfolding list-call.lengths_ok
@@ -87,30 +82,30 @@ lengths_told w h splits out e =
 -- ---- take_marks
 
 module _ (i : take-call.Input) where
-  pub take_refused : (r : Refusal) → Refused r ≡ take-call.check i → record { reading = list-call.reading_of (NotCounted r); out = i.out } ≡ take-call.outcome i
+  pub take_refused : (r : Refusal) → Err r ≡ take-call.check i → record { reading = list-call.reading_of (Err r); out = i.out } ≡ take-call.outcome i
   unfolding take-call.outcome
   take_refused r e = rw (sym e)
 
   -- the marks are in a list of the call's own, of which the first n are copied
-  module _ {list₀ list : List ℕ} {r : Marked} (d : Grew (take-call.descent i) (bits_from i.src i.from (i.to - i.from)) list₀ 0 list r) where
-    pub taken_few : (n : ℕ) → r ≡ Counted n → n ≤ 85
+  module _ {list₀ list : List ℕ} {r : Result ℕ Refusal} (d : Grew (take-call.descent i) (bits_from i.src i.from (i.to - i.from)) list₀ 0 list r) where
+    pub taken_few : (n : ℕ) → r ≡ Ok n → n ≤ 85
     unfolding blocks_in
     taken_few n e =
         let k = counted_done n _ (take-call.descent i).walk.answer (sym e ∙ d.answer) in
         omega (arith, few_grown (i.w / 4) (i.h / 4) 4 (root_x (i.w / 4) i.root) (root_y (i.w / 4) i.root) (bits_from i.src i.from (i.to - i.from)))
 
     -- the list is as long as it was
-    pub taken_long : (n : ℕ) → r ≡ Counted n → length list ≡ length list₀
+    pub taken_long : (n : ℕ) → r ≡ Ok n → length list ≡ length list₀
     taken_long n e = let k = counted_done n _ (take-call.descent i).walk.answer (sym e ∙ d.answer) in ap length (d.stored k.0) ∙ length-sets list₀ 0 (numbers (take-call.descent i).marks)
 
-    pub take_stopped : (q : Refusal) → r ≡ NotCounted q → (take-call.descent i).walk.answer ≡ take-call.check i
+    pub take_stopped : (q : Refusal) → r ≡ Err q → (take-call.descent i).walk.answer ≡ take-call.check i
         → record { reading = list-call.reading_of r; out = i.out } ≡ take-call.outcome i
     take_stopped q e f =
-        ap (λ (m : Marked). record { reading = list-call.reading_of m; out = i.out }) e
+        ap (λ (m : Result ℕ Refusal). record { reading = list-call.reading_of m; out = i.out }) e
         ∙ take_refused q (sym (counted_refused q _ (take-call.descent i).walk.answer (sym e ∙ d.answer)) ∙ f)
 
-    pub take_done : (n : ℕ) (o : List ℕ) → length list₀ ≡ 85 → r ≡ Counted n → (take-call.descent i).walk.answer ≡ take-call.check i
-        → o ≡ sets i.out 0 (take n list) → record { reading = list-call.reading_of (Counted n); out = o } ≡ take-call.outcome i
+    pub take_done : (n : ℕ) (o : List ℕ) → length list₀ ≡ 85 → r ≡ Ok n → (take-call.descent i).walk.answer ≡ take-call.check i
+        → o ≡ sets i.out 0 (take n list) → record { reading = list-call.reading_of (Ok n); out = o } ≡ take-call.outcome i
     unfolding take-call.outcome
     take_done n o long e f q =
         let l = (take-call.descent i).marks in
@@ -119,4 +114,4 @@ module _ (i : take-call.Input) where
         let t : take n list ≡ numbers l =
         ap (take n) (d.stored k.0) ∙ take_sets (numbers l) list₀ n (length-map l mark_number ∙ sym m) (omega (arith, taken_few n e)) in
         rw (sym (sym k.0 ∙ f))
-        (ap₂ (λ (a : ℕ) (b : List ℕ). record { reading = list-call.reading_of (Counted a); out = b }) m (q ∙ ap (sets i.out 0) t))
+        (ap₂ (λ (a : ℕ) (b : List ℕ). record { reading = list-call.reading_of (Ok a); out = b }) m (q ∙ ap (sets i.out 0) t))

@@ -1,9 +1,10 @@
 -- The marks of a block from digits: each way through the code, and the loop over its four parts. ds are the root's digits, of which n are taken.
 -- Assumes nothing.
+use Rattle.std.specs.Prelude.{Ok, Err, Result}
 use mathlib.Core.Bool.{Bool, true, false, ◌||◌}
 use mathlib.Core.List.{List, [], ◌∷◌, ◌++◌}
 use mathlib.Core.Path.{◌≡◌, refl, sym, ap, ap₂, ◌∙◌, subst}
-use Prim.Native.Nat.{ℕ, zero, suc, ◌+◌, ◌-◌, ◌*◌, ◌/◌, ◌%◌, ◌^◌, ◌≤◌, ◌<◌}
+use Prim.Native.Nat.{ℕ, suc, ◌+◌, ◌-◌, ◌*◌, ◌/◌, ◌%◌, ◌^◌, ◌≤◌, ◌<◌}
 use native.Mathlib.Nat.{add-zero}
 use native.Mathlib.Numerals.{add-one}
 use native.Mathlib.Omega.{arith}
@@ -12,45 +13,41 @@ use lib.Dec.{leb}
 use lib.ListN.{length, get_or, drop, length-append, drop_of_length-le}
 use lib.Seq.{sets, drop-cons}
 use Rattle.bits.specs.Bits.{bit_at, bits_from}
-use Rattle.def.specs.declared.Answer.{Answer}
-use Rattle.def.specs.declared.Answer.TheVariants.{Done, Refused}
+use Rattle.def.specs.Answers.{Answer}
 use Rattle.def.specs.declared.Refusal.{Refusal}
 use Rattle.def.specs.declared.Refusal.TheVariants.{Bits}
 use Rattle.laws.proofs.Tabulate.{length_tabulate, get_d_tabulate}
 use Rattle.split.proofs.Walks.{not_done, onward_done}
 use Rattle.split.specs.Stored.{Block}
 use Rattle.split.specs.Walk.{Walk, nothing, and_then, leaf_walk, place}
-use Rattle.marks_rules.proofs.Blocks.{part_x, part_y}
 use Rattle.marks_rules.proofs.Descents.{part_of, descend_x, descend_y, descend_none, descend_leaf, descend_cut, descents_none, descents_more, descents_stop, then_done}
 use Rattle.marks_rules.proofs.Descents.{Quiet, unit_quiet, all_quiet, few_grown, few_descents}
 use Rattle.marks_rules.specs.Descent.{Descent, grown, descend_then, descents, run_out, after, descend}
 use Rattle.marks_rules.specs.Marks.{Mark, mark, blocks_in}
 use Rattle.marks.specs.Stored.{numbers, one, counted, Listed, Grew, Divided, Began, part_descents}
-use Rattle.marks.specs.declared.Marked.{Marked}
-use Rattle.marks.specs.declared.Marked.TheVariants.{Done as Counted, Refused as NotCounted}
 use Rattle.marks.proofs.Blocks.{Halved, halved}
 use Rattle.marks.proofs.Lists.{sets_then}
 
 -- ---- what an answer tells of its descent
 
-pub counted_done : (m n : ℕ) (a : Answer) → Counted m ≡ counted n a → (a ≡ Done) × (m ≡ n)
-counted_done m n Done e = (refl, (cc))
-counted_done m n (Refused r) e = absurd (let z : ◌≡◌ {A = ℕ} 0 1 = cc in omega arith)
+pub counted_done : (m n : ℕ) (a : Answer) → Ok m ≡ counted n a → (a ≡ Ok tt) × (m ≡ n)
+counted_done m n (Ok _) e = (refl, (cc))
+counted_done m n (Err r) e = absurd (let z : ◌≡◌ {A = ℕ} 0 1 = cc in omega arith)
 
-pub counted_refused : (r : Refusal) (n : ℕ) (a : Answer) → NotCounted r ≡ counted n a → a ≡ Refused r
-counted_refused r n Done e = absurd (let z : ◌≡◌ {A = ℕ} 0 1 = cc in omega arith)
-counted_refused r n (Refused q) e = let z : r ≡ q = cc in ap Refused (sym z)
+pub counted_refused : (r : Refusal) (n : ℕ) (a : Answer) → Err r ≡ counted n a → a ≡ Err r
+counted_refused r n (Ok _) e = absurd (let z : ◌≡◌ {A = ℕ} 0 1 = cc in omega arith)
+counted_refused r n (Err q) e = let z : r ≡ q = cc in ap Err (sym z)
 
 -- ---- what is left behind: nothing met, digits that ran out, a mark and then more, one descent after another
 
 module _ {ds : List ℕ} where
-  pub grew_as : {g k : Descent} {out out₁ : List ℕ} {n : ℕ} {r : Marked} → g ≡ k → Grew k ds out n out₁ r → Grew g ds out n out₁ r
+  pub grew_as : {g k : Descent} {out out₁ : List ℕ} {n : ℕ} {r : Result ℕ Refusal} → g ≡ k → Grew k ds out n out₁ r → Grew g ds out n out₁ r
   grew_as {out = out} {out₁ = out₁} {n = n} {r = r} e h = subst (λ (z : Descent). Grew z ds out n out₁ r) (sym e) h
 
-  pub grew_count : {g : Descent} {out out₁ : List ℕ} {n m : ℕ} {r : Marked} → r ≡ Counted m → Grew g ds out n out₁ r → m ≡ n + length g.marks
+  pub grew_count : {g : Descent} {out out₁ : List ℕ} {n m : ℕ} {r : Result ℕ Refusal} → r ≡ Ok m → Grew g ds out n out₁ r → m ≡ n + length g.marks
   grew_count {g} {m = m} e d = (counted_done m _ g.walk.answer (sym e ∙ d.answer)).1
 
-  pub grew_quiet : {g : Descent} (out : List ℕ) (n : ℕ) → Quiet g (drop n ds) → Grew g ds out n out (Counted n)
+  pub grew_quiet : {g : Descent} (out : List ℕ) (n : ℕ) → Quiet g (drop n ds) → Grew g ds out n out (Ok n)
   grew_quiet {g} out n q =
       let e : n + length g.marks ≡ n = ap (λ (l : List Mark). n + length l) q.none ∙ add-zero n in
       record {
@@ -59,10 +56,10 @@ module _ {ds : List ℕ} where
         stored = λ d. ap (λ (l : List Mark). sets out n (numbers l)) (sym q.none);
       }
 
-  pub grew_short : (out : List ℕ) (n : ℕ) → Grew run_out ds out n out (NotCounted Bits)
+  pub grew_short : (out : List ℕ) (n : ℕ) → Grew run_out ds out n out (Err Bits)
   grew_short out n = record { answer = refl; left = λ d. absurd (not_done Bits d); stored = λ d. absurd (not_done Bits d) }
 
-  pub grew_after : {g : Descent} {p b : ℕ} {out out₁ out₂ : List ℕ} {n m : ℕ} {r : Marked}
+  pub grew_after : {g : Descent} {p b : ℕ} {out out₁ out₂ : List ℕ} {n m : ℕ} {r : Result ℕ Refusal}
       → Listed (one p b) out n out₁ m → Grew g ds out₁ m out₂ r → Grew (after (mark p b) g) ds out n out₂ r
   grew_after {g} {p} {b} {out} {out₁} {out₂} {n} {m} {r} l d =
       let e : m + length g.marks ≡ n + suc (length g.marks) = omega (arith, l.count) in
@@ -73,8 +70,8 @@ module _ {ds : List ℕ} where
       }
 
   -- f takes on with the digits that the first descent left
-  pub grew_then : {a : Descent} (f : List ℕ → Descent) {out out₁ out₂ : List ℕ} {n m : ℕ} {r : Marked}
-      → Grew a ds out n out₁ (Counted m) → Grew (f (drop m ds)) ds out₁ m out₂ r → Grew (descend_then a f) ds out n out₂ r
+  pub grew_then : {a : Descent} (f : List ℕ → Descent) {out out₁ out₂ : List ℕ} {n m : ℕ} {r : Result ℕ Refusal}
+      → Grew a ds out n out₁ (Ok m) → Grew (f (drop m ds)) ds out₁ m out₂ r → Grew (descend_then a f) ds out n out₂ r
   grew_then {a} f {out} {out₁} {out₂} {n} {m} {r} d g =
       let k = counted_done m _ a.walk.answer d.answer in
       let b = f (drop m ds) in
@@ -149,7 +146,7 @@ module _ (ds : List ℕ) (n : ℕ) {w h x y side level : ℕ} (b : Block w h x y
 
       -- its own mark is listed, and its parts' are to follow
       pub divided : {out out₁ : List ℕ} {m : ℕ} → Listed (one p byte) out n out₁ m → byte ≡ 1
-          → Divided here (part_descents (w / 4) (h / 4) k (x / 4) (y / 4)) (place k (x / 4) (y / 4)) ds out n out₁ (Counted m)
+          → Divided here (part_descents (w / 4) (h / 4) k (x / 4) (y / 4)) (place k (x / 4) (y / 4)) ds out n out₁ (Ok m)
       divided {out} {out₁} {m} l e = record {
         count = m;
         answer = refl;
@@ -169,7 +166,7 @@ pub only_one : (byte : ℕ) → byte < 2 → (byte ≡ 0 → ⊥) → byte ≡ 1
 only_one byte l n = omega arith
 
 -- a leaf: its mark, and its walk's answer
-pub grew_leaf : {ds : List ℕ} {v : Walk} {p b : ℕ} {out out₁ : List ℕ} {n m : ℕ} {r : Marked}
+pub grew_leaf : {ds : List ℕ} {v : Walk} {p b : ℕ} {out out₁ : List ℕ} {n m : ℕ} {r : Result ℕ Refusal}
     → Listed (one p b) out n out₁ m → r ≡ counted m v.answer → Grew (after (mark p b) (grown v [] (drop (n + 1) ds))) ds out n out₁ r
 grew_leaf {ds} {v} {p} {b} {out} {out₁} {n} {m} {r} l e =
     grew_after l
@@ -181,7 +178,7 @@ grew_leaf {ds} {v} {p} {b} {out} {out₁} {n} {m} {r} l e =
 
 -- ---- what a digit comes to
 
-module _ {g : Descent} {parts : List ℕ → Descent} {p : ℕ} {ds out : List ℕ} {n : ℕ} {out₁ : List ℕ} {r : Marked} where
+module _ {g : Descent} {parts : List ℕ → Descent} {p : ℕ} {ds out : List ℕ} {n : ℕ} {out₁ : List ℕ} {r : Result ℕ Refusal} where
   pub began_whole : Grew g ds out n out₁ r → Began g parts p ds out n out₁ r false
   began_whole h = record { whole = λ e. h; divided = λ e. absurd (let z : ◌≡◌ {A = ℕ} 0 1 = cc in omega arith) }
 
@@ -189,9 +186,20 @@ module _ {g : Descent} {parts : List ℕ → Descent} {p : ℕ} {ds out : List �
   began_cut h = record { whole = λ e. absurd (let z : ◌≡◌ {A = ℕ} 0 1 = cc in omega arith); divided = λ e. h }
 
 -- a block's own mark, and then its parts'
-pub divided_then : {g : Descent} {parts : List ℕ → Descent} {p : ℕ} {ds out out₁ out₂ : List ℕ} {n : ℕ} {q r : Marked} (d : Divided g parts p ds out n out₁ q)
+pub divided_then : {g : Descent} {parts : List ℕ → Descent} {p : ℕ} {ds out out₁ out₂ : List ℕ} {n : ℕ} {q r : Result ℕ Refusal} (d : Divided g parts p ds out n out₁ q)
     → Grew (parts (drop d.count ds)) ds out₁ d.count out₂ r → Grew g ds out n out₂ r
 divided_then d h = grew_as d.rest (grew_after d.own h)
+
+-- m marks are listed after a block's own digit
+module _ {g : Descent} {parts : List ℕ → Descent} {p : ℕ} {ds out out₁ : List ℕ} {n m : ℕ} (d : Divided g parts p ds out n out₁ (Ok m)) where
+  divided_same : m ≡ d.count
+  divided_same = let e : ◌≡◌ {A = Result ℕ Refusal} (Ok m) (Ok d.count) = d.answer in cc
+
+  pub divided_count : m ≡ n + 1
+  divided_count = divided_same ∙ d.own.count
+
+  pub divided_with : {out₂ : List ℕ} {r : Result ℕ Refusal} → Grew (parts (drop m ds)) ds out₁ m out₂ r → Grew g ds out n out₂ r
+  divided_with {out₂} {r} h = divided_then d (subst (λ (k : ℕ). Grew (parts (drop k ds)) ds out₁ k out₂ r) divided_same h)
 
 -- ---- the loop: i parts are taken
 
@@ -202,13 +210,13 @@ module _ (ds : List ℕ) {w h x y side level : ℕ} (b : Block w h x y side leve
   pub few_taken : (i n : ℕ) → length (taken i n).marks ≤ i * blocks_in (3 - level)
   few_taken i n = few_descents (part_of (w / 4) (h / 4) (3 - level) (x / 4) (y / 4)) (blocks_in (3 - level)) (λ j l. few_grown _ _ (3 - level) _ _ l) i (drop n ds)
 
-  pub no_part : (out : List ℕ) (n : ℕ) {r : Marked} → r ≡ Counted n → Grew (taken 0 n) ds out n out r
+  pub no_part : (out : List ℕ) (n : ℕ) {r : Result ℕ Refusal} → r ≡ Ok n → Grew (taken 0 n) ds out n out r
   no_part out n e =
       subst (Grew (taken 0 n) ds out n out) (sym e)
       (grew_quiet out n (rw (descents_none (part_of (w / 4) (h / 4) (3 - level) (x / 4) (y / 4)) (drop n ds)) (record { done = refl; none = refl; left = refl })))
 
-  module _ (deep : level < 4) (i : ℕ) {out₀ : List ℕ} {n : ℕ} {out : List ℕ} {r : Marked} (d : Grew (taken i n) ds out₀ n out r) where
-    pub part_more : {count px py : ℕ} {r₁ : Marked} {out₁ : List ℕ} → r ≡ Counted count → px ≡ x + i % 2 * (side / 2) → py ≡ y + i / 2 * (side / 2)
+  module _ (deep : level < 4) (i : ℕ) {out₀ : List ℕ} {n : ℕ} {out : List ℕ} {r : Result ℕ Refusal} (d : Grew (taken i n) ds out₀ n out r) where
+    pub part_more : {count px py : ℕ} {r₁ : Result ℕ Refusal} {out₁ : List ℕ} → r ≡ Ok count → px ≡ x + i % 2 * (side / 2) → py ≡ y + i / 2 * (side / 2)
         → Grew (descend (w / 4) (h / 4) (4 - (level + 1)) (px / 4) (py / 4) (drop count ds)) ds out count out₁ r₁ → Grew (taken (i + 1) n) ds out₀ n out₁ r₁
     part_more q e e' g =
         let z = halved b deep in
@@ -218,7 +226,7 @@ module _ (ds : List ℕ) {w h x y side level : ℕ} (b : Block w h x y side leve
         (grew_as (descents_more (part_of (w / 4) (h / 4) (3 - level) (x / 4) (y / 4)) i (drop n ds)) (grew_then (part_of (w / 4) (h / 4) (3 - level) (x / 4) (y / 4) i) before f))
 
     -- a part that is refused ends the block
-    pub part_refused : (q : Refusal) → i < 4 → r ≡ NotCounted q → Grew (taken 4 n) ds out₀ n out r
+    pub part_refused : (q : Refusal) → i ≤ 4 → r ≡ Err q → Grew (taken 4 n) ds out₀ n out r
     part_refused q l s =
         let j : i + (4 - i) ≡ 4 = omega arith in
         let a = counted_refused q _ (taken i n).walk.answer (sym s ∙ d.answer) in
@@ -229,7 +237,7 @@ module _ (ds : List ℕ) {w h x y side level : ℕ} (b : Block w h x y side leve
     part_all u v = let e : i ≡ 4 = omega arith in subst (λ (k : ℕ). Grew (taken k n) ds out₀ n out r) e d
 
   -- a block of side 8 has its own digit alone
-  pub began_eight : {n p : ℕ} {out out₁ : List ℕ} {r : Marked} (cut : Bool) → level ≡ 3
+  pub began_eight : {n p : ℕ} {out out₁ : List ℕ} {r : Result ℕ Refusal} (cut : Bool) → level ≡ 3
       → Began (descend (w / 4) (h / 4) (4 - level) (x / 4) (y / 4) (drop n ds)) (part_descents (w / 4) (h / 4) (3 - level) (x / 4) (y / 4)) p ds out n out₁ r cut
       → Grew (descend (w / 4) (h / 4) (4 - level) (x / 4) (y / 4) (drop n ds)) ds out n out₁ r
   began_eight false e o = o.whole refl

@@ -1,15 +1,15 @@
 -- Marks that are listed: none, one, and some after others.
 -- Assumes nothing.
-use mathlib.Core.List.{List, [], ◌∷◌, ◌++◌, map}
+use mathlib.Core.List.{List, [], ◌∷◌, ◌++◌}
 use mathlib.Core.Path.{◌≡◌, refl, sym, ap, ap₂, ◌∙◌, subst}
-use Prim.Native.Nat.{ℕ, ◌+◌, ◌*◌, ◌≤◌, ◌<◌}
+use Prim.Native.Nat.{ℕ, ◌+◌}
 use native.Mathlib.Nat.{add-zero}
 use native.Mathlib.Omega.{arith}
-use lib.ListN.{length, set, length-append, length-map}
+use lib.ListN.{length, length-append, length-map}
 use lib.Seq.{sets, length-sets}
 use Rattle.split.proofs.Stores.{sets_append}
-use Rattle.marks_rules.specs.Marks.{Mark, mark}
-use Rattle.marks.specs.Stored.{mark_number, numbers, one, Listed}
+use Rattle.marks_rules.specs.Marks.{Mark}
+use Rattle.marks.specs.Stored.{mark_number, numbers, Listed}
 
 pub numbers_append : (l k : List Mark) → numbers (l ++ k) ≡ numbers l ++ numbers k
 numbers_append [] k = refl

@@ -15,7 +15,6 @@ use lib.ListN.{length, get_or, take, drop, length-append, take-append-drop}
 use Rattle.laws.specs.Index.{pick}
 use Rattle.split.specs.Stored.{Block}
 use Rattle.split.specs.Walk.{place}
-use Rattle.marks_rules.proofs.Blocks.{part_x, part_y}
 use Rattle.marks_rules.proofs.Descents.{joined_four}
 use Rattle.marks_rules.proofs.Marks.{parts, marks_x, marks_y, marks_unit, marks_leaf, marks_cut, few}
 use Rattle.marks_rules.proofs.Mended.{mended}

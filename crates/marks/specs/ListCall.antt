@@ -1,12 +1,11 @@
 -- The call `list_marks`: the marks of a root, by its number, of a picture of w by h samples, into a lent list of 85 numbers.
 -- Assumes nothing: these are definitions.
-use Rattle.std.specs.Prelude.{Bool, List, [], ◌∷◌, ℕ, ◌*◌, ◌/◌, eqb, ltb, length}
+use Rattle.std.specs.Prelude.{Bool, List, [], ◌∷◌, ℕ, ◌*◌, ◌/◌, eqb, ltb, length, Ok, Err, Result}
 use Rattle.std.proofs.lemmas.List.Edits.{sets}
 use Rattle.def.specs.Answers.{after_checks}
 use Rattle.def.specs.Picture.{size_ok, root_count}
 use Rattle.def.specs.Refusals.{number_of}
-use Rattle.def.specs.declared.Answer.{Answer}
-use Rattle.def.specs.declared.Answer.TheVariants.{Done, Refused}
+use Rattle.def.specs.Answers.{Answer}
 use Rattle.def.specs.declared.Refusal.{Refusal}
 use Rattle.def.specs.declared.Refusal.TheVariants.{Size, Length, Block}
 use Rattle.laws.specs.Call.{unless, all_of}
@@ -14,8 +13,6 @@ use Rattle.marks_rules.specs.Marks.{Mark}
 use Rattle.marks_rules.specs.Mended.{mend_marks}
 use Rattle.split.specs.Picture.{root_bytes, root_x, root_y}
 use Rattle.marks.specs.Stored.{numbers}
-use Rattle.marks.specs.declared.Marked.{Marked}
-use Rattle.marks.specs.declared.Marked.TheVariants.{Done as Counted, Refused as NotCounted}
 
 pub record Input : Type 0 where
   pub w : ℕ
@@ -29,9 +26,9 @@ pub record Reading : Type 0 where
   pub number : ℕ
   pub count : ℕ
 
-abbrev pub reading_of : Marked → Reading
-reading_of (Counted n) = record { number = 0; count = n }
-reading_of (NotCounted r) = record { number = number_of r; count = 0 }
+abbrev pub reading_of : Result ℕ Refusal → Reading
+reading_of (Ok n) = record { number = 0; count = n }
+reading_of (Err r) = record { number = number_of r; count = 0 }
 
 pub record Outcome : Type 0 where
   pub reading : Reading
@@ -47,17 +44,17 @@ root_marks w h s i = mend_marks (root_bytes s i) (w / 4) (h / 4) 4 (root_x (w / 
 
 unfoldable pub check : Input → Answer
 check i =
-    unless (size_ok i.w i.h) (Refused Size)
-    (unless (lengths_ok i.w i.h (length i.splits) (length i.out)) (Refused Length)
-    (unless (ltb i.root (root_count i.w i.h)) (Refused Block) Done))
+    unless (size_ok i.w i.h) (Err Size)
+    (unless (lengths_ok i.w i.h (length i.splits) (length i.out)) (Err Length)
+    (unless (ltb i.root (root_count i.w i.h)) (Err Block) (Ok tt)))
 
 abbrev pub refused : Input → Refusal → Outcome
-refused i r = record { reading = reading_of (NotCounted r); out = i.out }
+refused i r = record { reading = reading_of (Err r); out = i.out }
 
 abbrev pub done : Input → Outcome
 done i =
     let l = root_marks i.w i.h i.splits i.root in
-    record { reading = reading_of (Counted (length l)); out = sets i.out 0 (numbers l) }
+    record { reading = reading_of (Ok (length l)); out = sets i.out 0 (numbers l) }
 
 unfoldable pub outcome : Input → Outcome
 outcome i = after_checks (refused i) (done i) (check i)

@@ -1,15 +1,14 @@
 -- What the functions that list marks leave behind. A mark is listed as one number.
 -- Assumes nothing: these are definitions.
-use Rattle.std.specs.Prelude.{Bool, true, false, List, [], ◌∷◌, map, ◌≡◌, ℕ, ◌+◌, ◌*◌, ◌/◌, ◌%◌, ◌^◌, ◌<◌, length, get_or, take, drop}
+use Rattle.std.specs.Prelude.{Bool, true, false, List, [], ◌∷◌, map, ◌≡◌, ℕ, ◌+◌, ◌*◌, ◌/◌, ◌%◌, ◌^◌, ◌<◌, length, get_or, take, drop, Ok, Err, Result}
 use Rattle.std.proofs.lemmas.List.Edits.{sets}
-use Rattle.def.specs.declared.Answer.{Answer}
-use Rattle.def.specs.declared.Answer.TheVariants.{Done, Refused}
+use Rattle.def.specs.declared.Refusal.{Refusal}
+use Rattle.def.specs.Answers.{Answer}
 use Rattle.laws.specs.Index.{pick}
+use Rattle.marks.specs.declared.Own.{Own}
 use Rattle.marks_rules.specs.Descent.{Descent, descents, part_by, after, descend}
 use Rattle.marks_rules.specs.Marks.{Mark, mark, four}
 use Rattle.marks_rules.specs.Mended.{mend_marks}
-use Rattle.marks.specs.declared.Marked.{Marked}
-use Rattle.marks.specs.declared.Marked.TheVariants.{Done as Counted, Refused as NotCounted}
 
 -- twice the place, and the byte, which is 0 or 1
 abbrev pub mark_number : Mark → ℕ
@@ -23,9 +22,9 @@ abbrev pub one : ℕ → ℕ → List Mark
 one p b = mark p b ∷ []
 
 -- the answer after which n marks are listed
-abbrev pub counted : ℕ → Answer → Marked
-counted n Done = Counted n
-counted n (Refused r) = NotCounted r
+abbrev pub counted : ℕ → Answer → Result ℕ Refusal
+counted n (Ok _) = Ok n
+counted n (Err r) = Err r
 
 -- marks are listed after the n before them
 pub record Listed (l : List Mark) (out : List ℕ) (n : ℕ) (out' : List ℕ) (r : ℕ) : Type 0 where
@@ -33,10 +32,10 @@ pub record Listed (l : List Mark) (out : List ℕ) (n : ℕ) (out' : List ℕ) (
   pub stored : out' ≡ sets out n (numbers l)
 
 -- the marks of a descent, by digits of which n were taken, are listed after the n before them, unless it is refused
-pub record Grew (g : Descent) (ds out : List ℕ) (n : ℕ) (out' : List ℕ) (r : Marked) : Type 0 where
+pub record Grew (g : Descent) (ds out : List ℕ) (n : ℕ) (out' : List ℕ) (r : Result ℕ Refusal) : Type 0 where
   pub answer : r ≡ counted (n + length g.marks) g.walk.answer
-  pub left : g.walk.answer ≡ Done → g.left ≡ drop (n + length g.marks) ds
-  pub stored : g.walk.answer ≡ Done → out' ≡ sets out n (numbers g.marks)
+  pub left : g.walk.answer ≡ Ok tt → g.left ≡ drop (n + length g.marks) ds
+  pub stored : g.walk.answer ≡ Ok tt → out' ≡ sets out n (numbers g.marks)
 
 -- ---- a block whose own mark comes first
 
@@ -54,16 +53,26 @@ abbrev pub part_descents : (w h k x y : ℕ) → List ℕ → Descent
 part_descents w h k x y = descents (part_by (descend w h k) (2 ^ k) x y) 4
 
 -- the mark with place p is listed, and its parts' are to follow by the digits that are left
-pub record Divided (g : Descent) (parts : List ℕ → Descent) (p : ℕ) (ds out : List ℕ) (n : ℕ) (out' : List ℕ) (r : Marked) : Type 0 where
+pub record Divided (g : Descent) (parts : List ℕ → Descent) (p : ℕ) (ds out : List ℕ) (n : ℕ) (out' : List ℕ) (r : Result ℕ Refusal) : Type 0 where
   pub count : ℕ
-  pub answer : r ≡ Counted count
+  pub answer : r ≡ Ok count
   pub own : Listed (one p 1) out n out' count
   pub rest : g ≡ after (mark p 1) (parts (drop count ds))
 
 -- what a block's own digit comes to: all that there is of it, or its parts' are to follow
-pub record Began (g : Descent) (parts : List ℕ → Descent) (p : ℕ) (ds out : List ℕ) (n : ℕ) (out' : List ℕ) (r : Marked) (cut : Bool) : Type 0 where
+pub record Began (g : Descent) (parts : List ℕ → Descent) (p : ℕ) (ds out : List ℕ) (n : ℕ) (out' : List ℕ) (r : Result ℕ Refusal) (cut : Bool) : Type 0 where
   pub whole : cut ≡ false → Grew g ds out n out' r
   pub divided : cut ≡ true → Divided g parts p ds out n out' r
+
+-- how many marks are listed after a block's own digit, or why it is refused
+abbrev pub marked_of : Result Own Refusal → Result ℕ Refusal
+marked_of (Ok o) = Ok o.count
+marked_of (Err r) = Err r
+
+-- and whether its parts' are to follow
+abbrev pub cut_of : Result Own Refusal → Bool
+cut_of (Ok o) = o.cut
+cut_of (Err r) = false
 
 -- ---- a list, read back
 

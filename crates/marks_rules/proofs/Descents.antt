@@ -8,6 +8,7 @@
 --     descend_take, descents_take    a descent that is not refused takes a digit for each mark
 --     read-back    the digits of bytes that are walked to the end give their walk and their marks, and leave what follows them
 -- Assumes nothing.
+use Rattle.std.specs.Prelude.{Ok, Err}
 use mathlib.Core.List.{List, [], ◌∷◌, ◌++◌, map, append_assoc}
 use mathlib.Core.Path.{◌≡◌, refl, sym, ap, ◌∙◌, subst}
 use Prim.Native.Nat.{ℕ, zero, suc, ◌+◌, ◌*◌, ◌/◌, ◌%◌, ◌^◌, ◌≤◌, ◌<◌}
@@ -18,8 +19,7 @@ use borrow.Author.Tests.{le-ltb, lt-ltb}
 use lib.Dec.{ltb}
 use lib.ListN.{length, drop, length-append}
 use lib.Seq.{drop-drop}
-use Rattle.def.specs.declared.Answer.{Answer}
-use Rattle.def.specs.declared.Answer.TheVariants.{Done, Refused}
+use Rattle.def.specs.Answers.{Answer}
 use Rattle.def.specs.declared.Refusal.{Refusal}
 use Rattle.laws.specs.Index.{pick}
 use Rattle.split.specs.Walk.{Walk, nothing, and_then, in_turn, leaf_walk, by_byte, place, part, walk}
@@ -80,13 +80,13 @@ module _ (f : ℕ → List ℕ → Descent) where
   unfolding descents
   descents_more n ds = refl
 
-pub then_done : (a : Descent) (g : List ℕ → Descent) (b : Descent) → a.walk.answer ≡ Done → g a.left ≡ b
+pub then_done : (a : Descent) (g : List ℕ → Descent) (b : Descent) → a.walk.answer ≡ Ok tt → g a.left ≡ b
     → descend_then a g ≡ grown (and_then a.walk b.walk) (a.marks ++ b.marks) b.left
 unfolding descend_on
 then_done a g b d e =
     ap (λ (z : Answer). descend_on z a g) d ∙ ap (λ (z : Descent). grown (and_then a.walk z.walk) (a.marks ++ z.marks) z.left) e
 
-pub then_stop : (a : Descent) (g : List ℕ → Descent) (r : Refusal) → a.walk.answer ≡ Refused r → descend_then a g ≡ a
+pub then_stop : (a : Descent) (g : List ℕ → Descent) (r : Refusal) → a.walk.answer ≡ Err r → descend_then a g ≡ a
 unfolding descend_on
 then_stop a g r d = ap (λ (z : Answer). descend_on z a g) d
 
@@ -102,15 +102,15 @@ joined_four l = regroup (l 0) (l 1) (l 2) (l 3) where
   regroup : (a b c d : List Mark) → ((([] ++ a) ++ b) ++ c) ++ d ≡ a ++ (b ++ (c ++ d))
   regroup a b c d = simp append_assoc
 
-pub all_done_lem : (f : ℕ → Walk) (n : ℕ) → ((i : ℕ) → i < n → (f i).answer ≡ Done) → (in_turn f n).answer ≡ Done
+pub all_done_lem : (f : ℕ → Walk) (n : ℕ) → ((i : ℕ) → i < n → (f i).answer ≡ Ok tt) → (in_turn f n).answer ≡ Ok tt
 all_done_lem f zero h = ap (λ (v : Walk). v.answer) (turn_none f)
 all_done_lem f (suc n) h =
-    subst (λ (k : ℕ). (in_turn f k).answer ≡ Done) (add-one n) (turn_done f n (all_done_lem f n (λ i l. h i (omega arith))) (h n (omega arith)))
+    subst (λ (k : ℕ). (in_turn f k).answer ≡ Ok tt) (add-one n) (turn_done f n (all_done_lem f n (λ i l. h i (omega arith))) (h n (omega arith)))
 
 -- ---- descents that are each walked to the end: v i is the walk of f i, and l i its marks
 
 module _ (f : ℕ → List ℕ → Descent) (l : ℕ → List Mark) (v : ℕ → Walk) where
-  pub in_turn_lem : (n : ℕ) → ((i : ℕ) → i < n → (v i).answer ≡ Done) → ((i : ℕ) → i < n → (r : List ℕ) → f i (bytes (l i) ++ r) ≡ grown (v i) (l i) r)
+  pub in_turn_lem : (n : ℕ) → ((i : ℕ) → i < n → (v i).answer ≡ Ok tt) → ((i : ℕ) → i < n → (r : List ℕ) → f i (bytes (l i) ++ r) ≡ grown (v i) (l i) r)
       → (r : List ℕ) → descents f n (bytes (joined l n) ++ r) ≡ grown (in_turn v n) (joined l n) r
   unfolding joined
   in_turn_lem zero d e r = descents_none f r ∙ ap (λ (z : Walk). grown z [] r) (sym (turn_none v))
@@ -135,7 +135,7 @@ module _ (s : List ℕ) (w h : ℕ) where
   back : (v : Walk) (l : List Mark) (k x y : ℕ) (r : List ℕ) → walk s w h k x y ≡ v → own k x y ≡ l → descend w h k x y (bytes l ++ r) ≡ grown v l r → Back k x y r
   back v l k x y r e f g = rw (e, f) g
 
-  pub read_back : (k x y : ℕ) (r : List ℕ) → (walk s w h k x y).answer ≡ Done → Back k x y r
+  pub read_back : (k x y : ℕ) (r : List ℕ) → (walk s w h k x y).answer ≡ Ok tt → Back k x y r
   read_back zero x y r d =
       by_start w h x y (Back 0 x y r)
       (λ p. back _ _ 0 x y r (walk_x s w h 0 x y p) (marks_unit (byte_of s) w h x y) (descend_x w h 0 x y r p))
@@ -151,7 +151,7 @@ module _ (s : List ℕ) (w h : ℕ) where
       let f = part (walk s w h k) (2 ^ k) x y in
       let g = parts (byte_of s) w h k x y in
       let m = mark (place k x y) 1 in
-      let t : (in_turn f 4).answer ≡ Done = sym (ap (λ (v : Walk). v.answer) (walk_cut s w h k x y p q e)) ∙ d in
+      let t : (in_turn f 4).answer ≡ (Ok tt) = sym (ap (λ (v : Walk). v.answer) (walk_cut s w h k x y p q e)) ∙ d in
       let i = in_turn_lem (part_of w h k x y) g f 4 (each_done f 4 t) (λ n l z. read_back k (part_x k x n) (part_y k y n) z (each_done f 4 t n l)) r in
       back _ _ (suc k) x y r (walk_cut s w h k x y p q e) (marks_cut (byte_of s) w h k x y p q e)
       (descend_cut w h k x y (bytes (four g) ++ r) p q ∙ ap (after m) (rw joined_four at i)))
@@ -161,7 +161,7 @@ module _ (s : List ℕ) (w h : ℕ) where
 
 -- a descent that takes no digit and makes no mark
 pub record Quiet (a : Descent) (ds : List ℕ) : Type 0 where
-  pub done : a.walk.answer ≡ Done
+  pub done : a.walk.answer ≡ Ok tt
   pub none : a.marks ≡ []
   pub left : a.left ≡ ds
 
@@ -192,8 +192,8 @@ few_then : (a : Descent) (g : List ℕ → Descent) (m n : ℕ) → length a.mar
 unfolding descend_on
 few_then a g m n p q = by a.walk.answer where
   by : (z : Answer) → length (descend_on z a g).marks ≤ m + n
-  by Done = let r = q a.left in omega (arith, length-append a.marks (g a.left).marks)
-  by (Refused r) = omega arith
+  by (Ok _) = let r = q a.left in omega (arith, length-append a.marks (g a.left).marks)
+  by (Err r) = omega arith
 
 pub few_descents : (f : ℕ → List ℕ → Descent) (m : ℕ) → ((i : ℕ) (ds : List ℕ) → length (f i ds).marks ≤ m) → (n : ℕ) (ds : List ℕ) → length (descents f n ds).marks ≤ n * m
 unfolding descents
@@ -218,7 +218,7 @@ few_grown w h (suc k) x y ds =
       inside p q (suc (suc d) ∷ ds) f = rw (descend_bad w h k x y d ds p q) (omega arith)
 
 -- a descent that is refused ends those in turn
-pub descents_stop : (f : ℕ → List ℕ → Descent) (n m : ℕ) (r : Refusal) (ds : List ℕ) → (descents f n ds).walk.answer ≡ Refused r → descents f (n + m) ds ≡ descents f n ds
+pub descents_stop : (f : ℕ → List ℕ → Descent) (n m : ℕ) (r : Refusal) (ds : List ℕ) → (descents f n ds).walk.answer ≡ Err r → descents f (n + m) ds ≡ descents f n ds
 descents_stop f n zero r ds e = rw add-zero
 descents_stop f n (suc m) r ds e =
     let i = descents_stop f n m r ds e in
@@ -228,7 +228,7 @@ descents_stop f n (suc m) r ds e =
 
 module _ (ds : List ℕ) where
   abbrev Takes : Descent → Type 0
-  Takes a = a.walk.answer ≡ Done → a.left ≡ drop (length a.marks) ds
+  Takes a = a.walk.answer ≡ Ok tt → a.left ≡ drop (length a.marks) ds
 
   takes : {a b : Descent} → a ≡ b → Takes b → Takes a
   takes e t = subst Takes (sym e) t
@@ -237,12 +237,12 @@ then_takes : (ds : List ℕ) (a : Descent) (g : List ℕ → Descent) → Takes 
 unfolding descend_on
 then_takes ds a g t u = by a.walk.answer refl where
   by : (z : Answer) → a.walk.answer ≡ z → Takes ds (descend_on z a g)
-  by Done e q =
+  by (Ok _) e q =
       let b = g a.left in
-      let d : b.walk.answer ≡ Done = sym (ap (λ (v : Walk). v.answer) (onward_done a.walk.answer a.walk.list b.walk e)) ∙ q in
+      let d : b.walk.answer ≡ (Ok tt) = sym (ap (λ (v : Walk). v.answer) (onward_done a.walk.answer a.walk.list b.walk e)) ∙ q in
       u a.left d ∙ ap (drop (length b.marks)) (t e) ∙ drop-drop (length b.marks) (length a.marks) ds
       ∙ ap (λ (n : ℕ). drop n ds) (sym (length-append a.marks b.marks))
-  by (Refused r) e q = t q
+  by (Err r) e q = t q
 
 pub descents_take : (f : ℕ → List ℕ → Descent) → ((i : ℕ) (l : List ℕ) → Takes l (f i l)) → (n : ℕ) (ds : List ℕ) → Takes ds (descents f n ds)
 unfolding descents

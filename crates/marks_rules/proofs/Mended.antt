@@ -3,6 +3,7 @@
 --     judged    the walk is refused at the first mark whose byte does not stand there
 --     own_marks    where the walk is not refused, each block has the byte that it has to have
 -- Assumes nothing.
+use Rattle.std.specs.Prelude.{Ok, Err}
 use mathlib.Core.Bool.{Bool, true, false}
 use mathlib.Core.List.{List, [], ◌∷◌, ◌++◌}
 use mathlib.Core.Path.{◌≡◌, refl, sym, ap, ap₂, ◌∙◌}
@@ -11,8 +12,7 @@ use native.Mathlib.Omega.{arith}
 use borrow.Author.Tests.{le-leb, lt-leb, le-ltb, lt-ltb, eq-eqb, ne_eqb}
 use lib.Dec.{leb, ltb, eqb}
 use lib.ListN.{get_or}
-use Rattle.def.specs.declared.Answer.{Answer}
-use Rattle.def.specs.declared.Answer.TheVariants.{Done, Refused}
+use Rattle.def.specs.Answers.{Answer}
 use Rattle.def.specs.declared.Refusal.{Refusal}
 use Rattle.def.specs.declared.Refusal.TheVariants.{Split, Leaf as PastPicture}
 use Rattle.laws.specs.Call.{unless}
@@ -65,11 +65,11 @@ module _ (s : List ℕ) (w h k x y : ℕ) where
 -- ---- judging some marks and then others
 
 unfoldable pub stop : Answer → Answer → Answer
-stop Done b = b
-stop (Refused r) b = Refused r
+stop (Ok _) b = b
+stop (Err r) b = Err r
 
 module _ (s : List ℕ) where
-  pub judge_none : judge s [] ≡ Done
+  pub judge_none : judge s [] ≡ Ok tt
   unfolding judge
   judge_none = refl
 
@@ -77,7 +77,7 @@ module _ (s : List ℕ) where
   unfolding judge
   judge_same m l e = rw (eq-eqb _ _ e)
 
-  pub judge_other : (m : Mark) (l : List Mark) → (get_or s m.place 0 ≡ m.byte → ⊥) → judge s (m ∷ l) ≡ Refused (wrong (get_or s m.place 0))
+  pub judge_other : (m : Mark) (l : List Mark) → (get_or s m.place 0 ≡ m.byte → ⊥) → judge s (m ∷ l) ≡ Err (wrong (get_or s m.place 0))
   unfolding judge
   judge_other m l n = rw (ne_eqb _ _ n)
 
@@ -85,8 +85,8 @@ module _ (s : List ℕ) where
   unfolding judge stop
   judge_append [] m = refl
   judge_append (n ∷ l) m = by (eqb (get_or s n.place 0) n.byte) (judge_append l m) where
-    by : (t : Bool) → judge s (l ++ m) ≡ stop (judge s l) (judge s m) → unless t (Refused (wrong (get_or s n.place 0))) (judge s (l ++ m)) ≡ stop
-        (unless t (Refused (wrong (get_or s n.place 0))) (judge s l)) (judge s m)
+    by : (t : Bool) → judge s (l ++ m) ≡ stop (judge s l) (judge s m) → unless t (Err (wrong (get_or s n.place 0))) (judge s (l ++ m)) ≡ stop
+        (unless t (Err (wrong (get_or s n.place 0))) (judge s l)) (judge s m)
     by true e = e
     by false e = refl
 
@@ -94,8 +94,8 @@ turn_stops : (f : ℕ → Walk) (n : ℕ) → (in_turn f (suc n)).answer ≡ sto
 unfolding stop
 turn_stops f n = ap (λ (v : Walk). v.answer) (turn_more f n) ∙ go (in_turn f n).answer refl where
   go : (a : Answer) → (in_turn f n).answer ≡ a → (onward (in_turn f n).answer (in_turn f n).list (f n)).answer ≡ stop a (f n).answer
-  go Done e = ap (λ (v : Walk). v.answer) (onward_done _ _ _ e)
-  go (Refused r) e = ap (λ (v : Walk). v.answer) (onward_stop _ _ _ r e)
+  go (Ok _) e = ap (λ (v : Walk). v.answer) (onward_done _ _ _ e)
+  go (Err r) e = ap (λ (v : Walk). v.answer) (onward_stop _ _ _ r e)
 
 answer : {v u : Walk} → v ≡ u → v.answer ≡ u.answer
 answer e = ap (λ (z : Walk). z.answer) e
@@ -111,10 +111,10 @@ four_judged s f g i =
     let t₄ = turn_stops f 3 ∙ ap (λ (z : Answer). stop z (a 3)) t₃ in
     t₄ ∙ nested (a 0) (a 1) (a 2) (a 3) ∙ joins where
       nested : (a b c d : Answer) → stop (stop (stop a b) c) d ≡ stop a (stop b (stop c d))
-      nested Done Done Done d = refl
-      nested Done Done (Refused r) d = refl
-      nested Done (Refused r) c d = refl
-      nested (Refused r) b c d = refl
+      nested (Ok _) (Ok _) (Ok _) d = refl
+      nested (Ok _) (Ok _) (Err r) d = refl
+      nested (Ok _) (Err r) c d = refl
+      nested (Err r) b c d = refl
 
       joins : stop (f 0).answer (stop (f 1).answer (stop (f 2).answer (f 3).answer)) ≡ judge s (four g)
       joins =
@@ -126,7 +126,7 @@ four_same f g i =
     ap₂ (λ (a b : List Mark). a ++ b) (i 0 (omega arith))
     (ap₂ (λ (a b : List Mark). a ++ b) (i 1 (omega arith)) (ap₂ (λ (a b : List Mark). a ++ b) (i 2 (omega arith)) (i 3 (omega arith))))
 
-leaf_done : (w h n x y : ℕ) → (leaf_walk w h n x y).answer ≡ Done → (x + n ≤ w) × (y + n ≤ h)
+leaf_done : (w h n x y : ℕ) → (leaf_walk w h n x y).answer ≡ Ok tt → (x + n ≤ w) × (y + n ≤ h)
 leaf_done w h n x y d =
     by_end w h n x y ((x + n ≤ w) × (y + n ≤ h))
     (λ p. absurd (not_done _ (sym (answer (leaf_x w h n x y p)) ∙ d)))
@@ -152,7 +152,7 @@ module _ (s : List ℕ) (w h : ℕ) where
   told : (v : Walk) (l : List Mark) (k x y : ℕ) → walk s w h k x y ≡ v → mend_marks s w h k x y ≡ l → v.answer ≡ judge s l → Judged k x y
   told v l k x y e f g = ap (λ (z : Walk). z.answer) e ∙ g ∙ ap (judge s) (sym f)
 
-  nothing_judged : (k x y : ℕ) → (walk s w h k x y).answer ≡ Done → mend_marks s w h k x y ≡ [] → Judged k x y
+  nothing_judged : (k x y : ℕ) → (walk s w h k x y).answer ≡ Ok tt → mend_marks s w h k x y ≡ [] → Judged k x y
   unfolding judge
   nothing_judged k x y e f = e ∙ ap (judge s) (sym f)
 
@@ -165,16 +165,16 @@ module _ (s : List ℕ) (w h : ℕ) where
       (λ a b.
       told _ _ (suc k) x y (walk_leaf s w h k x y p q e ∙ leaf_in_lem w h _ x y a b) (marks_leaf (mend_byte s w h) w h k x y p q (mend_0 s w h k x y a b e))
       (sym (judge_same s (mark (place k x y) 0) [] e ∙ judge_none s))) where
-        past : (l : List Mark) → Refused PastPicture ≡ judge s (mark (place k x y) 1 ∷ l)
-        past l = sym (judge_other s (mark (place k x y) 1) l (λ z. absurd (omega arith)) ∙ ap Refused (ap wrong e ∙ past_is 0 (omega arith)))
+        past : (l : List Mark) → Err PastPicture ≡ judge s (mark (place k x y) 1 ∷ l)
+        past l = sym (judge_other s (mark (place k x y) 1) l (λ z. absurd (omega arith)) ∙ ap Err (ap wrong e ∙ past_is 0 (omega arith)))
 
   bad_judged : (k x y : ℕ) → x < w → y < h → 1 < byte_of s k x y → Judged (suc k) x y
   bad_judged k x y p q g =
       mended s w h k x y (Judged (suc k) x y)
       (λ e. told _ _ (suc k) x y (walk_bad s w h k x y p q g) (marks_cut (mend_byte s w h) w h k x y p q e) (bad _ 1 (omega arith)))
       (λ e a b. told _ _ (suc k) x y (walk_bad s w h k x y p q g) (marks_leaf (mend_byte s w h) w h k x y p q e) (bad _ 0 (omega arith))) where
-        bad : (l : List Mark) (b : ℕ) → b ≤ 1 → Refused Split ≡ judge s (mark (place k x y) b ∷ l)
-        bad l b c = sym (judge_other s (mark (place k x y) b) l (λ z. absurd (omega arith)) ∙ ap Refused (bad_is (byte_of s k x y) g))
+        bad : (l : List Mark) (b : ℕ) → b ≤ 1 → Err Split ≡ judge s (mark (place k x y) b ∷ l)
+        bad l b c = sym (judge_other s (mark (place k x y) b) l (λ z. absurd (omega arith)) ∙ ap Err (bad_is (byte_of s k x y) g))
 
   pub judged : (k x y : ℕ) → Judged k x y
   judged zero x y =
@@ -196,7 +196,7 @@ module _ (s : List ℕ) (w h : ℕ) where
       (bad_judged k x y p q))
 
   -- where the walk is not refused each byte is the one that its block has to have
-  pub own_marks : (k x y : ℕ) → (walk s w h k x y).answer ≡ Done → mend_marks s w h k x y ≡ marks (byte_of s) w h k x y
+  pub own_marks : (k x y : ℕ) → (walk s w h k x y).answer ≡ Ok tt → mend_marks s w h k x y ≡ marks (byte_of s) w h k x y
   own_marks zero x y d = marks_unit (mend_byte s w h) w h x y ∙ sym (marks_unit (byte_of s) w h x y)
   own_marks (suc k) x y d =
       let m = mend_byte s w h in

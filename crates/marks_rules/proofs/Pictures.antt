@@ -6,6 +6,7 @@
 --     told_apart    maps with different blocks never have equal digits, not even where one goes on after the other's end
 --     few_digits    at most 85 digits a root
 -- Assumes nothing.
+use Rattle.std.specs.Prelude.{Ok}
 use mathlib.Core.Bool.{Bool, true, false}
 use mathlib.Core.List.{List, [], ◌∷◌, ◌++◌, append_assoc, append-nil, Memᴰ}
 use mathlib.Core.Path.{◌≡◌, refl, sym, ap, ◌∙◌, subst}
@@ -16,7 +17,6 @@ use borrow.Author.Tests.{eqb-true, eqb-false}
 use lib.Dec.{eqb}
 use lib.ListN.{length, get_or, take, drop, replicate, length-append, length-take, length-drop, length-replicate, length-map, get_or-replicate}
 use lib.Seq.{take_at, drop_at, take_all, take-append-le, drop-append-le}
-use Rattle.def.specs.declared.Answer.TheVariants.{Done, Refused}
 use Rattle.split.specs.Walk.{Walk, in_turn, walk}
 use Rattle.split.specs.Picture.{across, roots, root_bytes, root_x, root_y, root_walk, picture_walk}
 use Rattle.split.proofs.Walks.{each_done}
@@ -87,7 +87,7 @@ module _ (s : List ℕ) (w h : ℕ) where
       let c = length-map (root_marks n) (λ (m : Mark). m.byte) in
       omega (arith, length-append (digits_of s w h n) (bytes (root_marks n)))
 
-  module _ (d : (picture_walk s w h).answer ≡ Done) where
+  module _ (d : (picture_walk s w h).answer ≡ Ok tt) where
     pub upto_back : (n : ℕ) → n ≤ roots w h → (r : List ℕ) → upto w h (digits_of s w h n ++ r) n ≡ grown (in_turn (root_walk s w h) n) (joined root_marks n) r
     upto_back n l r =
         ap (λ (z : List ℕ). upto w h (z ++ r) n) (sym (marks_digits n))
@@ -147,7 +147,7 @@ module _ (s : List ℕ) (w h : ℕ) where
           ap (λ (t : List ℕ). get_or t p 0) (back_root i l) ∙ put_else p (root_marks i) (replicate 1024 0) z ∙ get_or-replicate 1024 p 0 0 q
 
 -- two maps of one picture size with different blocks
-pub told_apart : (w h : ℕ) (s t : List ℕ) → (picture_walk s w h).answer ≡ Done → (picture_walk t w h).answer ≡ Done
+pub told_apart : (w h : ℕ) (s t : List ℕ) → (picture_walk s w h).answer ≡ Ok tt → (picture_walk t w h).answer ≡ Ok tt
     → (r r' : List ℕ) → picture_digits s w h ++ r ≡ picture_digits t w h ++ r' → picture_walk s w h ≡ picture_walk t w h
 told_apart w h s t ds dt r r' e =
     ap (λ (z : Descent). z.walk) (sym (picture_back s w h ds r) ∙ ap (λ (z : List ℕ). upto w h z (roots w h)) e ∙ picture_back t w h dt r')

@@ -1,13 +1,13 @@
 -- A root's marks stand among its 1,024 bytes, and their bytes are 0 or 1.
 -- Assumes nothing.
+use Rattle.std.specs.Prelude.{Ok, Err}
 use mathlib.Core.List.Memᴰ
 use mathlib.Core.List.{List, [], ◌∷◌, ◌++◌, Memᴰ}
 use mathlib.Core.Logic.{⊎_elim}
 use mathlib.Core.Path.{◌≡◌, refl, sym, ap, subst}
 use Prim.Native.Nat.{ℕ, zero, suc, ◌+◌, ◌-◌, ◌*◌, ◌/◌, ◌%◌, ◌^◌, ◌≤◌, ◌<◌}
 use native.Mathlib.Omega.{arith}
-use Rattle.def.specs.declared.Answer.{Answer}
-use Rattle.def.specs.declared.Answer.TheVariants.{Done, Refused}
+use Rattle.def.specs.Answers.{Answer}
 use Rattle.split.specs.Walk.{place}
 use Rattle.marks_rules.specs.Descent.{Descent, descend_on, descend_then, descents, descend}
 use Rattle.marks_rules.specs.Marks.{Mark, mark, four, marks}
@@ -61,8 +61,8 @@ tidy_then : (a : Descent) (g : List ℕ → Descent) → AllTidy a.marks → ((d
 unfolding descend_on
 tidy_then a g t u = by a.walk.answer where
   by : (z : Answer) → AllTidy (descend_on z a g).marks
-  by Done = tidy_append a.marks (g a.left).marks t (u a.left)
-  by (Refused r) = t
+  by (Ok _) = tidy_append a.marks (g a.left).marks t (u a.left)
+  by (Err r) = t
 
 pub tidy_descents : (f : ℕ → List ℕ → Descent) → ((i : ℕ) (ds : List ℕ) → AllTidy (f i ds).marks) → (n : ℕ) (ds : List ℕ) → AllTidy (descents f n ds).marks
 unfolding descents

@@ -1,11 +1,11 @@
 -- Bytes that have a root's marks are walked as it is.
 -- Assumes nothing.
+use Rattle.std.specs.Prelude.{Ok}
 use mathlib.Core.List.{List, [], ◌∷◌, Memᴰ}
 use mathlib.Core.Path.{◌≡◌, refl, sym, ap, ap₂, ◌∙◌, subst}
 use Prim.Native.Nat.{ℕ, zero, suc, ◌+◌, ◌*◌, ◌/◌, ◌%◌, ◌^◌, ◌≤◌, ◌<◌}
 use native.Mathlib.Omega.{arith}
 use lib.ListN.{get_or}
-use Rattle.def.specs.declared.Answer.TheVariants.{Done, Refused}
 use Rattle.split.specs.Walk.{Walk, and_then, in_turn, place, part, walk}
 use Rattle.split.proofs.Walks.{not_done, turn_none, turn_more, each_done, walk_x, walk_y, walk_unit, walk_leaf, walk_cut, walk_bad}
 use Rattle.marks_rules.specs.Marks.{Mark, mark, marks, byte_of}
@@ -22,7 +22,7 @@ turn_same f g (suc n) e =
     ∙ sym (turn_more g n)
 
 module _ (s : List ℕ) (w h : ℕ) (n : List ℕ) where
-  pub same_walk : (k x y : ℕ) → (walk s w h k x y).answer ≡ Done → ((m : Mark) → Memᴰ m (marks (byte_of s) w h k x y) → get_or n m.place 0 ≡ m.byte) → walk n w h k x y ≡ walk s w h k x y
+  pub same_walk : (k x y : ℕ) → (walk s w h k x y).answer ≡ Ok tt → ((m : Mark) → Memᴰ m (marks (byte_of s) w h k x y) → get_or n m.place 0 ≡ m.byte) → walk n w h k x y ≡ walk s w h k x y
   same_walk zero x y d g =
       by_start w h x y (walk n w h zero x y ≡ walk s w h zero x y) (λ p. walk_x n w h 0 x y p ∙ sym (walk_x s w h 0 x y p)) (λ p q. walk_y n w h 0 x y p q ∙ sym (walk_y s w h 0 x y p q))
       (λ p q. walk_unit n w h x y p q ∙ sym (walk_unit s w h x y p q))

@@ -1,10 +1,9 @@
 -- The walk of a split tree by its digits: one for each block of 8 or more, in the walk's order. It has the shape of the walk by split bytes.
 -- Places and sides are in units. A digit is 0 or 1.
 -- Assumes nothing: these are definitions.
-use Rattle.std.specs.Prelude.{List, [], ◌∷◌, ◌++◌, ℕ, zero, suc, ◌+◌, ◌*◌, ◌/◌, ◌%◌, ◌^◌, ltb}
+use Rattle.std.specs.Prelude.{List, [], ◌∷◌, ◌++◌, ℕ, zero, suc, ◌+◌, ◌*◌, ◌/◌, ◌%◌, ◌^◌, ltb, Ok, Err}
 use Rattle.laws.specs.Index.{pick}
-use Rattle.def.specs.declared.Answer.{Answer}
-use Rattle.def.specs.declared.Answer.TheVariants.{Done, Refused}
+use Rattle.def.specs.Answers.{Answer}
 use Rattle.def.specs.declared.Refusal.TheVariants.{Bits}
 use Rattle.split.specs.Picture.{root_x, root_y}
 use Rattle.split.specs.Walk.{Walk, met, nothing, and_then, leaf_walk, by_byte, place}
@@ -21,8 +20,8 @@ grown v l ds = record { walk = v; marks = l; left = ds }
 
 -- a descent, and then, unless it was refused, another with the digits that it left
 unfoldable pub descend_on : Answer → Descent → (List ℕ → Descent) → Descent
-descend_on Done a g = let b = g a.left in grown (and_then a.walk b.walk) (a.marks ++ b.marks) b.left
-descend_on (Refused r) a g = a
+descend_on (Ok _) a g = let b = g a.left in grown (and_then a.walk b.walk) (a.marks ++ b.marks) b.left
+descend_on (Err r) a g = a
 
 abbrev pub descend_then : Descent → (List ℕ → Descent) → Descent
 descend_then a g = descend_on a.walk.answer a g
@@ -34,7 +33,7 @@ descents f (suc n) ds = descend_then (descents f n ds) (f n)
 
 -- 16: the digits have run out
 abbrev pub run_out : Descent
-run_out = grown (met [] (Refused Bits)) [] []
+run_out = grown (met [] (Err Bits)) [] []
 
 -- by the next digit: a leaf where it is 0, a cut where it is 1
 abbrev pub by_digit : List ℕ → (List ℕ → Descent) → (List ℕ → Descent) → Descent

@@ -1,9 +1,8 @@
 -- The byte that a block has to have for the walk to go on: a block that reaches past the picture is cut, and any other is a leaf unless its byte
 -- is 1. The walk is refused at the first block whose byte is another.
 -- Assumes nothing: these are definitions.
-use Rattle.std.specs.Prelude.{List, [], ◌∷◌, ℕ, suc, ◌+◌, ◌^◌, eqb, leb, ltb, get_or}
-use Rattle.def.specs.declared.Answer.{Answer}
-use Rattle.def.specs.declared.Answer.TheVariants.{Done, Refused}
+use Rattle.std.specs.Prelude.{List, [], ◌∷◌, ℕ, suc, ◌+◌, ◌^◌, eqb, leb, ltb, get_or, Ok, Err}
+use Rattle.def.specs.Answers.{Answer}
 use Rattle.def.specs.declared.Refusal.{Refusal}
 use Rattle.def.specs.declared.Refusal.TheVariants.{Split, Leaf as PastPicture}
 use Rattle.laws.specs.Call.{unless}
@@ -27,5 +26,5 @@ wrong byte = pick (ltb 1 byte) Split PastPicture
 
 -- whether the bytes of some marks stand in s: the first that does not decides
 unfoldable pub judge : List ℕ → List Mark → Answer
-judge s [] = Done
-judge s (m ∷ l) = unless (eqb (get_or s m.place 0) m.byte) (Refused (wrong (get_or s m.place 0))) (judge s l)
+judge s [] = Ok tt
+judge s (m ∷ l) = unless (eqb (get_or s m.place 0) m.byte) (Err (wrong (get_or s m.place 0))) (judge s l)

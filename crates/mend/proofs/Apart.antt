@@ -1,20 +1,19 @@
 -- A reading tells all answers of the call apart.
 -- Assumes nothing.
+use Rattle.std.specs.Prelude.{Ok, Err, Result, ℕ}
 use mathlib.Core.Path.{◌≡◌, sym, ap}
 use native.Mathlib.Omega.{arith}
 use Rattle.def.specs.Refusals.{number_of}
 use Rattle.def.specs.declared.Refusal.{Refusal}
 use Rattle.def.proofs.Answers.{number_apart, number_some}
-use Rattle.mend.specs.MendCall.{Reading, reading_of}
-use Rattle.mend.specs.declared.Mended.{Mended}
-use Rattle.mend.specs.declared.Mended.TheVariants.{Done, Refused}
+use Rattle.mend.specs.MendCall.{reading_of}
 
 -- no refusal reads as done
 never : {A : Type 0} (r : Refusal) → number_of r ≡ 0 → A
 never r e = absurd (omega (arith, number_some r))
 
-pub mended_apart : (a b : Mended) → reading_of a ≡ reading_of b → a ≡ b
-mended_apart (Done m) (Done n) e = ap Done (λ i. (e i).count)
-mended_apart (Done m) (Refused r) e = never r (λ i. (sym e i).number)
-mended_apart (Refused r) (Done n) e = never r (λ i. (e i).number)
-mended_apart (Refused r) (Refused q) e = ap Refused (number_apart r q (λ i. (e i).number))
+pub mended_apart : (a b : Result ℕ Refusal) → reading_of a ≡ reading_of b → a ≡ b
+mended_apart (Ok m) (Ok n) e = ap Ok (λ i. (e i).count)
+mended_apart (Ok m) (Err r) e = never r (λ i. (sym e i).number)
+mended_apart (Err r) (Ok n) e = never r (λ i. (e i).number)
+mended_apart (Err r) (Err q) e = ap Err (number_apart r q (λ i. (e i).number))

@@ -1,41 +1,33 @@
 -- A root's bytes and changes as the code has them, and the outcome of `mend` by what its checks find.
 -- Assumes nothing.
-use mathlib.Core.Bool.{Bool, true, false}
-use mathlib.Core.List.{List, [], ◌∷◌, ◌++◌}
-use mathlib.Core.Path.{◌≡◌, refl, sym, ap, ap₂, ◌∙◌, subst}
-use Prim.Native.Nat.{ℕ, zero, suc, ◌+◌, ◌-◌, ◌*◌, ◌/◌, ◌≤◌, ◌<◌}
+use Rattle.std.specs.Prelude.{Ok, Err, Result}
+use mathlib.Core.Bool.{true}
+use mathlib.Core.List.{List, [], ◌∷◌}
+use mathlib.Core.Path.{◌≡◌, sym, ap, ap₂, ◌∙◌}
+use Prim.Native.Nat.{ℕ, zero, suc, ◌+◌, ◌-◌, ◌*◌, ◌/◌, ◌≤◌}
 use native.Mathlib.Nat.{zero-add}
 use native.Mathlib.Numerals.{add-one}
 use native.Mathlib.Omega.{arith}
 use borrow.Author.Tests.{eqb-true}
 use lib.Dec.{eqb}
 use lib.ListN.{length, take, drop, length-append}
-use lib.Seq.{sets}
-use Rattle.def.specs.Answers.{after_checks}
 use Rattle.def.specs.Picture.{size_ok, root_count}
-use Rattle.def.specs.declared.Answer.{Answer}
-use Rattle.def.specs.declared.Answer.TheVariants.{Done, Refused}
 use Rattle.def.specs.declared.Refusal.{Refusal}
 use Rattle.def.proofs.Sizes.{sized}
 use Rattle.laws.proofs.Calls.{all_at}
 use Rattle.laws.specs.Index.{pick}
-use Rattle.laws.specs.Orders.{each}
 use Rattle.marks.proofs.Callers.{Told, roots_told}
 use Rattle.marks.specs.ListCall as list-call
 use Rattle.marks.specs.Stored.{marks_in}
-use Rattle.marks.specs.declared.Marked.{Marked}
-use Rattle.marks.specs.declared.Marked.TheVariants.{Done as Counted, Refused as NotCounted}
 use Rattle.marks_rules.specs.Marks.{Mark, put_all, blocks_in}
 use Rattle.marks_rules.specs.Mended.{mend_byte}
 use Rattle.marks_rules.specs.Pictures.{joined}
 use Rattle.marks_rules.proofs.Marks.{few}
 use Rattle.split.proofs.Roots.{few_roots, roots_units}
 use Rattle.split.specs.Picture.{roots, root_bytes, root_x, root_y}
-use Rattle.mend.specs.Changes.{Change, root_marks, mend_root, mend_map, changes_in, root_changes, changes_of, all_changes, change_numbers, Listed}
+use Rattle.mend.specs.Changes.{root_marks, mend_root, mend_map, changes_in, root_changes, changes_of, all_changes, Listed}
 use Rattle.mend.specs.MendCall as mend-call
 use Rattle.mend.specs.MendCall.{Mapped}
-use Rattle.mend.specs.declared.Mended.{Mended}
-use Rattle.mend.specs.declared.Mended.TheVariants.{Done as Mended-as-Done, Refused as NotMended}
 use Rattle.mend.proofs.Lists.{listed_as, listed_then, changes_few}
 
 -- ---- the size
@@ -50,7 +42,7 @@ pub bytes_of_lem : (s : List ℕ) (i : ℕ) → take (1024 * i + 1024 - 1024 * i
 bytes_of_lem s i = let e : 1024 * i + 1024 - 1024 * i ≡ 1024 = omega arith in ap (λ (n : ℕ). take n (drop (1024 * i) s)) e
 
 -- an answer that tells of marks is not a refusal
-pub not_both : {A : Type 0} (r : Marked) (n : ℕ) (q : Refusal) → r ≡ Counted n → r ≡ NotCounted q → A
+pub not_both : {A : Type 0} (r : Result ℕ Refusal) (n : ℕ) (q : Refusal) → r ≡ Ok n → r ≡ Err q → A
 not_both r n q e f = absurd (let z : ◌≡◌ {A = ℕ} 0 1 = cc in omega arith)
 
 -- ---- root i, by a list that has its marks
@@ -93,13 +85,13 @@ lengths_told w h splits out list e =
     (eqb-true _ _ (all_at l 0 e), eqb-true _ _ (all_at l 1 e), eqb-true _ _ (all_at l 2 e))
 
 module _ (i : mend-call.Input) where
-  pub mend_refused : (r : Refusal) → Refused r ≡ mend-call.check i → record { reading = mend-call.reading_of (NotMended r); out = i.out; list = i.list } ≡ mend-call.outcome i
+  pub mend_refused : (r : Refusal) → Err r ≡ mend-call.check i → record { reading = mend-call.reading_of (Err r); out = i.out; list = i.list } ≡ mend-call.outcome i
   unfolding mend-call.outcome
   mend_refused r e = rw (sym e)
 
-  pub mend_done : (n : ℕ) (o l : List ℕ) → Done ≡ mend-call.check i → o ≡ mend_map i.splits (i.w / 4) (i.h / 4)
-      → Listed (all_changes i.splits (i.w / 4) (i.h / 4)) i.list 0 l n → record { reading = mend-call.reading_of (Mended-as-Done n); out = o; list = l } ≡ mend-call.outcome i
+  pub mend_done : (n : ℕ) (o l : List ℕ) → (Ok tt) ≡ mend-call.check i → o ≡ mend_map i.splits (i.w / 4) (i.h / 4)
+      → Listed (all_changes i.splits (i.w / 4) (i.h / 4)) i.list 0 l n → record { reading = mend-call.reading_of (Ok n); out = o; list = l } ≡ mend-call.outcome i
   unfolding mend-call.outcome
   mend_done n o l e f d =
       rw (sym e)
-      (λ k. record { reading = mend-call.reading_of (Mended-as-Done ((d.count ∙ zero-add (length (all_changes i.splits (i.w / 4) (i.h / 4)))) k)); out = f k; list = d.stored k })
+      (λ k. record { reading = mend-call.reading_of (Ok ((d.count ∙ zero-add (length (all_changes i.splits (i.w / 4) (i.h / 4)))) k)); out = f k; list = d.stored k })

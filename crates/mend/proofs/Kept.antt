@@ -1,27 +1,24 @@
 -- `kept`: what is proved of every map that is mended; `mends`: of every call that is not refused.
 -- Assumes nothing.
-use mathlib.Core.Bool.{Bool, true, false}
+use Rattle.std.specs.Prelude.{Ok, Err}
+use mathlib.Core.Bool.{true}
 use mathlib.Core.List.Memᴰ
 use mathlib.Core.List.{List, [], ◌∷◌, ◌++◌, append_assoc, append-nil, Memᴰ}
 use mathlib.Core.Logic.{⊎_elim}
 use mathlib.Core.Path.{◌≡◌, refl, sym, ap, ap₂, ◌∙◌, subst}
-use Prim.Native.Nat.{ℕ, zero, suc, ◌+◌, ◌-◌, ◌*◌, ◌/◌, ◌%◌, ◌≤◌, ◌<◌}
-use native.Mathlib.Nat.{not-suc-le-zero}
+use Prim.Native.Nat.{ℕ, zero, suc, ◌+◌, ◌*◌, ◌/◌, ◌%◌, ◌≤◌, ◌<◌}
 use native.Mathlib.Omega.{arith}
 use borrow.Author.Tests.{eq-eqb}
-use lib.Dec.{eqb}
 use lib.ListN.{length, get_or, set, take, drop, length-set, length-take, length-drop, take-append-drop, drop_of_length-le}
 use lib.Seq.{set-append_left, take-set-le, drop-set-add, take_at, drop_at, drop-drop, take-length, take-add, length-take-le, get_or-take, get_or-drop}
 use Rattle.def.specs.Answers.{after_checks}
 use Rattle.def.specs.Picture.{size_ok, root_count}
 use Rattle.def.specs.Refusals.{number_of}
-use Rattle.def.specs.declared.Answer.{Answer}
-use Rattle.def.specs.declared.Answer.TheVariants.{Done, Refused}
+use Rattle.def.specs.Answers.{Answer}
 use Rattle.def.specs.declared.Refusal.TheVariants.{Size, Length}
 use Rattle.def.proofs.Answers.{number_some}
 use Rattle.def.proofs.Ladders.{passes}
 use Rattle.def.proofs.Sizes.{sized}
-use Rattle.laws.specs.Call.{unless}
 use Rattle.laws.specs.Orders.{run, each}
 use Rattle.laws.proofs.Orders.{run_append}
 use Rattle.marks_rules.specs.Marks.{Mark}
@@ -81,7 +78,7 @@ module _ (s : List ℕ) (w h : ℕ) (long : length s ≡ 1024 * roots w h) where
   there : (i : ℕ) → i < roots w h → (m : Mark) → Memᴰ m (root_marks s w h i) → get_or (mend_root s w h i) m.place 0 ≡ m.byte
   there i l = all_there (mend_byte (root_bytes s i) w h) w h (i % across w) (i / across w) (root_bytes s i) (root_long i l)
 
-  accepted : (picture_walk (mend_map s w h) w h).answer ≡ Done
+  accepted : (picture_walk (mend_map s w h) w h).answer ≡ Ok tt
   accepted =
       all_done_lem (root_walk (mend_map s w h) w h) (roots w h)
       (λ i l. ap (λ (z : List ℕ). (walk z w h 4 (root_x w i) (root_y w i)).answer) (part_back (mend_root s w h) (roots w h) mended_long i l)
@@ -192,7 +189,7 @@ module _ (s : List ℕ) (w h : ℕ) (long : length s ≡ 1024 * roots w h) where
       }
 
   -- where the walk is not refused
-  module _ (d : (picture_walk s w h).answer ≡ Done) where
+  module _ (d : (picture_walk s w h).answer ≡ Ok tt) where
     stands : (i : ℕ) → i < roots w h → (m : Mark) → Memᴰ m (root_marks s w h i) → get_or (root_bytes s i) m.place 0 ≡ m.byte
     stands i l =
         judge_all (root_bytes s i) (root_marks s w h i)
@@ -228,9 +225,9 @@ kept s w h long =
 -- ---- the call
 
 -- 0 is the number of no refusal
-done_told : (a : Answer) → after_checks (λ r. check-call.numbered (number_of r)) (check-call.numbered 0) a ≡ check-call.numbered 0 → a ≡ Done
-done_told Done e = refl
-done_told (Refused r) e = absurd (let z = ap (λ (o : check-call.Outcome). o.number) e in omega (arith, number_some r))
+done_told : (a : Answer) → after_checks (λ r. check-call.numbered (number_of r)) (check-call.numbered 0) a ≡ check-call.numbered 0 → a ≡ Ok tt
+done_told (Ok _) e = refl
+done_told (Err r) e = absurd (let z = ap (λ (o : check-call.Outcome). o.number) e in omega (arith, number_some r))
 
 -- the walk's answer is that of `check`, where size and length are right
 module _ (w h : ℕ) (s : List ℕ) (z : size_ok w h ≡ true) (long : length s ≡ 1024 * root_count w h) where
@@ -241,29 +238,29 @@ module _ (w h : ℕ) (s : List ℕ) (z : size_ok w h ≡ true) (long : length s 
   unfolding check-call.check
   check_is = rw (z, eq-eqb (length s) (1024 * root_count w h) long)
 
-  walk_told : check-call.outcome checked ≡ check-call.numbered 0 → (picture_walk s (w / 4) (h / 4)).answer ≡ Done
+  walk_told : check-call.outcome checked ≡ check-call.numbered 0 → (picture_walk s (w / 4) (h / 4)).answer ≡ Ok tt
   unfolding check-call.outcome
   walk_told e = sym check_is ∙ done_told (check-call.check checked) e
 
-  told_walk : (picture_walk s (w / 4) (h / 4)).answer ≡ Done → check-call.outcome checked ≡ check-call.numbered 0
+  told_walk : (picture_walk s (w / 4) (h / 4)).answer ≡ Ok tt → check-call.outcome checked ≡ check-call.numbered 0
   unfolding check-call.outcome
   told_walk e = ap (after_checks (λ r. check-call.numbered (number_of r)) (check-call.numbered 0)) (check_is ∙ e)
 
   -- and where it is done the call copies
-  copied : (out list : List ℕ) → length out ≡ 1024 * root_count w h → length list ≡ 425 * root_count w h → (picture_walk s (w / 4) (h / 4)).answer ≡ Done
+  copied : (out list : List ℕ) → length out ≡ 1024 * root_count w h → length list ≡ 425 * root_count w h → (picture_walk s (w / 4) (h / 4)).answer ≡ Ok tt
       → mend-call.outcome (record { w = w; h = h; splits = s; out = out; list = list }) ≡ as_it_was s list
   unfolding mend-call.outcome mend-call.check mend-call.lengths_ok each
   copied out list m n d =
       let u = (kept s (w / 4) (h / 4) (long ∙ ap (λ (k : ℕ). 1024 * k) (sym (roots_units (sized w h z))))).unchanged d in
       rw (z, eq-eqb (length s) (1024 * root_count w h) long, eq-eqb (length out) (1024 * root_count w h) m, eq-eqb (length list) (425 * root_count w h) n, u.0, u.1)
 
-module _ (i : mend-call.Input) (d : mend-call.check i ≡ Done) where
+module _ (i : mend-call.Input) (d : mend-call.check i ≡ Ok tt) where
   abbrev new : List ℕ
   new = (mend-call.outcome i).out
 
   tests : (size_ok i.w i.h ≡ true) × (mend-call.lengths_ok i.w i.h (length i.splits) (length i.out) (length i.list) ≡ true)
   unfolding mend-call.check
-  tests = let a = passes (size_ok i.w i.h) Size _ d in (a.holds, (passes _ Length Done a.rest).holds)
+  tests = let a = passes (size_ok i.w i.h) Size _ d in (a.holds, (passes _ Length (Ok tt) a.rest).holds)
 
   lengths : (length i.splits ≡ 1024 * root_count i.w i.h) × (length i.out ≡ 1024 * root_count i.w i.h) × (length i.list ≡ 425 * root_count i.w i.h)
   lengths = lengths_told i.w i.h (length i.splits) (length i.out) (length i.list) tests.1
@@ -278,7 +275,7 @@ module _ (i : mend-call.Input) (d : mend-call.check i ≡ Done) where
   new_long : length new ≡ 1024 * root_count i.w i.h
   new_long = ap length new_is ∙ map_long i.splits (i.w / 4) (i.h / 4) (lengths.0 ∙ sym units) ∙ units
 
-  walks : (picture_walk new (i.w / 4) (i.h / 4)).answer ≡ Done
+  walks : (picture_walk new (i.w / 4) (i.h / 4)).answer ≡ Ok tt
   walks = ap (λ (t : List ℕ). (picture_walk t (i.w / 4) (i.h / 4)).answer) new_is ∙ (kept i.splits (i.w / 4) (i.h / 4) (lengths.0 ∙ sym units)).accepted
 
   pub mends : Mends i

@@ -4,6 +4,7 @@
 --     of_mark    what a listed change is
 --     new_put, old_put    the new values put in make the mended bytes, and the old ones the bytes that were
 -- Assumes nothing.
+use Rattle.std.specs.Prelude.{Ok, Err}
 use mathlib.Core.Bool.{Bool, true, false}
 use mathlib.Core.List.Memᴰ
 use mathlib.Core.List.{List, [], ◌∷◌, ◌++◌, Memᴰ}
@@ -15,7 +16,6 @@ use borrow.Author.Tests.{eqb-true, eqb-false}
 use lib.Dec.{eqb}
 use lib.ListN.{length, get_or, set, length-set}
 use lib.Seq.{get_or-set_same, get_or-set_other, set-get_or, ext_get_or}
-use Rattle.def.specs.declared.Answer.TheVariants.{Done, Refused}
 use Rattle.laws.specs.Call.{unless}
 use Rattle.laws.specs.Orders.{run, each}
 use Rattle.laws.proofs.Orders.{each_mem}
@@ -32,10 +32,10 @@ use Rattle.mend.proofs.Lists.{change_none, change_one}
 
 -- ---- bytes that have the mended marks are walked to the end
 
-turned : (f : ℕ → Walk) → ((i : ℕ) → i < 4 → (f i).answer ≡ Done) → (in_turn f 4).answer ≡ Done
+turned : (f : ℕ → Walk) → ((i : ℕ) → i < 4 → (f i).answer ≡ Ok tt) → (in_turn f 4).answer ≡ Ok tt
 turned f h = all_done_lem f 4 h
 
-answer_of_lem : {v u : Walk} → v ≡ u → u.answer ≡ Done → v.answer ≡ Done
+answer_of_lem : {v u : Walk} → v ≡ u → u.answer ≡ Ok tt → v.answer ≡ Ok tt
 answer_of_lem e d = ap (λ (z : Walk). z.answer) e ∙ d
 
 module _ (s : List ℕ) (w h : ℕ) (n : List ℕ) where
@@ -45,16 +45,16 @@ module _ (s : List ℕ) (w h : ℕ) (n : List ℕ) where
   has_at : {l : List Mark} {m : Mark} (k x y : ℕ) → Has k x y → mend_marks s w h k x y ≡ l → Memᴰ m l → get_or n m.place 0 ≡ m.byte
   has_at {m = m} k x y g e i = g m (subst (Memᴰ m) (sym e) i)
 
-  pub walked : (k x y : ℕ) → Has k x y → (walk n w h k x y).answer ≡ Done
+  pub walked : (k x y : ℕ) → Has k x y → (walk n w h k x y).answer ≡ Ok tt
   walked zero x y g =
-      by_start w h x y ((walk n w h zero x y).answer ≡ Done) (λ p. answer_of_lem (walk_x n w h 0 x y p) refl) (λ p q. answer_of_lem (walk_y n w h 0 x y p q) refl)
+      by_start w h x y ((walk n w h zero x y).answer ≡ Ok tt) (λ p. answer_of_lem (walk_x n w h 0 x y p) refl) (λ p q. answer_of_lem (walk_y n w h 0 x y p q) refl)
       (λ p q. answer_of_lem (walk_unit n w h x y p q ∙ leaf_in_lem w h 1 x y (omega arith) (omega arith)) refl)
   walked (suc k) x y g =
       let f = mend_byte s w h in
-      by_start w h x y ((walk n w h (suc k) x y).answer ≡ Done)
+      by_start w h x y ((walk n w h (suc k) x y).answer ≡ Ok tt)
       (λ p. answer_of_lem (walk_x n w h (suc k) x y p) refl)
       (λ p q. answer_of_lem (walk_y n w h (suc k) x y p q) refl)
-      (λ p q. mended s w h k x y ((walk n w h (suc k) x y).answer ≡ Done)
+      (λ p q. mended s w h k x y ((walk n w h (suc k) x y).answer ≡ Ok tt)
       (λ e.
       let l = marks_cut f w h k x y p q e in
       answer_of_lem (walk_cut n w h k x y p q (has_at (suc k) x y g l (Memᴰ.head refl)))
@@ -66,12 +66,12 @@ module _ (s : List ℕ) (w h : ℕ) (n : List ℕ) where
 
 -- ---- of a walk that is not refused every mark stands
 
-pub judge_all : (s : List ℕ) (l : List Mark) → judge s l ≡ Done → (m : Mark) → Memᴰ m l → get_or s m.place 0 ≡ m.byte
+pub judge_all : (s : List ℕ) (l : List Mark) → judge s l ≡ Ok tt → (m : Mark) → Memᴰ m l → get_or s m.place 0 ≡ m.byte
 unfolding judge
 judge_all s [] d m i = absurd (Memᴰ.not-nil i)
 judge_all s (n ∷ l) d m i = by (eqb (get_or s n.place 0) n.byte) refl d (λ e. judge_all s l e m) where
-  by : (t : Bool) → eqb (get_or s n.place 0) n.byte ≡ t → unless t (Refused (wrong (get_or s n.place 0))) (judge s l) ≡ Done
-      → (judge s l ≡ Done → Memᴰ m l → get_or s m.place 0 ≡ m.byte) → get_or s m.place 0 ≡ m.byte
+  by : (t : Bool) → eqb (get_or s n.place 0) n.byte ≡ t → unless t (Err (wrong (get_or s n.place 0))) (judge s l) ≡ Ok tt
+      → (judge s l ≡ Ok tt → Memᴰ m l → get_or s m.place 0 ≡ m.byte) → get_or s m.place 0 ≡ m.byte
   by true e d f = ⊎_elim (λ u. subst (λ (z : Mark). get_or s z.place 0 ≡ z.byte) (sym u) (eqb-true _ _ e)) (f d) (Memᴰ.cases_cons i)
   by false e d f = absurd (not_done _ d)
 

@@ -1,9 +1,8 @@
 -- What is proved of every map that is mended.
 -- Assumes nothing: these are definitions.
 use mathlib.Core.List.{List, [], Memᴰ}
-use Rattle.std.specs.Prelude.{◌≡◌, ℕ, ◌*◌, ◌+◌, ◌≤◌, length, get_or, set}
+use Rattle.std.specs.Prelude.{◌≡◌, ℕ, ◌*◌, ◌+◌, ◌≤◌, length, get_or, set, Ok}
 use Rattle.laws.specs.Orders.{run}
-use Rattle.def.specs.declared.Answer.TheVariants.{Done}
 use Rattle.split.specs.CheckCall as check-call
 use Rattle.split.specs.Picture.{roots, picture_walk}
 use Rattle.mend.specs.Changes.{Change, mend_map, all_changes}
@@ -26,9 +25,9 @@ pub record Real (s mended : List ℕ) (c : Change) : Type 0 where
 -- of the split bytes s of all roots of a picture whose sides are w and h units
 pub record Kept (s : List ℕ) (w h : ℕ) : Type 0 where
   -- the result is always accepted by the walk
-  pub accepted : (picture_walk (mend_map s w h) w h).answer ≡ Done
+  pub accepted : (picture_walk (mend_map s w h) w h).answer ≡ Ok tt
   -- an accepted map is unchanged, with an empty list
-  pub unchanged : (picture_walk s w h).answer ≡ Done → (mend_map s w h ≡ s) × (all_changes s w h ≡ [])
+  pub unchanged : (picture_walk s w h).answer ≡ Ok tt → (mend_map s w h ≡ s) × (all_changes s w h ≡ [])
   -- mending twice changes nothing and lists nothing the second time
   pub twice : (mend_map (mend_map s w h) w h ≡ mend_map s w h) × (all_changes (mend_map s w h) w h ≡ [])
   -- each change is listed: the mended map is the old one with the new values put in, and the old one is had back by the old values

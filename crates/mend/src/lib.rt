@@ -2,55 +2,26 @@
 // There is no Rust beside it.
 #![tactic(auto)]
 
-ghost use Rattle.std.specs.Prelude.{true, ◌≡◌, ◌+◌, ◌*◌, ◌/◌, ◌≤◌, ◌<◌, length};
+ghost use Rattle.std.specs.Prelude.{true, ◌≡◌, ◌+◌, ◌*◌, ◌/◌, ◌≤◌, ◌<◌, length, map};
 ghost use Rattle.def.specs.Picture.{size_ok, root_count};
 ghost use Rattle.laws.specs.Call.{Gives};
-ghost use Rattle.marks.specs.Stored.{Small, marks_in};
+ghost use Rattle.marks.specs.Stored.{Small, mark_from};
 ghost use Rattle.marks_rules.specs.Marks.{put_all};
 ghost use Rattle.mend.specs.Changes.{Listed, change_of, changes_in, root_changes, mend_root, all_changes, mend_map};
 ghost use Rattle.mend.specs.MendCall as MendCall;
 ghost use Rattle.mend.specs.MendCall.{Mapped};
 
 use def::{Refusal, size_ok};
-use marks::{Marked, list_marks, mark_byte, mark_place, root_count};
+use marks::{list_marks, mark_byte, mark_place, root_count};
 
-// How many bytes were changed.
-#[derive(Drop)]
-pub enum Mended {
-    Done(usize),
-    Refused(Refusal),
-}
-
-// Bytes, copied.
-fn copy(bytes: &[u8], out: &mut [u8])
-    requires { length out.old ≡ length bytes.now }
-    ensures { out.new ≡ bytes.now }
+// The bytes of listed marks, put where they stand among a root's.
+fn put_marks(out: &mut [u8], marks: &[u16])
+    requires { (length out.old ≡ 1024) × Small marks.now (length marks.now) }
+    ensures { out.new ≡ put_all (map mark_from marks.now) out.old }
 {
-    let mut i = 0;
-    while i < bytes.len() {
-        out[i] = bytes[i];
-        i += 1;
+    for mark in marks {
+        out[mark_place(*mark)] = mark_byte(*mark);
     }
-}
-
-// The bytes of the first n marks of a list, put where they stand among a root's.
-fn put_marks(out: &mut [u8], marks: &[u16], n: usize)
-    requires { (length out.old ≡ 1024) × (n ≤ length marks.now) × Small marks.now n }
-    ensures { out.new ≡ put_all (marks_in marks.now n) out.old }
-{
-    let mut j = 0;
-    while j < n {
-        let place = mark_place(marks[j]);
-        out[place] = mark_byte(marks[j]);
-        j += 1;
-    }
-}
-
-// A byte as a number of the list.
-fn wide(x: u8) -> u16
-    ensures { result ≡ x }
-{
-    x as u16
 }
 
 // A change goes to the list, if there is one: the root, the block's level and place, the byte that stood there and the one that it has now.
@@ -65,31 +36,20 @@ fn put_change(list: &mut [u16], n: usize, root: usize, place: usize, old: u8, ne
     list[at] = root as u16;
     list[at + 1] = (place / 256) as u16;
     list[at + 2] = (place % 256) as u16;
-    list[at + 3] = wide(old);
-    list[at + 4] = wide(new);
+    list[at + 3] = u16::from(old);
+    list[at + 4] = u16::from(new);
     n + 1
 }
 
-// The changes that the first n marks make to a root's bytes, listed after `count` that are.
-fn list_changes(
-    bytes: &[u8],
-    marks: &[u16],
-    n: usize,
-    root: usize,
-    list: &mut [u16],
-    count: usize,
-) -> usize
-    requires { (length bytes.now ≡ 1024) × (n ≤ length marks.now) × Small marks.now n × (root < 4096) × (5 * (count + n) ≤ length list.old) }
-    ensures { Listed (changes_in bytes.now root (marks_in marks.now n)) list.old count list.new result }
+// The changes that listed marks make to a root's bytes, listed after `count` that are.
+fn list_changes(bytes: &[u8], marks: &[u16], root: usize, list: &mut [u16], count: usize) -> usize
+    requires { (length bytes.now ≡ 1024) × Small marks.now (length marks.now) × (root < 4096) × (5 * (count + length marks.now) ≤ length list.old) }
+    ensures { Listed (changes_in bytes.now root (map mark_from marks.now)) list.old count list.new result }
 {
     let mut met = count;
-    let mut j = 0;
-    while j < n {
-        let place = mark_place(marks[j]);
-        let old = bytes[place];
-        let new = mark_byte(marks[j]);
-        met = put_change(list, met, root, place, old, new);
-        j += 1;
+    for mark in marks {
+        let place = mark_place(*mark);
+        met = put_change(list, met, root, place, bytes[place], mark_byte(*mark));
     }
     met
 }
@@ -110,15 +70,14 @@ fn mend_root(
     let start = 1024 * i;
     let end = start + 1024;
     let mut marks = [0u16; 85];
-    match list_marks(w, h, splits, i, &mut marks) {
-        // none of the call's tests fails here
-        Marked::Refused(r) => count,
-        Marked::Done(n) => {
-            copy(&splits[start..end], out);
-            put_marks(out, &marks, n);
-            list_changes(&splits[start..end], &marks, n, i, list, count)
-        }
-    }
+    // none of the call's tests fails here
+    let Ok(n) = list_marks(w, h, splits, i, &mut marks) else {
+        return count;
+    };
+    let bytes = &splits[start..end];
+    out.copy_from_slice(bytes);
+    put_marks(out, &marks[..n]);
+    list_changes(bytes, &marks[..n], i, list, count)
 }
 
 // All roots.
@@ -126,30 +85,33 @@ fn mend_roots(w: usize, h: usize, splits: &[u8], out: &mut [u8], list: &mut [u16
     requires { Mapped w h (length splits.now) (length out.old) (length list.old) }
     ensures { (out.new ≡ mend_map splits.now (w / 4) (h / 4)) × Listed (all_changes splits.now (w / 4) (h / 4)) list.old 0 list.new result }
 {
-    let n = root_count(w, h);
     let mut count = 0;
-    let mut i = 0;
-    while i < n {
+    for i in 0..root_count(w, h) {
         let start = 1024 * i;
         let end = start + 1024;
         count = mend_root(w, h, splits, i, &mut out[start..end], list, count);
-        i += 1;
     }
     count
 }
 
 // The split map of a picture of w by h, mended into a second buffer, with a list of the changes: five numbers each, in the order of the walk.
-pub fn mend(w: usize, h: usize, splits: &[u8], out: &mut [u8], list: &mut [u16]) -> Mended
+pub fn mend(
+    w: usize,
+    h: usize,
+    splits: &[u8],
+    out: &mut [u8],
+    list: &mut [u16],
+) -> Result<usize, Refusal>
     ensures { Gives MendCall.outcome
         (record { w = w; h = h; splits = splits.now; out = out.old; list = list.old })
         (record { reading = MendCall.reading_of result; out = out.new; list = list.new }) }
 {
     if !size_ok(w, h) {
-        return Mended::Refused(Refusal::Size);
+        return Err(Refusal::Size);
     }
     let n = root_count(w, h);
     if !((splits.len() == 1024 * n) & (out.len() == 1024 * n) & (list.len() == 425 * n)) {
-        return Mended::Refused(Refusal::Length);
+        return Err(Refusal::Length);
     }
-    Mended::Done(mend_roots(w, h, splits, out, list))
+    Ok(mend_roots(w, h, splits, out, list))
 }

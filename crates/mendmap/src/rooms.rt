@@ -1,33 +1,30 @@
 // Room for a map, its mended copy and the list of changes. The small room has a picture of 256 roots, 1024 by 1024, and fits the stack that every program
 // has. The large one has one of 4,096 roots, 4096 by 4096, and needs 12 megabytes of stack, which bin/program asks for. Room for the map has a byte more, so
 // that a file that is too long is seen.
-ghost use Rattle.std.specs.Prelude.{◌≤◌};
+ghost use Rattle.std.specs.Prelude.{◌≡◌, ◌+◌, ◌*◌, ◌<◌, ◌≤◌, length};
 
 use crate::list;
 use files::Source;
-use mend::Mended;
+use say::{Done, Stop};
 
-// ---- arrays: a call for each keeps the checker from looking into it
-
-fn small_bytes() -> [u8; 262145] {
-    [0u8; 262145]
+// A call keeps the checker from looking into the array.
+fn bytes<const N: usize>() -> [u8; N]
+    requires { N ≤ 8388608 }
+    ensures { length result ≡ N }
+{
+    [0u8; N]
 }
 
-fn small_list() -> [u16; 108800] {
-    [0u16; 108800]
-}
-
-fn large_bytes() -> [u8; 4194305] {
-    [0u8; 4194305]
-}
-
-fn large_list() -> [u16; 1740800] {
-    [0u16; 1740800]
+fn numbers<const N: usize>() -> [u16; N]
+    requires { N ≤ 8388608 }
+    ensures { length result ≡ N }
+{
+    [0u16; N]
 }
 
 // ---- a map, in such a room
 
-// Reads the map, mends it, writes it and lists the changes. Answers the exit status.
+// Reads the map, mends it, writes it and lists the changes.
 fn one_map(
     rt: &HostRuntime,
     file: &mut Source,
@@ -36,83 +33,74 @@ fn one_map(
     map: &mut [u8],
     out: &mut [u8],
     list: &mut [u16],
-) -> u8 {
+) -> Result<Done, Stop> {
     let n = files::read_full(&mut *file, &mut *map);
     if words::unreadable(rt, 3, file) {
-        return 2;
+        return Err(Stop::Failed);
     }
     match mend::mend(w, h, &map[..n], &mut *out, &mut *list) {
-        Mended::Refused(r) => map_file::refused_map(rt, 3, w, h, &map[..n], def::refusal_number(r)),
-        Mended::Done(count) => {
-            if !map_file::save(rt, 4, out) {
-                return 2;
-            }
-            let printed = list::print(rt, def::roots_along(w), list, count);
-            say::shown(rt, printed, if count == 0 { 0 } else { 3 })
+        Err(refusal) => Err(map_file::refused_map(rt, 3, w, h, &map[..n], refusal)),
+        Ok(count) => {
+            map_file::save(rt, 4, out)?;
+            listed(rt, def::roots_along(w), list, count)
         }
     }
 }
 
-fn in_small(rt: &HostRuntime, file: &mut Source, w: usize, h: usize, roots: usize) -> u8
-    requires { roots ≤ 256 }
-{
-    let mut map = small_bytes();
-    let mut out = small_bytes();
-    let mut list = small_list();
-    let bytes = 1024 * roots;
-    let more = bytes + 1;
-    let numbers = 425 * roots;
-    one_map(
-        rt,
-        file,
-        w,
-        h,
-        &mut map[..more],
-        &mut out[..bytes],
-        &mut list[..numbers],
-    )
+// Lists the first changes of a list.
+fn listed(rt: &HostRuntime, across: usize, list: &[u16], count: usize) -> Result<Done, Stop> {
+    let (changes, _) = list.as_chunks::<5>();
+    let n = count.min(changes.len());
+    say::told(rt, list::print(rt, across, &changes[..n]))?;
+    Ok(if count == 0 { Done::Plain } else { Done::Noted })
 }
 
-// The large arrays stay in a frame of their own: a function that took them into its own would need the room at each call.
+// The map of a picture of so many roots. The arrays stay in a frame of their own: a function that took the large ones into its own would need the room at
+// each call.
 #[inline(never)]
-fn in_large(rt: &HostRuntime, file: &mut Source, w: usize, h: usize, roots: usize) -> u8
-    requires { roots ≤ 4096 }
+fn in_room<const BYTES: usize, const NUMBERS: usize>(
+    rt: &HostRuntime,
+    file: &mut Source,
+    w: usize,
+    h: usize,
+    roots: usize,
+) -> Result<Done, Stop>
+    requires bytes { (1024 * roots < BYTES) × (BYTES ≤ 8388608) }
+    requires numbers { (425 * roots ≤ NUMBERS) × (NUMBERS ≤ 8388608) }
 {
-    let mut map = large_bytes();
-    let mut out = large_bytes();
-    let mut list = large_list();
-    let bytes = 1024 * roots;
-    let more = bytes + 1;
-    let numbers = 425 * roots;
+    let mut map = bytes::<BYTES>();
+    let mut out = bytes::<BYTES>();
+    let mut list = numbers::<NUMBERS>();
+    let size = 1024 * roots;
+    let more = size + 1;
+    let count = 425 * roots;
     one_map(
         rt,
         file,
         w,
         h,
         &mut map[..more],
-        &mut out[..bytes],
-        &mut list[..numbers],
+        &mut out[..size],
+        &mut list[..count],
     )
 }
 
-// The map of a picture of w by h. One that the small room does not hold is gone to by a call of itself.
-pub fn mended(rt: &HostRuntime, file: &mut Source, w: usize, h: usize, large: bool) -> u8 {
+// The map of a picture of w by h.
+pub fn mended(rt: &HostRuntime, file: &mut Source, w: usize, h: usize) -> Result<Done, Stop> {
     let roots = marks::root_count(w, h);
     if roots <= 256 {
-        return in_small(rt, file, w, h, roots);
+        return in_room::<262145, 108800>(rt, file, w, h, roots);
     }
-    if large {
-        if roots <= 4096 {
-            return in_large(rt, file, w, h, roots);
-        }
-        return 2;
-    }
-    let status = mended(rt, file, w, h, true);
-    if status == 2 {
+    let came = if roots <= 4096 {
+        in_room::<4194305, 1740800>(rt, file, w, h, roots)
+    } else {
+        Err(Stop::Failed)
+    };
+    if came == Err(Stop::Failed) {
         say::line(
             rt,
             b"(the map is large: it is mended in a room of 12 megabytes)",
         );
     }
-    status
+    came
 }

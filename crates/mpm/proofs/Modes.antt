@@ -2,6 +2,7 @@
 --     accepted    the unit, the two modes that are consulted, and the table
 --     left_ok, up_ok, mode_small, index_small    modes that pass
 -- Assumes nothing.
+use Rattle.std.specs.Prelude.{Ok}
 use Prim.Native.Nat.{ℕ, ◌/◌, ◌≤◌, ◌<◌}
 use mathlib.Core.Path.{◌≡◌, refl, sym, ◌∙◌}
 use mathlib.Core.Bool.{Bool, true, false, ◌||◌}
@@ -13,7 +14,6 @@ use lib.ListN.{length}
 use Rattle.laws.proofs.Calls.{all_at}
 use Rattle.def.specs.Picture.{size_ok}
 use Rattle.def.specs.declared.Refusal.TheVariants.{Size, Length, Block, Mode}
-use Rattle.def.specs.declared.Answer.TheVariants.{Done}
 use Rattle.def.proofs.Ladders.{passes}
 use Rattle.def.proofs.Blocks.{placed}
 use Rattle.mpm.specs.Ranks.{Input, UnitOf, left_mode, up_mode, mode_ok, modes_ok, mode_index, length_tests, lengths_ok, check}
@@ -34,7 +34,7 @@ pub record Accepted (i : Input) : Type 0 where
   pub modes_ok_lem : modes_ok i.w i.words i.modes i.x i.y ≡ true
   pub table_long : length i.table ≡ 180
 
-pub accepted : (i : Input) → check i ≡ Done → Accepted i
+pub accepted : (i : Input) → check i ≡ Ok tt → Accepted i
 unfolding check
 accepted i e =
     let p = passes (size_ok i.w i.h) Size _ e in

@@ -2,6 +2,7 @@
 --     no_part, a_part    the two kinds of part as the code makes them
 --     empty_where_refused, five_where_done    the part is empty where the number is not 0, and has five ranks where it is 0
 -- Assumes nothing.
+use Rattle.std.specs.Prelude.{Ok, Err}
 use Prim.Native.Nat.{ℕ, ◌+◌, ◌-◌, ◌≤◌}
 use mathlib.Core.Path.{◌≡◌, refl}
 use mathlib.Core.List.{List, []}
@@ -9,8 +10,7 @@ use native.Mathlib.Nat.{add-zero, add_comm, add-sub_cancel_left}
 use native.Mathlib.Omega.{arith}
 use lib.ListN.{length, take, drop, length-take, length-drop}
 use Rattle.def.specs.Answers.{answer_number, after_checks}
-use Rattle.def.specs.declared.Answer.{Answer}
-use Rattle.def.specs.declared.Answer.TheVariants.{Done, Refused}
+use Rattle.def.specs.Answers.{Answer}
 use Rattle.def.proofs.Answers.{number_some}
 use Rattle.mpm.specs.Ranks.{Input, left_mode, up_mode, row_start, check, number_outcome, PartInput, part_of, part_outcome}
 use Rattle.mpm.proofs.Modes.{Accepted, accepted, left_ok, up_ok, index_small}
@@ -40,12 +40,12 @@ module _ (i : PartInput) where
   row = let j = i.input in row_start j.w j.words j.modes j.x j.y
 
   empty_after : (a : Answer) → (answer_number a ≡ 0 → ⊥) → (after_checks (λ r. part_of i 0 0) (part_of i row 5) a).bytes ≡ []
-  empty_after Done n = absurd (n refl)
-  empty_after (Refused r) n = refl
+  empty_after (Ok _) n = absurd (n refl)
+  empty_after (Err r) n = refl
 
   five_after : (a : Answer) → check i.input ≡ a → answer_number a ≡ 0 → length (after_checks (λ r. part_of i 0 0) (part_of i row 5) a).bytes ≡ 5
-  five_after Done e n = take_long row 5 i.input.table (row_within i.input (accepted i.input e))
-  five_after (Refused r) e n = absurd (omega (arith, number_some r))
+  five_after (Ok _) e n = take_long row 5 i.input.table (row_within i.input (accepted i.input e))
+  five_after (Err r) e n = absurd (omega (arith, number_some r))
 
   pub empty_where_refused : ((number_outcome i.input).number ≡ 0 → ⊥) → (part_outcome i).bytes ≡ []
   unfolding number_outcome part_outcome

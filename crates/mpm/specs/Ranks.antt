@@ -1,6 +1,6 @@
 -- Mode ranks: the five bytes of the rank table that the modes of the left and the upper unit choose.
 -- Assumes nothing: these are definitions.
-use Rattle.std.specs.Prelude.{ℕ, ◌+◌, ◌-◌, ◌*◌, ◌/◌, ◌<◌, ◌≡◌, Bool, ◌&&◌, ◌||◌, List, [], ◌∷◌, leb, ltb, eqb, length, take, drop}
+use Rattle.std.specs.Prelude.{ℕ, ◌+◌, ◌-◌, ◌*◌, ◌/◌, ◌<◌, ◌≡◌, Bool, ◌&&◌, ◌||◌, List, [], ◌∷◌, leb, ltb, eqb, length, take, drop, Ok, Err}
 use Rattle.laws.specs.Call.{unless, all_of}
 use Rattle.laws.specs.Index.{pick}
 use Rattle.def.specs.Answers.{answer_number, after_checks}
@@ -8,8 +8,7 @@ use Rattle.def.specs.Blocks.{unit_ok}
 use Rattle.def.specs.Picture.{size_ok, unit_count}
 use Rattle.def.specs.Word.{intra_of, done_of}
 use Rattle.def.specs.declared.Refusal.TheVariants.{Size, Length, Block, Mode}
-use Rattle.def.specs.declared.Answer.{Answer}
-use Rattle.def.specs.declared.Answer.TheVariants.{Done, Refused}
+use Rattle.def.specs.Answers.{Answer}
 use Rattle.def.specs.Units.{unit_at}
 
 pub record Input : Type 0 where
@@ -73,11 +72,11 @@ modes_ok w words modes x y = all_of (mode_ok (left_mode w words modes x y) ∷ m
 
 unfoldable pub check : Input → Answer
 check i =
-    unless (size_ok i.w i.h) (Refused Size)
-    (unless (lengths_ok i.w i.h (length i.words) (length i.modes) (length i.table)) (Refused Length)
-    (unless (unit_ok i.w i.h i.x i.y) (Refused Block)
-    (unless (modes_ok i.w i.words i.modes i.x i.y) (Refused Mode)
-    Done)))
+    unless (size_ok i.w i.h) (Err Size)
+    (unless (lengths_ok i.w i.h (length i.words) (length i.modes) (length i.table)) (Err Length)
+    (unless (unit_ok i.w i.h i.x i.y) (Err Block)
+    (unless (modes_ok i.w i.words i.modes i.x i.y) (Err Mode)
+    (Ok tt))))
 
 pub record Outcome : Type 0 where
   pub number : ℕ

@@ -4,12 +4,12 @@
 ghost use Rattle.std.specs.Prelude.{◌≡◌, ◌≤◌, true};
 ghost use Rattle.laws.specs.Call.{Gives};
 ghost use Rattle.def.specs.Answers.{answer_number};
-ghost use Rattle.def.specs.declared.Answer.{Answer};
 ghost use Rattle.mpm.specs.Ranks.{UnitOf, mode_at, left_mode, up_mode, mode_ok, modes_ok, mode_index, row_start, lengths_ok, check, number_outcome, part_outcome};
 
-use def::{Answer, Refusal, Scu};
+use def::{Refusal, Scu};
 
 // The mode of the unit at column u, row v where it is intra and done, and else 255, none.
+// kept: a byte, as lomsakeun_get_mpm is lent the map in bytes, and one of 5 to 254 is to be refused (`modes_ok`).
 fn mode_at(w: usize, h: usize, words: &[u32], modes: &[u8], u: usize, v: usize) -> u8
     requires { UnitOf w h words.now modes.now u v }
     ensures { result ≡ mode_at w words.now modes.now u v }
@@ -76,22 +76,30 @@ fn modes_ok(w: usize, h: usize, words: &[u32], modes: &[u8], x: Scu, y: Scu) -> 
     mode_ok(left_mode(w, h, words, modes, x, y)) & mode_ok(up_mode(w, h, words, modes, x, y))
 }
 
-fn checked(w: usize, h: usize, words: &[u32], modes: &[u8], table: &[u8], x: Scu, y: Scu) -> Answer
+fn checked(
+    w: usize,
+    h: usize,
+    words: &[u32],
+    modes: &[u8],
+    table: &[u8],
+    x: Scu,
+    y: Scu,
+) -> Result<(), Refusal>
     ensures { result ≡ check (record { w = w; h = h; words = words.now; modes = modes.now; table = table.now; x = x.0; y = y.0 }) }
 {
     if !def::size_ok(w, h) {
-        return Answer::Refused(Refusal::Size);
+        return Err(Refusal::Size);
     }
     if !lengths_ok(w, h, words.len(), modes.len(), table.len()) {
-        return Answer::Refused(Refusal::Length);
+        return Err(Refusal::Length);
     }
     if !def::unit_ok(w, h, x, y) {
-        return Answer::Refused(Refusal::Block);
+        return Err(Refusal::Block);
     }
     if !modes_ok(w, h, words, modes, x, y) {
-        return Answer::Refused(Refusal::Mode);
+        return Err(Refusal::Mode);
     }
-    Answer::Done
+    Ok(())
 }
 
 // Where the five ranks start, past the checks.
@@ -118,7 +126,7 @@ pub fn get_mpm<'a>(
         (record { input = record { w = w; h = h; words = words.now; modes = modes.now; table = table.now; x = x.0; y = y.0 }; memory = table.entry.ref_ptr.0; start = table.entry.ref_ptr.1 })
         (record { memory = result.ref_ptr.0; start = result.ref_ptr.1; bytes = result.now }) }
 {
-    let Answer::Done = checked(w, h, words, modes, table, x, y) else {
+    let Ok(()) = checked(w, h, words, modes, table, x, y) else {
         return &table[..0];
     };
     let at = row_start(w, h, words, modes, x, y);
@@ -134,7 +142,7 @@ pub fn get_mpm_number(
     table: &[u8],
     x: Scu,
     y: Scu,
-) -> Answer
+) -> Result<(), Refusal>
     ensures { Gives number_outcome
         (record { w = w; h = h; words = words.now; modes = modes.now; table = table.now; x = x.0; y = y.0 })
         (record { number = answer_number result }) }

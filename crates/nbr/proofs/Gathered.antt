@@ -5,6 +5,7 @@
 --     gathered_long, gathered_samples    what callers may cite of an answer of 0: the run's length, and that its elements are samples
 --     refused_kept    any other answer leaves the run
 -- Assumes nothing.
+use Rattle.std.specs.Prelude.{Ok, Err}
 use Prim.Native.Nat.{ℕ, ◌≤◌, ◌<◌}
 use mathlib.Core.Path.{◌≡◌, refl, sym, ◌∙◌}
 use mathlib.Core.Bool.{Bool, true, false}
@@ -19,8 +20,7 @@ use Rattle.def.specs.Blocks.{block_ok}
 use Rattle.def.specs.Picture.{size_ok}
 use Rattle.def.specs.declared.Refusal.{Refusal}
 use Rattle.def.specs.declared.Refusal.TheVariants.{Size, Length, Sample, Block}
-use Rattle.def.specs.declared.Answer.{Answer}
-use Rattle.def.specs.declared.Answer.TheVariants.{Done, Refused}
+use Rattle.def.specs.Answers.{Answer}
 use Rattle.def.proofs.Answers.{number_some}
 use Rattle.def.proofs.Ladders.{passes}
 use Rattle.nbr.specs.Gather.{Around, Input, Outcome, run_length, run_of, lengths_ok, samples_ok, samples_check, check_of, check, refused, done, outcome}
@@ -37,7 +37,7 @@ pub record Formed (i : Around) (run : ℕ) : Type 0 where
   pub lent : Lent i.component i.w i.h i.plane i.words
   pub run_whole : run ≡ run_length i.component i.side
 
-pub formed : (i : Around) (run : ℕ) → form i run ≡ Done → Formed i run
+pub formed : (i : Around) (run : ℕ) → form i run ≡ Ok tt → Formed i run
 unfolding form_of
 formed i run e =
     let p = passes _ Size _ e in
@@ -52,15 +52,15 @@ formed i run e =
 
 -- ---- the rule's checks are those of the form and then that of the samples
 
-in_turn_lem : (a b c d : Bool) (k : Answer) → unless a (Refused Size) (unless b (Refused Length) (unless c (Refused Block) (unless d (Refused Length) k))) ≡ after_checks Refused k
-    (unless a (Refused Size) (unless b (Refused Length) (unless c (Refused Block) (unless d (Refused Length) Done))))
+in_turn_lem : (a b c d : Bool) (k : Answer) → unless a (Err Size) (unless b (Err Length) (unless c (Err Block) (unless d (Err Length) k))) ≡ after_checks Err k
+    (unless a (Err Size) (unless b (Err Length) (unless c (Err Block) (unless d (Err Length) (Ok tt)))))
 in_turn_lem false b c d k = refl
 in_turn_lem true false c d k = refl
 in_turn_lem true true false d k = refl
 in_turn_lem true true true false k = refl
 in_turn_lem true true true true k = refl
 
-check_is : (i : Around) (run : ℕ) → check_of i run ≡ after_checks Refused (samples_check i) (form i run)
+check_is : (i : Around) (run : ℕ) → check_of i run ≡ after_checks Err (samples_check i) (form i run)
 unfolding check_of form_of
 check_is i run =
     in_turn_lem (size_ok i.w i.h) (lengths_ok i.component i.w i.h (length i.plane) (length i.words)) (block_ok i.w i.h i.x i.y i.side)
@@ -71,11 +71,11 @@ module _ (i : Input) where
   form_of_lem = form i.around (length i.run)
 
   -- a is what the code's checks of the form answered
-  pub form_refused : (a : Answer) (r : Refusal) → a ≡ form_of_lem → a ≡ Refused r → refused i r ≡ outcome i
+  pub form_refused : (a : Answer) (r : Refusal) → a ≡ form_of_lem → a ≡ Err r → refused i r ≡ outcome i
   unfolding outcome
   form_refused a r e q = rw (check_is i.around (length i.run), sym e ∙ q)
 
-  pub form_passed : (a : Answer) → a ≡ form_of_lem → a ≡ Done → gathered i ≡ outcome i
+  pub form_passed : (a : Answer) → a ≡ form_of_lem → a ≡ Ok tt → gathered i ≡ outcome i
   unfolding outcome gathered
   form_passed a e q = rw (check_is i.around (length i.run), sym e ∙ q)
 
@@ -90,12 +90,12 @@ module _ (i : Input) where
 
 -- ---- the promises
 
-past_form : (a k : Answer) → after_checks Refused k a ≡ Done → k ≡ Done
-past_form Done k e = e
-past_form (Refused r) k e = cc
+past_form : (a k : Answer) → after_checks Err k a ≡ Ok tt → k ≡ Ok tt
+past_form (Ok _) k e = e
+past_form (Err r) k e = cc
 
-samples_hold : (i : Around) (run : ℕ) → check_of i run ≡ Done → samples_ok i ≡ true
-samples_hold i run e = (passes _ Sample Done (past_form (form i run) _ (sym (check_is i run) ∙ e))).holds
+samples_hold : (i : Around) (run : ℕ) → check_of i run ≡ Ok tt → samples_ok i ≡ true
+samples_hold i run e = (passes _ Sample (Ok tt) (past_form (form i run) _ (sym (check_is i run) ∙ e))).holds
 
 module _ (i : Input) where
   abbrev after : Answer → List ℕ
@@ -105,20 +105,20 @@ module _ (i : Input) where
   long = run_length i.around.component i.around.side
 
   long_after : (a : Answer) → answer_number a ≡ 0 → length (after a) ≡ long
-  long_after Done n = run_long i.around
-  long_after (Refused r) n = absurd (omega (arith, number_some r))
+  long_after (Ok _) n = run_long i.around
+  long_after (Err r) n = absurd (omega (arith, number_some r))
 
   samples_after : (a : Answer) → check i ≡ a → answer_number a ≡ 0 → (k : ℕ) → k < long → get_or (after a) k 0 ≤ 1023
-  samples_after Done e n = run_samples i.around (samples_hold i.around (length i.run) e)
-  samples_after (Refused r) e n = absurd (omega (arith, number_some r))
+  samples_after (Ok _) e n = run_samples i.around (samples_hold i.around (length i.run) e)
+  samples_after (Err r) e n = absurd (omega (arith, number_some r))
 
   number_after_lem : (a : Answer) → (after_checks (refused i) (done i) a).number ≡ answer_number a
-  number_after_lem Done = refl
-  number_after_lem (Refused r) = refl
+  number_after_lem (Ok _) = refl
+  number_after_lem (Err r) = refl
 
   kept_after : (a : Answer) → (answer_number a ≡ 0 → ⊥) → after a ≡ i.run
-  kept_after Done n = absurd (n refl)
-  kept_after (Refused r) n = refl
+  kept_after (Ok _) n = absurd (n refl)
+  kept_after (Err r) n = refl
 
   -- an answer of 0: the run has its length, and every element is a sample
   pub gathered_long : (outcome i).number ≡ 0 → length (outcome i).run ≡ long

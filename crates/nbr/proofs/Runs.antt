@@ -23,7 +23,7 @@ use Rattle.samples.specs.Samples.{sample_ok}
 use Rattle.nbr.specs.Gather.{Around, unit_side, side_of, run_at, run_of, run_length, samples_ok, length_tests, lengths_ok}
 use Rattle.nbr.specs.declared.Arm.{Arm}
 use Rattle.nbr.specs.Arms.{arm_at, Within, left_arm, corner_arm, up_arm, BlockOf, Lent}
-use Rattle.nbr.proofs.Sides.{scaled_le, unit_sided}
+use Rattle.nbr.proofs.Sides.{unit_sided}
 use Rattle.nbr.proofs.Joins.{Joined, join_part}
 use Rattle.nbr.proofs.Around.{Beside, beside, left_is, corner_is, up_is, left_within, corner_within, up_within}
 

@@ -1,6 +1,6 @@
 -- Gathering: the run of samples around a block, left downwards, the corner, up rightwards, in one component.
 -- Assumes nothing: these are definitions.
-use Rattle.std.specs.Prelude.{ℕ, ◌+◌, ◌-◌, ◌*◌, ◌/◌, Bool, not, ◌&&◌, ◌||◌, List, [], ◌∷◌, leb, ltb, eqb, length, get_or}
+use Rattle.std.specs.Prelude.{ℕ, ◌+◌, ◌-◌, ◌*◌, ◌/◌, Bool, not, ◌&&◌, ◌||◌, List, [], ◌∷◌, leb, ltb, eqb, length, get_or, Ok, Err}
 use Rattle.laws.specs.Call.{unless, all_of}
 use Rattle.laws.specs.Index.{pick, tabulate}
 use Rattle.laws.specs.Scan.{all_below}
@@ -14,8 +14,7 @@ use Rattle.def.specs.Word.{intra_of, done_of}
 use Rattle.def.specs.declared.Component.{Component}
 use Rattle.def.specs.declared.Refusal.{Refusal}
 use Rattle.def.specs.declared.Refusal.TheVariants.{Size, Length, Sample, Block}
-use Rattle.def.specs.declared.Answer.{Answer}
-use Rattle.def.specs.declared.Answer.TheVariants.{Done, Refused}
+use Rattle.def.specs.Answers.{Answer}
 use Rattle.def.specs.Units.{unit_at}
 
 -- a block with the plane and the words that are lent; x, y and side are its own in luma, for chroma too
@@ -95,14 +94,14 @@ lengths_ok c w h plane words = all_of (length_tests c w h plane words)
 -- the size, the block, and the lengths of the plane, the words and the run; then what is given
 abbrev pub form_then : Component → (w h x y side plane words run : ℕ) → Answer → Answer
 form_then c w h x y side plane words run last =
-    unless (size_ok w h) (Refused Size)
-    (unless (lengths_ok c w h plane words) (Refused Length)
-    (unless (block_ok w h x y side) (Refused Block)
-    (unless (eqb run (run_length c side)) (Refused Length)
+    unless (size_ok w h) (Err Size)
+    (unless (lengths_ok c w h plane words) (Err Length)
+    (unless (block_ok w h x y side) (Err Block)
+    (unless (eqb run (run_length c side)) (Err Length)
     last)))
 
 abbrev pub samples_check : Around → Answer
-samples_check i = unless (samples_ok i) (Refused Sample) Done
+samples_check i = unless (samples_ok i) (Err Sample) (Ok tt)
 
 unfoldable pub check_of : Around → ℕ → Answer
 check_of i run = form_then i.component i.w i.h i.x i.y i.side (length i.plane) (length i.words) run (samples_check i)

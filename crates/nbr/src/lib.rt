@@ -11,7 +11,7 @@ ghost use Rattle.nbr.specs.Gather.{run_length, run_of, samples_ok, lengths_ok, o
 ghost use Rattle.nbr.specs.Checks.{form_of, gathered};
 ghost use Rattle.nbr.specs.Arms.{present_in, arm_at, Within, no_arm, left_of, corner_of, up_of, Stands, LentTo, around_of, Passing, Near, AllPassing, Reads, BorderOf, border_in};
 
-use def::{Answer, Component, Pel, Refusal};
+use def::{Component, Pel, Refusal};
 
 // A side of the run: samples `step` apart in the plane from `from`; the words of their units `next` apart from `word`.
 // The first `there` units lie in the picture.
@@ -42,11 +42,7 @@ fn put_missing(run: &mut [u16], to: usize, n: usize)
     requires { to + n ≤ length run.old }
     ensures { run.new ≡ with_row 0 to n (λ (j : ℕ). 512) run.old }
 {
-    let mut j = 0;
-    while j < n {
-        run[to + j] = 512;
-        j += 1;
-    }
+    run[to..to + n].fill(512);
 }
 
 // n samples of the plane, `step` apart from `from`, into run from `to`.
@@ -54,10 +50,8 @@ fn put_samples(run: &mut [u16], to: usize, plane: &[u16], from: usize, step: usi
     requires { (to + n ≤ length run.old) × ((j : ℕ) → j < n → from + j * step < length plane.now) }
     ensures { run.new ≡ with_row 0 to n (λ (j : ℕ). get_or plane.now (from + j * step) 0) run.old }
 {
-    let mut j = 0;
-    while j < n {
+    for j in 0..n {
         run[to + j] = plane[from + j * step];
-        j += 1;
     }
 }
 
@@ -67,10 +61,8 @@ fn join_samples(plane: &[u16], from: usize, step: usize, n: usize) -> u16
     ensures { sample_ok result ≡ all_below (λ (j : ℕ). sample_ok (get_or plane.now (from + j * step) 0)) n }
 {
     let mut all: u16 = 0;
-    let mut j = 0;
-    while j < n {
-        all = all | plane[from + j * step];
-        j += 1;
+    for j in 0..n {
+        all |= plane[from + j * step];
     }
     all
 }
@@ -123,10 +115,8 @@ fn put_units(
     requires { Within arm n plane.now words.now × (to + units * n ≤ length run.old) }
     ensures { run.new ≡ with_row 0 to (units * n) (arm_at arm n constrained plane.now words.now) run.old }
 {
-    let mut i = 0;
-    while i < units {
-        put_unit(plane, words, arm, i, n, constrained, &mut *run, to + i * n);
-        i += 1;
+    for i in 0..units {
+        put_unit(plane, words, arm, i, n, constrained, run, to + i * n);
     }
 }
 
@@ -164,10 +154,8 @@ fn join_units(
     ensures { sample_ok result ≡ all_below (λ (k : ℕ). sample_ok (arm_at arm n constrained plane.now words.now k)) (units * n) }
 {
     let mut all: u16 = 0;
-    let mut i = 0;
-    while i < units {
-        all = all | join_unit(plane, words, arm, i, n, constrained);
-        i += 1;
+    for i in 0..units {
+        all |= join_unit(plane, words, arm, i, n, constrained);
     }
     all
 }
@@ -445,7 +433,13 @@ fn put_run(
 }
 
 // The run, past the checks of its form.
-fn gather(plane: &[u16], words: &[u32], block: Block, constrained: bool, run: &mut [u16]) -> Answer
+fn gather(
+    plane: &[u16],
+    words: &[u32],
+    block: Block,
+    constrained: bool,
+    run: &mut [u16],
+) -> Result<(), Refusal>
     requires { Stands block × LentTo block plane.now words.now × (length run.old ≡ run_length block.component block.side) }
     ensures { Gives gathered
         (record { around = around_of block plane.now words.now constrained; run = run.old })
@@ -453,30 +447,30 @@ fn gather(plane: &[u16], words: &[u32], block: Block, constrained: bool, run: &m
 {
     let border = border_of(block);
     if !samples_pass(plane, words, block, border, constrained) {
-        return Answer::Refused(Refusal::Sample);
+        return Err(Refusal::Sample);
     }
     put_run(plane, words, block, border, constrained, run);
-    Answer::Done
+    Ok(())
 }
 
 // The checks of the form, by the lengths of the plane, the words and the run.
-fn checked(block: Block, plane: usize, words: usize, run: usize) -> Answer
+fn checked(block: Block, plane: usize, words: usize, run: usize) -> Result<(), Refusal>
     ensures { result ≡ form_of block.component block.w block.h block.x.0 block.y.0 block.side plane words run }
 {
     if !def::size_ok(block.w, block.h) {
-        return Answer::Refused(Refusal::Size);
+        return Err(Refusal::Size);
     }
     if !lengths_ok(block, plane, words) {
-        return Answer::Refused(Refusal::Length);
+        return Err(Refusal::Length);
     }
     if !def::block_ok(block.w, block.h, block.x, block.y, block.side) {
-        return Answer::Refused(Refusal::Block);
+        return Err(Refusal::Block);
     }
     let component = block.component;
     if run != 4 * def::in_component(component, block.side) + 1 {
-        return Answer::Refused(Refusal::Length);
+        return Err(Refusal::Length);
     }
-    Answer::Done
+    Ok(())
 }
 
 // The samples around the block of `side` at (x, y) in luma, those of one component: 4 times its side there and 1.
@@ -491,7 +485,7 @@ pub fn get_nbr(
     side: usize,
     constrained: bool,
     run: &mut [u16],
-) -> Answer
+) -> Result<(), Refusal>
     ensures { Gives outcome
         (record { around = record { component = component; w = w; h = h; plane = plane.now; words = words.now; x = x.0; y = y.0; side = side; constrained = constrained }; run = run.old })
         (record { number = answer_number result; run = run.new }) }
@@ -504,8 +498,6 @@ pub fn get_nbr(
         y,
         side,
     };
-    if let Answer::Refused(r) = checked(block, plane.len(), words.len(), run.len()) {
-        return Answer::Refused(r);
-    }
+    checked(block, plane.len(), words.len(), run.len())?;
     gather(plane, words, block, constrained, run)
 }

@@ -1,5 +1,6 @@
 -- The outcome of `put_map`, by what its checks find.
 -- Assumes nothing.
+use Rattle.std.specs.Prelude.{Ok, Err}
 use mathlib.Core.Bool.{Bool, true, false}
 use mathlib.Core.List.{List}
 use mathlib.Core.Path.{◌≡◌, sym, ap, ap₂, ◌∙◌}
@@ -8,7 +9,6 @@ use borrow.Author.Tests.{eq-eqb, le-leb, lt-leb}
 use lib.ListN.{length}
 use Rattle.def.specs.Answers.{after_checks}
 use Rattle.def.specs.Refusals.{number_of}
-use Rattle.def.specs.declared.Answer.TheVariants.{Done, Refused}
 use Rattle.def.specs.declared.Refusal.{Refusal}
 use Rattle.def.specs.declared.Refusal.TheVariants.{Bits}
 use Rattle.laws.specs.Call.{unless}
@@ -18,27 +18,27 @@ use Rattle.split.specs.Picture.{picture_walk}
 use Rattle.pack_rules.specs.Taken.{Mapped, Accepted}
 
 module _ (i : put-call.Input) where
-  pub put_refused : (r : Refusal) → Refused r ≡ put-call.check i → record { number = number_of r; at = i.at; buf = i.buf } ≡ put-call.outcome i
+  pub put_refused : (r : Refusal) → Err r ≡ put-call.check i → record { number = number_of r; at = i.at; buf = i.buf } ≡ put-call.outcome i
   unfolding put-call.outcome
   put_refused r e = rw (sym e)
 
   module _ (z : Mapped i.w i.h (length i.splits)) where
     put_checked : put-call.check i
-        ≡ after_checks Refused (unless (room_ok (length i.buf) i.at (length (put-call.digits i))) (Refused Bits) Done) (picture_walk i.splits (i.w / 4) (i.h / 4)).answer
+        ≡ after_checks Err (unless (room_ok (length i.buf) i.at (length (put-call.digits i))) (Err Bits) (Ok tt)) (picture_walk i.splits (i.w / 4) (i.h / 4)).answer
     unfolding put-call.check
     put_checked = rw (z.size, eq-eqb _ _ z.bytes)
 
     -- the walk is refused
-    pub put_stopped : (r : Refusal) → (picture_walk i.splits (i.w / 4) (i.h / 4)).answer ≡ Refused r → record { number = number_of r; at = i.at; buf = i.buf } ≡ put-call.outcome i
+    pub put_stopped : (r : Refusal) → (picture_walk i.splits (i.w / 4) (i.h / 4)).answer ≡ Err r → record { number = number_of r; at = i.at; buf = i.buf } ≡ put-call.outcome i
     put_stopped r e =
         put_refused r
-        (sym (put_checked ∙ ap (after_checks Refused (unless (room_ok (length i.buf) i.at (length (put-call.digits i))) (Refused Bits) Done)) e))
+        (sym (put_checked ∙ ap (after_checks Err (unless (room_ok (length i.buf) i.at (length (put-call.digits i))) (Err Bits) (Ok tt))) e))
 
   module _ {n : ℕ} (a : Accepted i.w i.h i.splits n) where
-    checked : (t : Bool) → room_ok (length i.buf) i.at n ≡ t → put-call.check i ≡ unless t (Refused Bits) Done
+    checked : (t : Bool) → room_ok (length i.buf) i.at n ≡ t → put-call.check i ≡ unless t (Err Bits) (Ok tt)
     checked t e =
-        put_checked a.mapped ∙ ap (after_checks Refused (unless (room_ok (length i.buf) i.at (length (put-call.digits i))) (Refused Bits) Done)) a.done
-        ∙ ap (λ (b : Bool). unless b (Refused Bits) Done) (ap (room_ok (length i.buf) i.at) (sym a.count) ∙ e)
+        put_checked a.mapped ∙ ap (after_checks Err (unless (room_ok (length i.buf) i.at (length (put-call.digits i))) (Err Bits) (Ok tt))) a.done
+        ∙ ap (λ (b : Bool). unless b (Err Bits) (Ok tt)) (ap (room_ok (length i.buf) i.at) (sym a.count) ∙ e)
 
     -- the room is less than the map's own bytes
     pub put_short : bits_in (length i.buf) < end_of i.at n → record { number = 16; at = i.at; buf = i.buf } ≡ put-call.outcome i

@@ -4,10 +4,11 @@
 --     put_next    the digits of the next root, after those of the roots before it
 --     filled    zeros after the last digit
 -- Assumes nothing.
+use Rattle.std.specs.Prelude.{Ok, Err, Result}
 use mathlib.Core.Bool.{true}
-use mathlib.Core.List.{List, [], ◌∷◌, ◌++◌, map}
-use mathlib.Core.Path.{◌≡◌, refl, sym, ap, ap₂, ◌∙◌, subst}
-use Prim.Native.Nat.{ℕ, zero, suc, ◌+◌, ◌-◌, ◌*◌, ◌/◌, ◌%◌, ◌≤◌, ◌<◌}
+use mathlib.Core.List.{List, [], ◌∷◌, ◌++◌}
+use mathlib.Core.Path.{◌≡◌, sym, ap, ap₂, ◌∙◌, subst}
+use Prim.Native.Nat.{ℕ, ◌+◌, ◌-◌, ◌*◌, ◌/◌, ◌%◌, ◌≤◌, ◌<◌}
 use native.Mathlib.Numerals.{add-one}
 use native.Mathlib.Omega.{arith}
 use lib.ListN.{length, get_or, take, drop, length-append, length-map, get_or-append, get_or-eq_default}
@@ -16,15 +17,12 @@ use Rattle.bits.specs.Bits.{with_bits}
 use Rattle.bits.proofs.Laws.{with_same, with_join}
 use Rattle.def.proofs.Sizes.{sized}
 use Rattle.def.specs.Picture.{size_ok, root_count}
-use Rattle.def.specs.declared.Answer.{Answer}
-use Rattle.def.specs.declared.Answer.TheVariants.{Done, Refused}
+use Rattle.def.specs.Answers.{Answer}
 use Rattle.def.specs.declared.Refusal.{Refusal}
 use Rattle.marks.specs.ListCall as list-call
 use Rattle.marks.specs.Stored.{mark_from, marks_in}
-use Rattle.marks.specs.declared.Marked.{Marked}
-use Rattle.marks.specs.declared.Marked.TheVariants.{Done as Counted, Refused as NotCounted}
-use Rattle.marks.proofs.Callers.{roots_told, Told, Around, marks_more, marks_rest, bits_back}
-use Rattle.marks_rules.specs.Marks.{Mark, marks, byte_of, bytes, digits}
+use Rattle.marks.proofs.Callers.{roots_told, Told, marks_more, marks_rest, bits_back}
+use Rattle.marks_rules.specs.Marks.{Mark, bytes, digits}
 use Rattle.marks_rules.specs.Mended.{wrong, judge}
 use Rattle.marks_rules.specs.Pictures.{joined, root_digits, digits_of, picture_digits}
 use Rattle.marks_rules.proofs.Mended.{stop, judge_none, judge_same, judge_other, judge_append, judged, own_marks}
@@ -36,7 +34,7 @@ use Rattle.split.specs.Picture.{roots, root_bytes, root_x, root_y, root_walk}
 
 -- ---- the marks of a list, judged one after the other
 
-module _ (s list : List ℕ) (j : ℕ) (d : judge s (marks_in list j) ≡ Done) where
+module _ (s list : List ℕ) (j : ℕ) (d : judge s (marks_in list j) ≡ Ok tt) where
   abbrev m : Mark
   m = mark_from (get_or list j 0)
 
@@ -44,10 +42,10 @@ module _ (s list : List ℕ) (j : ℕ) (d : judge s (marks_in list j) ≡ Done) 
   unfolding stop
   judge_next l = judge_append s (marks_in list j) l ∙ ap (λ (a : Answer). stop a (judge s l)) d
 
-  pub judge_more : j < length list → get_or s m.place 0 ≡ m.byte → judge s (marks_in list (j + 1)) ≡ Done
+  pub judge_more : j < length list → get_or s m.place 0 ≡ m.byte → judge s (marks_in list (j + 1)) ≡ Ok tt
   judge_more l e = ap (judge s) (marks_more list j l) ∙ judge_next (m ∷ []) ∙ judge_same s m [] e ∙ judge_none s
 
-  pub judge_wrong : (n : ℕ) → j < n → n ≤ length list → (get_or s m.place 0 ≡ m.byte → ⊥) → judge s (marks_in list n) ≡ Refused (wrong (get_or s m.place 0))
+  pub judge_wrong : (n : ℕ) → j < n → n ≤ length list → (get_or s m.place 0 ≡ m.byte → ⊥) → judge s (marks_in list n) ≡ Err (wrong (get_or s m.place 0))
   judge_wrong n l k e = let a = marks_rest list j n l k in ap (judge s) a.split ∙ judge_next (m ∷ a.rest) ∙ judge_other s m a.rest e
 
 -- ---- root i of a map
@@ -64,16 +62,16 @@ module _ (w h : ℕ) (s : List ℕ) (i : ℕ) where
   root_judged = judged (root_bytes s i) (w / 4) (h / 4) 4 (root_x (w / 4) i) (root_y (w / 4) i)
 
   -- where the walk is not refused, the marks are those of the bytes
-  pub own_digits : (root_walk s (w / 4) (h / 4) i).answer ≡ Done → root_digits s (w / 4) (h / 4) i ≡ bytes own
+  pub own_digits : (root_walk s (w / 4) (h / 4) i).answer ≡ Ok tt → root_digits s (w / 4) (h / 4) i ≡ bytes own
   unfolding digits
   own_digits d = ap bytes (sym (own_marks (root_bytes s i) (w / 4) (h / 4) 4 (root_x (w / 4) i) (root_y (w / 4) i) d))
 
-  pub own_long : (root_walk s (w / 4) (h / 4) i).answer ≡ Done → length (root_digits s (w / 4) (h / 4) i) ≡ length own
+  pub own_long : (root_walk s (w / 4) (h / 4) i).answer ≡ Ok tt → length (root_digits s (w / 4) (h / 4) i) ≡ length own
   own_long d = ap length (own_digits d) ∙ length-map own (λ (m : Mark). m.byte)
 
   -- a list that has them
   module _ {list : List ℕ} (t : Told own list) where
-    pub own_bit : (root_walk s (w / 4) (h / 4) i).answer ≡ Done → (k : ℕ) → k < length own → get_or list k 0 % 2 ≡ digit_at (root_digits s (w / 4) (h / 4) i) k
+    pub own_bit : (root_walk s (w / 4) (h / 4) i).answer ≡ Ok tt → (k : ℕ) → k < length own → get_or list k 0 % 2 ≡ digit_at (root_digits s (w / 4) (h / 4) i) k
     own_bit d k l =
         sym (bits_back list k (length own) l) ∙ ap (λ (z : List Mark). get_or (bytes z) k 0) t.back ∙ ap (λ (z : List ℕ). get_or z k 0) (sym (own_digits d))
 
@@ -81,7 +79,7 @@ module _ (w h : ℕ) (s : List ℕ) (i : ℕ) where
     own_answer a n q f = f ∙ ap₂ judge (bytes_of_lem s i) (ap (marks_in list) q ∙ t.back) ∙ sym root_judged
 
 -- an answer that tells of marks is not a refusal
-pub not_both : {A : Type 0} (r : Marked) (n : ℕ) (q : Refusal) → r ≡ Counted n → r ≡ NotCounted q → A
+pub not_both : {A : Type 0} (r : Result ℕ Refusal) (n : ℕ) (q : Refusal) → r ≡ Ok n → r ≡ Err q → A
 not_both r n q e f = absurd (let z : ◌≡◌ {A = ℕ} 0 1 = cc in omega arith)
 
 -- ---- the digits of one root after another

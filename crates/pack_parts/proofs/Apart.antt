@@ -4,7 +4,7 @@ use mathlib.Core.List.{List}
 use mathlib.Core.Path.{◌≡◌, sym, ◌∙◌}
 use Prim.Native.Nat.{ℕ}
 use Rattle.def.specs.Answers.{answer_number}
-use Rattle.def.specs.declared.Answer.{Answer}
+use Rattle.def.specs.Answers.{Answer}
 use Rattle.def.proofs.Answers.{answer_apart}
 use Rattle.pack_parts.specs.Held.{written, wrote, taken, passed}
 use Rattle.pack_parts.specs.declared.Reader.{Reader}

@@ -6,7 +6,7 @@ ghost use Rattle.std.specs.Prelude.{◌≡◌};
 ghost use Rattle.def.specs.Answers.{answer_number};
 ghost use Rattle.pack_parts.specs.Held.{written, wrote, taken, passed};
 
-use def::Answer;
+use def::Refusal;
 use pack::put_map;
 use unpack::get_map;
 
@@ -42,13 +42,12 @@ pub fn write_map<'s, 'a, 'b>(
     w: usize,
     h: usize,
     splits: &'b [u8],
-) -> Answer
+) -> Result<(), Refusal>
     ensures { (answer_number result ≡ (written writer.old w h splits.now).number) × (writer.new ≡ wrote writer.old w h splits.now) }
 {
     let at = writer.at;
-    let placed = put_map(w, h, splits, &mut *writer.buf, at);
-    writer.at = placed.at;
-    placed.answer
+    writer.at = put_map(w, h, splits, &mut *writer.buf, at)?;
+    Ok(())
 }
 
 // A map is read, and the position moves on behind it; where it is refused, map and position are as they were.
@@ -57,12 +56,11 @@ pub fn read_map<'s, 'a, 'b>(
     w: usize,
     h: usize,
     map: &'b mut [u8],
-) -> Answer
+) -> Result<(), Refusal>
     ensures { (answer_number result ≡ (taken reader.old w h map.old).number) × (reader.new ≡ passed reader.old w h map.old) × (map.new ≡ (taken reader.old w h map.old).map) }
 {
     let src = reader.src;
     let at = reader.at;
-    let placed = get_map(w, h, src, at, map);
-    reader.at = placed.at;
-    placed.answer
+    reader.at = get_map(w, h, src, at, map)?;
+    Ok(())
 }

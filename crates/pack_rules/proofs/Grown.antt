@@ -6,6 +6,7 @@
 --     map_walked    a whole picture's map by digits
 --     reads    what is proved of every map that is read
 -- Assumes nothing.
+use Rattle.std.specs.Prelude.{Ok, Err}
 use mathlib.Core.List.Memᴰ
 use mathlib.Core.List.{List, [], ◌∷◌, ◌++◌, Memᴰ}
 use mathlib.Core.Logic.{◌⊎◌, inl, inr, ⊎_elim}
@@ -14,8 +15,7 @@ use Prim.Native.Nat.{ℕ, zero, suc, ◌+◌, ◌*◌, ◌/◌, ◌%◌, ◌^◌
 use native.Mathlib.Omega.{arith}
 use lib.Dec.{eqb}
 use lib.ListN.{length, get_or, replicate, length-replicate}
-use Rattle.def.specs.declared.Answer.{Answer}
-use Rattle.def.specs.declared.Answer.TheVariants.{Done, Refused}
+use Rattle.def.specs.Answers.{Answer}
 use Rattle.def.specs.Answers.{after_checks}
 use Rattle.def.specs.Picture.{size_ok, root_count}
 use Rattle.def.specs.declared.Refusal.TheVariants.{Size, Length}
@@ -46,28 +46,28 @@ module _ (f : ℕ → List ℕ → Descent) where
   nth ds i = f i (descents f i ds).left
 
   pub record Ends (n : ℕ) (ds : List ℕ) : Type 0 where
-    pub first : (descents f n ds).walk.answer ≡ Done
-    pub last : (nth ds n).walk.answer ≡ Done
+    pub first : (descents f n ds).walk.answer ≡ Ok tt
+    pub last : (nth ds n).walk.answer ≡ Ok tt
     pub is : descents f (suc n) ds ≡ record { walk = and_then (descents f n ds).walk (nth ds n).walk; marks = (descents f n ds).marks ++ (nth ds n).marks; left = (nth ds n).left }
 
-  pub ends : (n : ℕ) (ds : List ℕ) → (descents f (suc n) ds).walk.answer ≡ Done → Ends n ds
+  pub ends : (n : ℕ) (ds : List ℕ) → (descents f (suc n) ds).walk.answer ≡ Ok tt → Ends n ds
   unfolding descents descend_on
   ends n ds d = by (descents f n ds).walk.answer refl d where
-    by : (z : Answer) → (descents f n ds).walk.answer ≡ z → (descend_on z (descents f n ds) (f n)).walk.answer ≡ Done → Ends n ds
-    by Done e q =
+    by : (z : Answer) → (descents f n ds).walk.answer ≡ z → (descend_on z (descents f n ds) (f n)).walk.answer ≡ Ok tt → Ends n ds
+    by (Ok _) e q =
         let b = both (descents f n ds).walk.answer (descents f n ds).walk.list (nth ds n).walk q in
         record { first = e; last = b.second; is = ap (λ (a : Answer). descend_on a (descents f n ds) (f n)) e }
-    by (Refused r) e q = absurd (not_done r (sym e ∙ q))
+    by (Err r) e q = absurd (not_done r (sym e ∙ q))
 
-  pub turns : (v : ℕ → Walk) (n : ℕ) (ds : List ℕ) → (descents f n ds).walk.answer ≡ Done
-      → ((i : ℕ) → i < n → (nth ds i).walk.answer ≡ Done → v i ≡ (nth ds i).walk) → in_turn v n ≡ (descents f n ds).walk
+  pub turns : (v : ℕ → Walk) (n : ℕ) (ds : List ℕ) → (descents f n ds).walk.answer ≡ Ok tt
+      → ((i : ℕ) → i < n → (nth ds i).walk.answer ≡ Ok tt → v i ≡ (nth ds i).walk) → in_turn v n ≡ (descents f n ds).walk
   turns v zero ds d e = turn_none v ∙ sym (ap (λ (a : Descent). a.walk) (descents_none f ds))
   turns v (suc n) ds d e =
       let g = ends n ds d in
       turn_more v n ∙ ap₂ and_then (turns v n ds g.first (λ i l. e i (omega arith))) (e n (omega arith) g.last) ∙ sym (ap (λ (a : Descent). a.walk) g.is)
 
   -- each one's marks are among all
-  pub among : (n : ℕ) (ds : List ℕ) → (descents f n ds).walk.answer ≡ Done → (i : ℕ) → i < n → (m : Mark) → Memᴰ m (nth ds i).marks → Memᴰ m (descents f n ds).marks
+  pub among : (n : ℕ) (ds : List ℕ) → (descents f n ds).walk.answer ≡ Ok tt → (i : ℕ) → i < n → (m : Mark) → Memᴰ m (nth ds i).marks → Memᴰ m (descents f n ds).marks
   among zero ds d i l m k = absurd (omega arith)
   among (suc n) ds d i l m k =
       let g = ends n ds d in
@@ -95,10 +95,10 @@ module _ (f : ℕ → List ℕ → Descent) where
     later a = record { number = a.number; below = omega (arith, a.below); digits = a.digits; mine = a.mine }
 
     by : (z : Answer) → (Memᴰ m (descents f n ds).marks → Maker n ds m) → Memᴰ m (descend_on z (descents f n ds) (f n)).marks → Maker (suc n) ds m
-    by Done g j =
+    by (Ok _) g j =
         ⊎_elim (λ i. later (g i)) (λ i. record { number = n; below = omega arith; digits = (descents f n ds).left; mine = i })
         (Memᴰ.append_cases (descents f n ds).marks j)
-    by (Refused r) g j = later (g j)
+    by (Err r) g j = later (g j)
 
 -- ---- bytes that have the marks
 
@@ -107,7 +107,7 @@ module _ (w h : ℕ) (n : List ℕ) where
   Has l = (m : Mark) → Memᴰ m l → get_or n m.place 0 ≡ m.byte
 
   abbrev ReadAs : (k x y : ℕ) → Descent → Type 0
-  ReadAs k x y a = a.walk.answer ≡ Done → Has a.marks → walk n w h k x y ≡ a.walk
+  ReadAs k x y a = a.walk.answer ≡ Ok tt → Has a.marks → walk n w h k x y ≡ a.walk
 
   via : (k x y : ℕ) {a b : Descent} → a ≡ b → ReadAs k x y b → ReadAs k x y a
   via k x y e r = subst (ReadAs k x y) (sym e) r
@@ -176,13 +176,13 @@ module _ (w h X Y : ℕ) where
     parts_once f zero l ds = tt
     parts_once f (suc n) l ds = by (descents (part_of w h k x y) n ds).walk.answer (parts_once f n (omega arith) ds) where
       by : (z : Answer) → Pairwise Apart (descents (part_of w h k x y) n ds).marks → Pairwise Apart (descend_on z (descents (part_of w h k x y) n ds) (part_of w h k x y n)).marks
-      by Done g =
+      by (Ok _) g =
           pairwise_append Apart (descents (part_of w h k x y) n ds).marks (part_of w h k x y n (descents (part_of w h k x y) n ds).left).marks g (f n _ l)
           (λ m c i j e.
           let a = maker (part_of w h k x y) n ds m i in
           parts_apart X Y k x y r a.number n a.below l m.place (part_owned a.number a.digits (omega (arith, a.below)) m a.mine)
           (subst (Owns k (part_x k x n) (part_y k y n)) (sym e) (part_owned n _ l c j)))
-      by (Refused q) g = g
+      by (Err q) g = g
 
   pub once : (k x y : ℕ) (ds : List ℕ) → Rooted X Y k x y → Pairwise Apart (descend w h k x y ds).marks
   once zero x y ds r = subst (Pairwise Apart) (sym (unit_quiet w h x y ds).none) tt
@@ -232,7 +232,7 @@ module _ (w h : ℕ) (ds : List ℕ) where
       (subst (λ (n : ℕ). m.place < n) (sym zeros_long) (tidy_grown w h 4 (root_x w i) (root_y w i) ds m k).inside)
       (λ n j e. one_byte l (once w h X Y 4 (root_x w i) (root_y w i) ds r) n m j k e) (inr (record { one = m; listed = k; there = refl }))
 
-module _ (w h : ℕ) (ds : List ℕ) (d : (upto w h ds (roots w h)).walk.answer ≡ Done) where
+module _ (w h : ℕ) (ds : List ℕ) (d : (upto w h ds (roots w h)).walk.answer ≡ Ok tt) where
   pub map_walked : picture_walk (map_of w h ds) w h ≡ (upto w h ds (roots w h)).walk
   map_walked =
       turns (root_descent w h) (root_walk (map_of w h ds) w h) (roots w h) ds d
@@ -244,11 +244,11 @@ module _ (w h : ℕ) (ds : List ℕ) (d : (upto w h ds (roots w h)).walk.answer 
 -- ---- the call
 
 -- the descent of a call that is not refused ends
-descent_done : (a k : Answer) → after_checks Refused k a ≡ Done → a ≡ Done
-descent_done Done k e = refl
-descent_done (Refused r) k e = absurd (not_done r e)
+descent_done : (a k : Answer) → after_checks Err k a ≡ Ok tt → a ≡ Ok tt
+descent_done (Ok _) k e = refl
+descent_done (Err r) k e = absurd (not_done r e)
 
-pub reads : (i : get-call.Input) → get-call.check i ≡ Done → Reads i
+pub reads : (i : get-call.Input) → get-call.check i ≡ Ok tt → Reads i
 unfolding get-call.check get-call.outcome
 reads i e =
     let a = past (size_ok i.w i.h) Size _ e in

@@ -1,5 +1,6 @@
 -- `kept`: what is proved of every map that is written. `back` has what follows of the map alone.
 -- Assumes nothing.
+use Rattle.std.specs.Prelude.{Ok, Err}
 use mathlib.Core.Bool.{Bool, true, false}
 use mathlib.Core.List.Memᴰ
 use mathlib.Core.List.{List, [], ◌∷◌, ◌++◌, append-nil}
@@ -15,8 +16,7 @@ use Rattle.bits.specs.Bits.{bit_at, with_bit, with_bits, bits_from}
 use Rattle.bits.proofs.Laws.{length_bits, bits_same, bits_other, drop_bits}
 use Rattle.def.specs.Answers.{after_checks}
 use Rattle.def.specs.Picture.{size_ok, root_count}
-use Rattle.def.specs.declared.Answer.{Answer}
-use Rattle.def.specs.declared.Answer.TheVariants.{Done, Refused}
+use Rattle.def.specs.Answers.{Answer}
 use Rattle.def.specs.declared.Refusal.{Refusal}
 use Rattle.def.specs.declared.Refusal.TheVariants.{Size, Length, Bits}
 use Rattle.laws.specs.Call.{unless}
@@ -44,7 +44,7 @@ unfolding joined
 joined_same f g zero e = refl
 joined_same f g (suc n) e = ap₂ (λ (a b : List ℕ). a ++ b) (joined_same f g n (λ i l. e i (omega arith))) (e n (omega arith))
 
-module _ (s : List ℕ) (w h : ℕ) (d : (picture_walk s w h).answer ≡ Done) where
+module _ (s : List ℕ) (w h : ℕ) (d : (picture_walk s w h).answer ≡ Ok tt) where
   -- whatever follows the digits
   map_is : (r : List ℕ) → map_of w h (picture_digits s w h ++ r) ≡ back_of s w h
   map_is r = joined_same _ _ (roots w h) (λ i l. ap (λ (m : List Mark). put_all m (replicate 1024 0)) (root_back s w h d r i l))
@@ -118,27 +118,27 @@ byte_other s p f (suc n) j h =
 
 -- ---- a call that is accepted
 
-past_walk : (a k : Answer) → after_checks Refused k a ≡ Done → (a ≡ Done) × (k ≡ Done)
-past_walk Done k e = (refl, e)
-past_walk (Refused r) k e = absurd (not_done r e)
+past_walk : (a k : Answer) → after_checks Err k a ≡ Ok tt → (a ≡ Ok tt) × (k ≡ Ok tt)
+past_walk (Ok _) k e = (refl, e)
+past_walk (Err r) k e = absurd (not_done r e)
 
 pub record Passed (i : put-call.Input) : Type 0 where
   pub size : size_ok i.w i.h ≡ true
   pub bytes : length i.splits ≡ 1024 * root_count i.w i.h
-  pub walked : (picture_walk i.splits (i.w / 4) (i.h / 4)).answer ≡ Done
+  pub walked : (picture_walk i.splits (i.w / 4) (i.h / 4)).answer ≡ Ok tt
   pub room : end_of i.at (length (put-call.digits i)) ≤ bits_in (length i.buf)
 
-pub passed : (i : put-call.Input) → put-call.check i ≡ Done → Passed i
+pub passed : (i : put-call.Input) → put-call.check i ≡ Ok tt → Passed i
 unfolding put-call.check room_ok
 passed i e =
     let t = eqb (length i.splits) (1024 * root_count i.w i.h) in
     let r = leb (end_of i.at (length (put-call.digits i))) (bits_in (length i.buf)) in
     let v = (picture_walk i.splits (i.w / 4) (i.h / 4)).answer in
-    let k = after_checks Refused (unless r (Refused Bits) Done) v in
-    let a = past (size_ok i.w i.h) Size (unless t (Refused Length) k) e in
+    let k = after_checks Err (unless r (Err Bits) (Ok tt)) v in
+    let a = past (size_ok i.w i.h) Size (unless t (Err Length) k) e in
     let b = past t Length k a.1 in
-    let c = past_walk v (unless r (Refused Bits) Done) b.1 in
-    let f = past r Bits Done c.1 in
+    let c = past_walk v (unless r (Err Bits) (Ok tt)) b.1 in
+    let f = past r Bits (Ok tt) c.1 in
     record { size = a.0; bytes = eqb-true _ _ b.0; walked = c.0; room = leb-true _ _ f.0 }
 
 -- ---- digits are bits
@@ -158,7 +158,7 @@ small_bytes [] t j = omega arith
 small_bytes (m ∷ l) t zero = (t m (Memᴰ.head refl)).bit
 small_bytes (m ∷ l) t (suc j) = small_bytes l (λ n i. t n (Memᴰ.tail i)) j
 
-digit_small : (s : List ℕ) (w h : ℕ) → (picture_walk s w h).answer ≡ Done → (j : ℕ) → digit_at (picture_digits s w h) j < 2
+digit_small : (s : List ℕ) (w h : ℕ) → (picture_walk s w h).answer ≡ Ok tt → (j : ℕ) → digit_at (picture_digits s w h) j < 2
 unfolding digits
 digit_small s w h d j =
     small_joined (root_digits s w h) (roots w h)
@@ -168,7 +168,7 @@ digit_small s w h d j =
     small_bytes (reached s w h i)
     (subst AllTidy (own_marks (root_bytes s i) w h 4 x y (each_done (root_walk s w h) (roots w h) d i l)) (tidy_mended (root_bytes s i) w h 4 x y))) j
 
-module _ (i : put-call.Input) (a : put-call.check i ≡ Done) where
+module _ (i : put-call.Input) (a : put-call.check i ≡ Ok tt) where
   abbrev w : ℕ
   w = i.w / 4
 
@@ -229,13 +229,13 @@ module _ (i : put-call.Input) (a : put-call.check i ≡ Done) where
       let all = digits_from src i.at in
       let c = count_is s w h p.walked src i.at k in
       let f : fill_ok src i.at (length (upto w h all (roots w h)).marks) ≡ true = ap (fill_ok src i.at) c ∙ filled s w h p.walked src i.at k in
-      let v : (upto w h all (roots w h)).walk.answer ≡ Done = ap (λ (z : Descent). z.walk.answer) (read_all s w h p.walked src i.at k) ∙ p.walked in
+      let v : (upto w h all (roots w h)).walk.answer ≡ (Ok tt) = ap (λ (z : Descent). z.walk.answer) (read_all s w h p.walked src i.at k) ∙ p.walked in
       let e : map_of w h all ≡ back_of s w h = ap (map_of w h) (split_up s w h p.walked src i.at k) ∙ map_is s w h p.walked (rest s w h p.walked src i.at k) in
       rw (p.size, eq-eqb (length map) (1024 * root_count i.w i.h) (l ∙ p.bytes), v, f)
       (ap₂ (λ (x : ℕ) (y : List ℕ). record { number = 0; at = x; map = y }) (ap (end_of i.at) c ∙ sym (ap (λ (z : put-call.Outcome). z.at) out)) e)
 
 -- a map that is written behind another leaves it where it is
-behind : (i k : put-call.Input) → put-call.check i ≡ Done → put-call.check k ≡ Done → k.buf ≡ (put-call.outcome i).buf → k.at ≡ (put-call.outcome i).at
+behind : (i k : put-call.Input) → put-call.check i ≡ Ok tt → put-call.check k ≡ Ok tt → k.buf ≡ (put-call.outcome i).buf → k.at ≡ (put-call.outcome i).at
     → Holds (put-call.outcome k).buf i.at (put-call.digits i)
 behind i k a b e f =
     let g = holds i a in
@@ -245,7 +245,7 @@ behind i k a b e f =
       room = subst (λ (z : ℕ). end_of i.at (length (put-call.digits i)) ≤ bits_in z) (sym (long_kept k b ∙ ap length e)) g.room;
     }
 
-pub kept : (i : put-call.Input) → put-call.check i ≡ Done → Kept i
+pub kept : (i : put-call.Input) → put-call.check i ≡ Ok tt → Kept i
 kept i a =
     record {
       back = back i.splits (i.w / 4) (i.h / 4) (passed i a).walked;

@@ -1,8 +1,10 @@
 -- The compact form of a split map: its digits as bits, the high bit of each byte first, from the start of a byte on; the last byte is filled with zeros.
 -- Positions are in bits.
 -- Assumes nothing: these are definitions.
-use Rattle.std.specs.Prelude.{Bool, List, ℕ, ◌+◌, ◌-◌, ◌*◌, ◌/◌, ◌^◌, min, eqb, leb, length, get_or}
+use Rattle.std.specs.Prelude.{Bool, List, ℕ, ◌+◌, ◌-◌, ◌*◌, ◌/◌, ◌^◌, min, eqb, leb, length, get_or, Ok, Err, Result}
 use Rattle.bits.specs.Bits.{bit_at, bits_from, with_bits}
+use Rattle.def.specs.Refusals.{number_of}
+use Rattle.def.specs.declared.Refusal.{Refusal}
 use Rattle.laws.specs.Scan.{all_below}
 
 -- how many bits so many bytes have. No buffer is as long as 2 ^ 59 bytes; what would lie past them is not counted
@@ -16,6 +18,18 @@ start_of p = (p + 7) / 8 * 8
 -- where a map of n digits ends: after the byte that its last digit lies in
 abbrev pub end_of : (p n : ℕ) → ℕ
 end_of p n = start_of p + (n + 7) / 8 * 8
+
+-- ---- what a call that was handed position p answers: the position after the map, or why it is refused
+
+-- the answer's number
+abbrev pub placed_number : Result ℕ Refusal → ℕ
+placed_number (Ok n) = 0
+placed_number (Err r) = number_of r
+
+-- the position that the caller has then: where the map is refused it stays
+abbrev pub placed_at : ℕ → Result ℕ Refusal → ℕ
+placed_at p (Ok n) = n
+placed_at p (Err r) = p
 
 -- ---- writing
 

@@ -1,11 +1,10 @@
 -- The calls `get_map` and `read_map`: the split map of a picture of w by h samples is read from a lent buffer, from position `at` on.
 -- Assumes nothing: these are definitions.
-use Rattle.std.specs.Prelude.{List, ℕ, ◌*◌, ◌/◌, eqb, length}
+use Rattle.std.specs.Prelude.{List, ℕ, ◌*◌, ◌/◌, eqb, length, Ok, Err}
 use Rattle.def.specs.Answers.{after_checks}
 use Rattle.def.specs.Picture.{size_ok, root_count}
 use Rattle.def.specs.Refusals.{number_of}
-use Rattle.def.specs.declared.Answer.{Answer}
-use Rattle.def.specs.declared.Answer.TheVariants.{Done, Refused}
+use Rattle.def.specs.Answers.{Answer}
 use Rattle.def.specs.declared.Refusal.{Refusal}
 use Rattle.def.specs.declared.Refusal.TheVariants.{Size, Length, Bits}
 use Rattle.laws.specs.Call.{unless}
@@ -38,9 +37,9 @@ count i = length (descent i).marks
 -- 1, 2, then 5, or 16 where the bits run out, as the walk meets them, then 16: a fill bit that is not 0
 unfoldable pub check : Input → Answer
 check i =
-    unless (size_ok i.w i.h) (Refused Size)
-    (unless (eqb (length i.map) (1024 * root_count i.w i.h)) (Refused Length)
-    (after_checks Refused (unless (fill_ok i.src i.at (count i)) (Refused Bits) Done) (descent i).walk.answer))
+    unless (size_ok i.w i.h) (Err Size)
+    (unless (eqb (length i.map) (1024 * root_count i.w i.h)) (Err Length)
+    (after_checks Err (unless (fill_ok i.src i.at (count i)) (Err Bits) (Ok tt)) (descent i).walk.answer))
 
 -- the map and the position are as they were
 abbrev pub refused : Input → Refusal → Outcome

@@ -2,9 +2,8 @@
 -- read, from whatever bits.
 -- Assumes nothing: these are definitions.
 use mathlib.Core.List.{List, ◌++◌, Memᴰ}
-use Rattle.std.specs.Prelude.{◌⊎◌, ◌≡◌, ℕ, ◌+◌, ◌*◌, ◌/◌, ◌≤◌, ◌<◌, length, get_or, replicate}
+use Rattle.std.specs.Prelude.{◌⊎◌, ◌≡◌, ℕ, ◌+◌, ◌*◌, ◌/◌, ◌≤◌, ◌<◌, length, get_or, replicate, Ok}
 use Rattle.bits.specs.Bits.{bit_at, bits_from}
-use Rattle.def.specs.declared.Answer.TheVariants.{Done}
 use Rattle.marks_rules.specs.Descent.{Descent}
 use Rattle.marks_rules.specs.Marks.{Mark, marks, byte_of, put_all}
 use Rattle.marks_rules.specs.Pictures.{joined, picture_digits, upto}
@@ -39,7 +38,7 @@ pub record Back (s : List ℕ) (w h : ℕ) : Type 0 where
   -- at most 85 digits a root
   pub few : length (picture_digits s w h) ≤ 85 * roots w h
   -- a map with other blocks never has the same digits, not even where one goes on after the other's end
-  pub apart : (t r r' : List ℕ) → (picture_walk t w h).answer ≡ Done → picture_digits s w h ++ r ≡ picture_digits t w h ++ r' → picture_walk s w h ≡ picture_walk t w h
+  pub apart : (t r r' : List ℕ) → (picture_walk t w h).answer ≡ Ok tt → picture_digits s w h ++ r ≡ picture_digits t w h ++ r' → picture_walk s w h ≡ picture_walk t w h
 
 -- of every call that `put_map` accepts
 pub record Kept (i : put-call.Input) : Type 0 where
@@ -53,10 +52,10 @@ pub record Kept (i : put-call.Input) : Type 0 where
       → get-call.outcome (record { w = i.w; h = i.h; src = src; at = i.at; map = map })
       ≡ record { number = 0; at = (put-call.outcome i).at; map = back_of i.splits (i.w / 4) (i.h / 4) }
   -- a map that is written behind it leaves it where it is
-  pub next : (k : put-call.Input) → put-call.check k ≡ Done → k.buf ≡ (put-call.outcome i).buf → k.at ≡ (put-call.outcome i).at
+  pub next : (k : put-call.Input) → put-call.check k ≡ Ok tt → k.buf ≡ (put-call.outcome i).buf → k.at ≡ (put-call.outcome i).at
       → Holds (put-call.outcome k).buf i.at (put-call.digits i)
 
 -- of every call that `get_map` accepts: the map that it leaves is walked as the digits say, and to the end
 pub record Reads (i : get-call.Input) : Type 0 where
   pub walked : picture_walk (get-call.outcome i).map (i.w / 4) (i.h / 4) ≡ (get-call.descent i).walk
-  pub accepted : (picture_walk (get-call.outcome i).map (i.w / 4) (i.h / 4)).answer ≡ Done
+  pub accepted : (picture_walk (get-call.outcome i).map (i.w / 4) (i.h / 4)).answer ≡ Ok tt

@@ -1,11 +1,10 @@
 -- The calls `put_map` and `write_map`: the split map of a picture of w by h samples goes into a lent buffer, from position `at` on.
 -- Assumes nothing: these are definitions.
-use Rattle.std.specs.Prelude.{List, ℕ, ◌*◌, ◌/◌, eqb, length}
+use Rattle.std.specs.Prelude.{List, ℕ, ◌*◌, ◌/◌, eqb, length, Ok, Err}
 use Rattle.def.specs.Answers.{after_checks}
 use Rattle.def.specs.Picture.{size_ok, root_count}
 use Rattle.def.specs.Refusals.{number_of}
-use Rattle.def.specs.declared.Answer.{Answer}
-use Rattle.def.specs.declared.Answer.TheVariants.{Done, Refused}
+use Rattle.def.specs.Answers.{Answer}
 use Rattle.def.specs.declared.Refusal.{Refusal}
 use Rattle.def.specs.declared.Refusal.TheVariants.{Size, Length, Bits}
 use Rattle.laws.specs.Call.{unless}
@@ -32,9 +31,9 @@ digits i = picture_digits i.splits (i.w / 4) (i.h / 4)
 -- 1, 2, then 4 or 5 as the walk meets them, then 16: the room is less than the map's own bytes
 unfoldable pub check : Input → Answer
 check i =
-    unless (size_ok i.w i.h) (Refused Size)
-    (unless (eqb (length i.splits) (1024 * root_count i.w i.h)) (Refused Length)
-    (after_checks Refused (unless (room_ok (length i.buf) i.at (length (digits i))) (Refused Bits) Done) (picture_walk i.splits (i.w / 4) (i.h / 4)).answer))
+    unless (size_ok i.w i.h) (Err Size)
+    (unless (eqb (length i.splits) (1024 * root_count i.w i.h)) (Err Length)
+    (after_checks Err (unless (room_ok (length i.buf) i.at (length (digits i))) (Err Bits) (Ok tt)) (picture_walk i.splits (i.w / 4) (i.h / 4)).answer))
 
 -- the buffer and the position are as they were
 abbrev pub refused : Input → Refusal → Outcome

@@ -1,12 +1,11 @@
 -- The call `take_map`: the split map of a picture of w by h samples by its digits alone, the bits of a lent slice from one place up to another.
 -- Assumes nothing: these are definitions.
-use Rattle.std.specs.Prelude.{Bool, List, [], ◌∷◌, ℕ, ◌+◌, ◌-◌, ◌*◌, ◌/◌, eqb, leb, length}
+use Rattle.std.specs.Prelude.{Bool, List, [], ◌∷◌, ℕ, ◌+◌, ◌-◌, ◌*◌, ◌/◌, eqb, leb, length, Err}
 use Rattle.bits.specs.Bits.{bits_from}
 use Rattle.def.specs.Answers.{after_checks}
 use Rattle.def.specs.Picture.{size_ok, root_count}
 use Rattle.def.specs.Refusals.{number_of}
-use Rattle.def.specs.declared.Answer.{Answer}
-use Rattle.def.specs.declared.Answer.TheVariants.{Done, Refused}
+use Rattle.def.specs.Answers.{Answer}
 use Rattle.def.specs.declared.Refusal.{Refusal}
 use Rattle.def.specs.declared.Refusal.TheVariants.{Size, Length, Bits}
 use Rattle.laws.specs.Call.{unless, all_of}
@@ -42,9 +41,9 @@ places_ok from to = all_of (leb from to ∷ leb to 4611686018427387904 ∷ [])
 -- 1, 2, 16, then 5, or 16 where the digits run out, as the walk meets them
 unfoldable pub check : Input → Answer
 check i =
-    unless (size_ok i.w i.h) (Refused Size)
-    (unless (eqb (length i.map) (1024 * root_count i.w i.h)) (Refused Length)
-    (unless (places_ok i.from i.to) (Refused Bits) (descent i).walk.answer))
+    unless (size_ok i.w i.h) (Err Size)
+    (unless (eqb (length i.map) (1024 * root_count i.w i.h)) (Err Length)
+    (unless (places_ok i.from i.to) (Err Bits) (descent i).walk.answer))
 
 abbrev pub refused : Input → Refusal → Outcome
 refused i r = record { number = number_of r; at = i.from; map = i.map }

@@ -1,8 +1,7 @@
 -- What the functions of the compact form ask: what is known once a call's first tests have passed.
 -- Assumes nothing: these are definitions.
-use Rattle.std.specs.Prelude.{List, true, ◌≡◌, ℕ, ◌*◌, ◌/◌, ◌≤◌, length}
+use Rattle.std.specs.Prelude.{List, true, ◌≡◌, ℕ, ◌*◌, ◌/◌, ◌≤◌, length, Ok}
 use Rattle.def.specs.Picture.{size_ok, root_count}
-use Rattle.def.specs.declared.Answer.TheVariants.{Done}
 use Rattle.marks_rules.specs.Pictures.{picture_digits}
 use Rattle.pack_rules.specs.Form.{bits_in, start_of}
 use Rattle.split.specs.Picture.{picture_walk}
@@ -15,7 +14,7 @@ pub record Mapped (w h long : ℕ) : Type 0 where
 -- a map whose walk is not refused, and how many digits it has
 pub record Accepted (w h : ℕ) (s : List ℕ) (n : ℕ) : Type 0 where
   pub mapped : Mapped w h (length s)
-  pub done : (picture_walk s (w / 4) (h / 4)).answer ≡ Done
+  pub done : (picture_walk s (w / 4) (h / 4)).answer ≡ Ok tt
   pub count : n ≡ length (picture_digits s (w / 4) (h / 4))
 
 -- where a map starts in a buffer of so many bytes, and where the buffer ends

@@ -3,6 +3,7 @@
 --     rank_refused, rank_done    the call's outcome
 --     rank_apart    its reading tells all answers apart
 -- Assumes nothing.
+use Rattle.std.specs.Prelude.{Ok, Err, Result}
 use Prim.Native.Nat.{ℕ, ◌+◌, ◌*◌, ◌/◌, ◌%◌, ◌<◌}
 use mathlib.Core.Path.{◌≡◌, sym, ap, ◌∙◌}
 use mathlib.Core.Bool.{true, false}
@@ -20,8 +21,6 @@ use Rattle.def.specs.declared.Refusal.TheVariants.{Block}
 use Rattle.def.proofs.Answers.{number_apart, number_some}
 use Rattle.rank.specs.RankCall as rank-call
 use Rattle.rank.specs.Ranks.{rank}
-use Rattle.rank.specs.declared.Rank.{Rank}
-use Rattle.rank.specs.declared.Rank.TheVariants.{Done as Ranked, Refused as NotRanked}
 
 -- ---- the table of ranks, by its rule, at 16 * row + column
 
@@ -38,11 +37,11 @@ rank_at x y p q =
 -- ---- the outcome, by what its checks find
 
 module _ (i : rank-call.Input) where
-  pub rank_refused : (k : ℕ) → get_or (ltb i.x 16 ∷ ltb i.y 16 ∷ []) k true ≡ false → rank-call.after (NotRanked Block) ≡ rank-call.outcome i
+  pub rank_refused : (k : ℕ) → get_or (ltb i.x 16 ∷ ltb i.y 16 ∷ []) k true ≡ false → rank-call.after (Err Block) ≡ rank-call.outcome i
   unfolding rank-call.outcome rank-call.check
   rank_refused k e = rw (all_fails (ltb i.x 16 ∷ ltb i.y 16 ∷ []) k e)
 
-  pub rank_done : (n : ℕ) → i.x < 16 → i.y < 16 → n ≡ rank i.x i.y → rank-call.after (Ranked n) ≡ rank-call.outcome i
+  pub rank_done : (n : ℕ) → i.x < 16 → i.y < 16 → n ≡ rank i.x i.y → rank-call.after (Ok n) ≡ rank-call.outcome i
   unfolding rank-call.outcome rank-call.check
   rank_done n p q e = rw (e, lt-ltb _ _ p, lt-ltb _ _ q)
 
@@ -52,8 +51,8 @@ module _ (i : rank-call.Input) where
 never : (r : Refusal) → number_of r ≡ 0 → ⊥
 never r e = omega (arith, number_some r)
 
-pub rank_apart : (a b : Rank) → rank-call.reading_of a ≡ rank-call.reading_of b → a ≡ b
-rank_apart (Ranked m) (Ranked n) e = ap Ranked (ap (λ (r : rank-call.Reading). r.rank) e)
-rank_apart (Ranked m) (NotRanked r) e = absurd (never r (sym (ap (λ (q : rank-call.Reading). q.number) e)))
-rank_apart (NotRanked r) (Ranked n) e = absurd (never r (ap (λ (q : rank-call.Reading). q.number) e))
-rank_apart (NotRanked r) (NotRanked q) e = ap NotRanked (number_apart r q (ap (λ (z : rank-call.Reading). z.number) e))
+pub rank_apart : (a b : Result ℕ Refusal) → rank-call.reading_of a ≡ rank-call.reading_of b → a ≡ b
+rank_apart (Ok m) (Ok n) e = ap Ok (ap (λ (r : rank-call.Reading). r.rank) e)
+rank_apart (Ok m) (Err r) e = absurd (never r (sym (ap (λ (q : rank-call.Reading). q.number) e)))
+rank_apart (Err r) (Ok n) e = absurd (never r (ap (λ (q : rank-call.Reading). q.number) e))
+rank_apart (Err r) (Err q) e = ap Err (number_apart r q (ap (λ (z : rank-call.Reading). z.number) e))

@@ -9,24 +9,17 @@ use rank_table::RANKS;
 
 mod rank_table;
 
-// A unit's visiting rank in its root.
-#[derive(Drop)]
-pub enum Rank {
-    Done(u8),
-    Refused(Refusal),
-}
-
 // The visiting rank of the unit of column x and row y in its root.
-pub fn visiting_rank(x: Scu, y: Scu) -> Rank
+pub fn visiting_rank(x: Scu, y: Scu) -> Result<u8, Refusal>
     ensures { Gives RankCall.outcome (record { x = x.0; y = y.0 }) (record { reading = RankCall.reading_of result }) }
 {
     let column = x.0;
     let row = y.0;
     if column >= 16 {
-        return Rank::Refused(Refusal::Block);
+        return Err(Refusal::Block);
     }
     if row >= 16 {
-        return Rank::Refused(Refusal::Block);
+        return Err(Refusal::Block);
     }
-    Rank::Done(RANKS[16 * row + column])
+    Ok(RANKS[16 * row + column])
 }

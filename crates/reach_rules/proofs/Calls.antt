@@ -4,6 +4,7 @@
 --     after_same    a call whose checks answer alike, and whose rule gives alike where they pass
 -- `deblock` and `reconstruct` are in `decoder`.
 -- Assumes nothing.
+use Rattle.std.specs.Prelude.{Ok, Err}
 use Prim.Native.Nat.{ℕ, ◌+◌, ◌/◌}
 use mathlib.Core.Bool.{Bool}
 use mathlib.Core.List.{List, map}
@@ -13,8 +14,7 @@ use lib.ListN.{length}
 use lib.Seq.{sets}
 use Rattle.def.specs.Answers.{after_checks}
 use Rattle.def.specs.Picture.{size_ok}
-use Rattle.def.specs.declared.Answer.{Answer}
-use Rattle.def.specs.declared.Answer.TheVariants.{Done, Refused}
+use Rattle.def.specs.Answers.{Answer}
 use Rattle.def.specs.declared.Refusal.{Refusal}
 use Rattle.def.specs.declared.Refusal.TheVariants.{Size, Length, Setting, Block}
 use Rattle.laws.specs.Call.{unless}
@@ -27,15 +27,13 @@ use Rattle.split.specs.Edges.{Edge, vertical, horizontal, edges_of, edge_numbers
 use Rattle.split.specs.Picture.{root_walk, picture_walk}
 use Rattle.split.specs.Stored.{leaf_numbers}
 use Rattle.split.specs.Walk.{Leaf, Walk}
-use Rattle.split.specs.declared.Listed.TheVariants.{Done as Counted}
-use Rattle.split.specs.declared.Walked.TheVariants as Walked
 use Rattle.split.proofs.Outcomes.{past}
 use Rattle.reach_rules.specs.Reached.{root_reached, picture_reached, AgreeAt, SameTree}
 use Rattle.reach_rules.proofs.Reached.{same_root, same_tree}
 
-pub after_same : {O : Type 0} (stop : Refusal → O) (d d' : O) (a a' : Answer) → a' ≡ a → (a ≡ Done → d' ≡ d) → after_checks stop d' a' ≡ after_checks stop d a
-after_same stop d d' Done a' e f = rw e (f refl)
-after_same stop d d' (Refused r) a' e f = rw e
+pub after_same : {O : Type 0} (stop : Refusal → O) (d d' : O) (a a' : Answer) → a' ≡ a → (a ≡ Ok tt → d' ≡ d) → after_checks stop d' a' ≡ after_checks stop d a
+after_same stop d d' (Ok _) a' e f = rw e (f refl)
+after_same stop d d' (Err r) a' e f = rw e
 
 -- ---- over a picture
 
@@ -56,11 +54,11 @@ module _ (i : list.Input) (t : List ℕ) (n : length t ≡ length i.splits) (o :
   -- the checks, by the map's length and the walk's answer
   abbrev list_checks : ℕ → Answer → Answer
   list_checks m a =
-      unless (size_ok i.w i.h) (Refused Size)
-      (unless (list.lengths_ok i.w i.h m (length i.vertical) (length i.horizontal)) (Refused Length)
-      (unless (list.limit_ok i.limit) (Refused Setting) a))
+      unless (size_ok i.w i.h) (Err Size)
+      (unless (list.lengths_ok i.w i.h m (length i.vertical) (length i.horizontal)) (Err Length)
+      (unless (list.limit_ok i.limit) (Err Setting) a))
 
-  walked : list.check i ≡ Done → (picture_walk i.splits (i.w / 4) (i.h / 4)).answer ≡ Done
+  walked : list.check i ≡ Ok tt → (picture_walk i.splits (i.w / 4) (i.h / 4)).answer ≡ Ok tt
   unfolding list.check_of
   walked e =
       let lengths = list.lengths_ok i.w i.h (length i.splits) (length i.vertical) (length i.horizontal) in
@@ -71,7 +69,7 @@ module _ (i : list.Input) (t : List ℕ) (n : length t ≡ length i.splits) (o :
   written l =
       let v = edges_of vertical (eqb i.limit 5) l in
       let h = edges_of horizontal (eqb i.limit 5) l in
-      list.after (Counted (length v) (length h)) (sets i.vertical 0 (each edge_numbers v)) (sets i.horizontal 0 (each edge_numbers h))
+      list.after (Ok (record { vertical = length v; horizontal = length h })) (sets i.vertical 0 (each edge_numbers v)) (sets i.horizontal 0 (each edge_numbers h))
 
   pub edges_same : list.outcome listing ≡ list.outcome i
   unfolding list.outcome list.check_of
@@ -89,7 +87,7 @@ module _ (w h : ℕ) (s t : List ℕ) (x y : ℕ) (n : length t ≡ length s) (o
   checks_same : (out : ℕ) → leaves.check_of w h t x y out ≡ leaves.check_of w h s x y out
   unfolding leaves.check_of
   checks_same out =
-      ap₂ (λ (m : ℕ) (a : Answer). unless (size_ok w h) (Refused Size) (unless (leaves.lengths_ok w h m out) (Refused Length) (unless (leaves.root_ok w h x y) (Refused Block) a)))
+      ap₂ (λ (m : ℕ) (a : Answer). unless (size_ok w h) (Err Size) (unless (leaves.lengths_ok w h m out) (Err Length) (unless (leaves.root_ok w h x y) (Err Block) a)))
       n (ap (λ (v : Walk). v.answer) root_walk_lem)
 
   abbrev leaving : List ℕ → List ℕ → leaves.Input
@@ -100,7 +98,7 @@ module _ (w h : ℕ) (s t : List ℕ) (x y : ℕ) (n : length t ≡ length s) (o
   leaves_same out =
       after_same (leaves.refused (leaving s out)) (leaves.done (leaving s out)) (leaves.done (leaving t out)) (leaves.check (leaving s out)) (leaves.check (leaving t out))
       (checks_same (length out))
-      (λ e. ap (λ (v : Walk). leaves.after (Walked.Done (length v.list)) (sets out 0 (each leaf_numbers v.list))) root_walk_lem)
+      (λ e. ap (λ (v : Walk). leaves.after (Ok (length v.list)) (sets out 0 (each leaf_numbers v.list))) root_walk_lem)
 
   abbrev root_listing : List ℕ → (horizontal halved : Bool) (top : ℕ) → List ℕ → root.Input
   root_listing z d halved top out = record { w = w; h = h; splits = z; x = x; y = y; horizontal = d; halved = halved; top = top; out = out }
@@ -111,8 +109,8 @@ module _ (w h : ℕ) (s t : List ℕ) (x y : ℕ) (n : length t ≡ length s) (o
       let i = root_listing s d halved top out in
       let j = root_listing t d halved top out in
       after_same (root.refused i) (root.done i) (root.done j) (root.check i) (root.check j)
-      (ap (λ (a : Answer). unless (size_ok w h) (Refused Size) (unless (leb (top + h / 4) 1024) (Refused Size) (unless (eqb (length out) 512) (Refused Length) a))) (checks_same 768))
+      (ap (λ (a : Answer). unless (size_ok w h) (Err Size) (unless (leb (top + h / 4) 1024) (Err Size) (unless (eqb (length out) 512) (Err Length) a))) (checks_same 768))
       (λ e. ap (λ (v : Walk). listed (edges_of (pass_of d) halved (map (root.leaf_down top) v.list))) root_walk_lem)
     where
       listed : List Edge → leaves.Outcome
-      listed l = leaves.after (Walked.Done (length l)) (sets out 0 (each edge_numbers l))
+      listed l = leaves.after (Ok (length l)) (sets out 0 (each edge_numbers l))

@@ -1,6 +1,7 @@
 -- Other bytes are never read: two maps that agree where the walk of the first reaches have the same walk.
 --     same_block, same_root, same_tree    a block, a root, and a picture
 -- Assumes nothing.
+use Rattle.std.specs.Prelude.{Ok, Err}
 use Prim.Native.Nat.{ℕ, zero, suc, ◌+◌, ◌*◌, ◌/◌, ◌%◌, ◌^◌, ◌≤◌, ◌<◌}
 use mathlib.Core.Bool.{Bool, true, false}
 use mathlib.Core.List.Memᴰ
@@ -13,8 +14,7 @@ use native.Mathlib.Omega.{arith}
 use lib.Dec.{ltb}
 use lib.ListN.{length, get_or, take, drop, length-take, get_or-eq_default}
 use lib.Seq.{get_or-take, get_or-drop}
-use Rattle.def.specs.declared.Answer.{Answer}
-use Rattle.def.specs.declared.Answer.TheVariants.{Done, Refused}
+use Rattle.def.specs.Answers.{Answer}
 use Rattle.def.specs.declared.Refusal.TheVariants.{Split}
 use Rattle.laws.specs.Index.{pick}
 use Rattle.split.specs.Edges.{edges_of}
@@ -32,8 +32,8 @@ module _ (P : ℕ → Type 0) (f g : ℕ → Walk) (r : ℕ → List ℕ) (alone
 
   next : (a : Answer) (l : List Leaf) (n : ℕ) → Over (next_reached a (r n)) → onward a l (g n) ≡ onward a l (f n)
   unfolding onward next_reached
-  next Done l n o = ap (onward Done l) (alone n o)
-  next (Refused q) l n o = refl
+  next (Ok _) l n o = ap (onward (Ok tt) l) (alone n o)
+  next (Err q) l n o = refl
 
   pub same_in_turn : (n : ℕ) → Over (in_turn_reached f r n) → in_turn g n ≡ in_turn f n
   unfolding in_turn in_turn_reached
@@ -43,12 +43,12 @@ module _ (P : ℕ → Type 0) (f g : ℕ → Walk) (r : ℕ → List ℕ) (alone
       ∙ next (in_turn f n).answer (in_turn f n).list n (λ p m. o p (Memᴰ.append_right (in_turn_reached f r n) m))
 
   -- where none is refused, each of them
-  done_over : (a : Answer) (n : ℕ) → a ≡ Done → Over (next_reached a (r n)) → Over (r n)
+  done_over : (a : Answer) (n : ℕ) → a ≡ Ok tt → Over (next_reached a (r n)) → Over (r n)
   unfolding next_reached
-  done_over Done n e o = o
-  done_over (Refused q) n e o = absurd (not_done q e)
+  done_over (Ok _) n e o = o
+  done_over (Err q) n e o = absurd (not_done q e)
 
-  pub same_each : (n : ℕ) → Over (in_turn_reached f r n) → (in_turn f n).answer ≡ Done → (i : ℕ) → i < n → g i ≡ f i
+  pub same_each : (n : ℕ) → Over (in_turn_reached f r n) → (in_turn f n).answer ≡ Ok tt → (i : ℕ) → i < n → g i ≡ f i
   unfolding in_turn in_turn_reached
   same_each zero o e i l = absurd (not-suc-le-zero l)
   same_each (suc n) o e i l =
@@ -68,14 +68,14 @@ module _ (s t : List ℕ) (w h : ℕ) where
     below n = reached s w h k (x + n % 2 * 2 ^ k) (y + n / 2 * 2 ^ k)
 
     by_byte_lem : (n : ℕ) → ((i : ℕ) → AgreeAt (below i) s t → parts t i ≡ parts s i) → AgreeAt (by_byte n [] (in_turn_reached (parts s) below 4) []) s t →
-        by_byte n (leaf_walk w h (2 ^ suc k) x y) (in_turn (parts t) 4) (met [] (Refused Split)) ≡ by_byte n (leaf_walk w h (2 ^ suc k) x y) (in_turn (parts s) 4) (met [] (Refused Split))
+        by_byte n (leaf_walk w h (2 ^ suc k) x y) (in_turn (parts t) 4) (met [] (Err Split)) ≡ by_byte n (leaf_walk w h (2 ^ suc k) x y) (in_turn (parts s) 4) (met [] (Err Split))
     unfolding by_byte
     by_byte_lem zero f o = refl
     by_byte_lem (suc zero) f o = same_in_turn (λ p. get_or t p 0 ≡ get_or s p 0) (parts s) (parts t) below f 4 o
     by_byte_lem (suc (suc n)) f o = refl
 
     abbrev cut : List ℕ → ℕ → Walk
-    cut z n = by_byte n (leaf_walk w h (2 ^ suc k) x y) (in_turn (parts z) 4) (met [] (Refused Split))
+    cut z n = by_byte n (leaf_walk w h (2 ^ suc k) x y) (in_turn (parts z) 4) (met [] (Err Split))
 
     by_start : (a b : Bool) → ((i : ℕ) → AgreeAt (below i) s t → parts t i ≡ parts s i) →
         AgreeAt (pick a (pick b (place k x y ∷ by_byte (get_or s (place k x y) 0) [] (in_turn_reached (parts s) below 4) []) []) []) s t →
@@ -119,7 +119,7 @@ module _ (s t : List ℕ) (w h : ℕ) (o : AgreeAt (picture_reached s w h) s t) 
   leaves_upto zero e = refl
   leaves_upto (suc n) e = ap₂ ◌++◌ (leaves_upto n (λ i l. e i (omega arith))) (ap (λ (v : Walk). v.list) (e n (omega arith)))
 
-  same_leaves : (picture_walk s w h).answer ≡ Done → all_leaves t w h ≡ all_leaves s w h
+  same_leaves : (picture_walk s w h).answer ≡ Ok tt → all_leaves t w h ≡ all_leaves s w h
   same_leaves e = leaves_upto (roots w h) (same_each Agree (root_walk s w h) (root_walk t w h) (root_reached s w h) (same_root s t w h) (roots w h) o e)
 
   pub same_tree : SameTree s t w h

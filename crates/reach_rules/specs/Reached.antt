@@ -1,9 +1,8 @@
 -- Which split bytes a walk reaches, by their places, in the order of the walk. A walk that is refused reaches none after that; other bytes are never read.
 -- Assumes nothing: these are definitions.
-use Rattle.std.specs.Prelude.{ℕ, zero, suc, ◌+◌, ◌*◌, ◌/◌, ◌%◌, ◌^◌, Bool, ◌≡◌, ltb, get_or}
+use Rattle.std.specs.Prelude.{ℕ, zero, suc, ◌+◌, ◌*◌, ◌/◌, ◌%◌, ◌^◌, Bool, ◌≡◌, ltb, get_or, Ok, Err}
 use mathlib.Core.List.{List, [], ◌∷◌, ◌++◌, Memᴰ, map}
-use Rattle.def.specs.declared.Answer.{Answer}
-use Rattle.def.specs.declared.Answer.TheVariants.{Done, Refused}
+use Rattle.def.specs.Answers.{Answer}
 use Rattle.laws.specs.Index.{pick}
 use Rattle.split.specs.Edges.{Pass, edge_list}
 use Rattle.split.specs.Picture.{roots, root_bytes, root_x, root_y, root_walk, picture_walk, all_leaves}
@@ -11,8 +10,8 @@ use Rattle.split.specs.Walk.{Walk, in_turn, by_byte, place, part, walk}
 
 -- what is reached next, unless the walk so far was refused
 unfoldable pub next_reached : Answer → List ℕ → List ℕ
-next_reached Done l = l
-next_reached (Refused r) l = []
+next_reached (Ok _) l = l
+next_reached (Err r) l = []
 
 -- walks in turn: f walks, and r is what each would reach
 unfoldable pub in_turn_reached : (ℕ → Walk) → (ℕ → List ℕ) → ℕ → List ℕ
@@ -47,5 +46,5 @@ AgreeAt l s t = (p : ℕ) → Memᴰ p l → get_or t p 0 ≡ get_or s p 0
 -- of two maps that agree where the walk of the first reaches: one walk, and so one answer; where it is done, the same leaves and the same lists of edges
 pub record SameTree (s t : List ℕ) (w h : ℕ) : Type 0 where
   pub walk : picture_walk t w h ≡ picture_walk s w h
-  pub leaves : (picture_walk s w h).answer ≡ Done → all_leaves t w h ≡ all_leaves s w h
-  pub edges : (picture_walk s w h).answer ≡ Done → (d : Pass) (halved : Bool) → edge_list d halved t w h ≡ edge_list d halved s w h
+  pub leaves : (picture_walk s w h).answer ≡ Ok tt → all_leaves t w h ≡ all_leaves s w h
+  pub edges : (picture_walk s w h).answer ≡ Ok tt → (d : Pass) (halved : Bool) → edge_list d halved t w h ≡ edge_list d halved s w h

@@ -2,6 +2,7 @@
 --     lent     into a block: a side, and lengths, that pass
 --     fitting    into a plane: the block fits the plane, counted in the component's samples
 -- Assumes nothing.
+use Rattle.std.specs.Prelude.{Ok}
 use Prim.Native.Nat.{ℕ, ◌+◌, ◌*◌, ◌/◌, ◌≤◌, ◌<◌}
 use mathlib.Core.Path.{◌≡◌}
 use mathlib.Core.Bool.{true}
@@ -16,7 +17,6 @@ use Rattle.laws.proofs.Calls.{all_at}
 use Rattle.def.specs.Components.{scale_of}
 use Rattle.def.specs.declared.Component.{Component}
 use Rattle.def.specs.declared.Component.TheVariants.{Luma, Chroma}
-use Rattle.def.specs.declared.Answer.TheVariants.{Done}
 use Rattle.def.proofs.Blocks.{blocked}
 use Rattle.def.proofs.Ladders.{passes}
 use Rattle.def.proofs.Sides.{component_side}
@@ -32,7 +32,7 @@ pub record Lent (side : ℕ) (pred : List ℕ) (coef rec : ℕ) : Type 0 where
   pub rec_long : rec ≡ side * side
   pub good : samples_ok pred ≡ true
 
-pub lent : (side : ℕ) (pred : List ℕ) (coef rec : ℕ) → block_check side pred coef rec ≡ Done → Lent side pred coef rec
+pub lent : (side : ℕ) (pred : List ℕ) (coef rec : ℕ) → block_check side pred coef rec ≡ Ok tt → Lent side pred coef rec
 unfolding block_check lengths_ok
 lent side pred coef rec e =
     let first = passes _ _ _ e in
@@ -62,7 +62,7 @@ inside Chroma w h x y side a b p q = record { some = omega arith; across = omega
 rows_below : (r w h l : ℕ) → r ≤ h → l ≡ w * h → r * w ≤ l
 rows_below r w h l p e = omega (arith, mul-le-mul_right w p, mul_comm h w)
 
-pub fitting : (c : Component) (w h x y side : ℕ) (pred : List ℕ) (coef : List ℤ) (rec : List ℕ) → plane_check c w h x y side pred (length coef) (length rec) ≡ Done
+pub fitting : (c : Component) (w h x y side : ℕ) (pred : List ℕ) (coef : List ℤ) (rec : List ℕ) → plane_check c w h x y side pred (length coef) (length rec) ≡ Ok tt
     → Fitting (w / scale_of c) (x / scale_of c) (y / scale_of c) (side / scale_of c) pred coef rec
 unfolding plane_check block_lengths_ok
 fitting c w h x y side pred coef rec e =

@@ -3,7 +3,7 @@
 --     block_ok_lem, plane_ok    so what is written passes the test of samples: a block, and a plane that passed before
 --     reconstructs, reconstructs_plane     a call whose input is right is done, and does not refuse
 -- Assumes nothing.
-use Prim.Native.Nat.{ℕ, ◌+◌, ◌*◌, ◌/◌, ◌%◌, ◌≤◌, ◌<◌}
+use Prim.Native.Nat.{ℕ, ◌*◌, ◌/◌, ◌%◌, ◌≤◌, ◌<◌}
 use mathlib.Core.Path.{◌≡◌, subst}
 use mathlib.Core.Bool.{Bool, true, false}
 use mathlib.Core.List.{List}

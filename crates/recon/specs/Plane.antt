@@ -1,6 +1,6 @@
 -- Residual addition into one component's plane of a picture, at a block named by its luma place and side.
 -- Assumes nothing: these are definitions.
-use Rattle.std.specs.Prelude.{ℕ, ◌+◌, ◌*◌, ◌/◌, ◌≤◌, ◌<◌, ◌≡◌, Bool, true, List, [], ◌∷◌, eqb, ℤ, length}
+use Rattle.std.specs.Prelude.{ℕ, ◌+◌, ◌*◌, ◌/◌, ◌≤◌, ◌<◌, ◌≡◌, Bool, true, List, [], ◌∷◌, eqb, ℤ, length, Ok, Err}
 use Rattle.laws.specs.Call.{unless, all_of}
 use Rattle.laws.specs.Plane.{with_block}
 use Rattle.def.specs.Answers.{after_checks}
@@ -11,8 +11,7 @@ use Rattle.def.specs.Refusals.{number_of}
 use Rattle.def.specs.declared.Component.{Component}
 use Rattle.def.specs.declared.Refusal.{Refusal}
 use Rattle.def.specs.declared.Refusal.TheVariants.{Size, Block, Length, Sample}
-use Rattle.def.specs.declared.Answer.{Answer}
-use Rattle.def.specs.declared.Answer.TheVariants.{Done, Refused}
+use Rattle.def.specs.Answers.{Answer}
 use Rattle.samples.specs.Samples.{samples_ok}
 use Rattle.recon.specs.Recon.{Outcome, block_at}
 
@@ -39,12 +38,12 @@ block_lengths_ok n pred coef = all_of (eqb pred (n * n) ∷ eqb coef (n * n) ∷
 -- by the lengths of the residual and the plane
 unfoldable pub plane_check : (component : Component) (w h x y side : ℕ) (pred : List ℕ) (coef rec : ℕ) → Answer
 plane_check component w h x y side pred coef rec =
-    unless (size_ok w h) (Refused Size)
-    (unless (eqb rec (plane_length component w h)) (Refused Length)
-    (unless (block_ok w h x y side) (Refused Block)
-    (unless (block_lengths_ok (side / scale_of component) (length pred) coef) (Refused Length)
-    (unless (samples_ok pred) (Refused Sample)
-    Done))))
+    unless (size_ok w h) (Err Size)
+    (unless (eqb rec (plane_length component w h)) (Err Length)
+    (unless (block_ok w h x y side) (Err Block)
+    (unless (block_lengths_ok (side / scale_of component) (length pred) coef) (Err Length)
+    (unless (samples_ok pred) (Err Sample)
+    (Ok tt)))))
 
 abbrev pub check : Input → Answer
 check i = plane_check i.component i.w i.h i.x i.y i.side i.pred (length i.coef) (length i.rec)

@@ -1,6 +1,6 @@
 -- Residual addition: one sample, and the two calls of `recon`: into a block, and into a picture's plane.
 -- Assumes nothing: these are definitions.
-use Rattle.std.specs.Prelude.{ℕ, ◌+◌, ◌*◌, Bool, List, [], ◌∷◌, eqb, ℤ, pos, ◌+ℤ◌, length, get_or}
+use Rattle.std.specs.Prelude.{ℕ, ◌+◌, ◌*◌, Bool, List, [], ◌∷◌, eqb, ℤ, pos, ◌+ℤ◌, length, get_or, Ok, Err}
 use Rattle.laws.specs.Call.{unless, all_of}
 use Rattle.laws.specs.Clip.{sample_z}
 use Rattle.laws.specs.Index.{pick, tabulate}
@@ -9,8 +9,7 @@ use Rattle.def.specs.Blocks.{component_side_ok}
 use Rattle.def.specs.Refusals.{number_of}
 use Rattle.def.specs.declared.Refusal.{Refusal}
 use Rattle.def.specs.declared.Refusal.TheVariants.{Block, Length, Sample}
-use Rattle.def.specs.declared.Answer.{Answer}
-use Rattle.def.specs.declared.Answer.TheVariants.{Done, Refused}
+use Rattle.def.specs.Answers.{Answer}
 use Rattle.samples.specs.Samples.{samples_ok}
 
 -- the prediction p, or clip(0, 1023, p + r) where coded
@@ -45,10 +44,10 @@ lengths_ok side pred coef rec = all_of (eqb pred (side * side) ∷ eqb coef (sid
 -- by the lengths of the residual and the block
 unfoldable pub block_check : (side : ℕ) (pred : List ℕ) (coef rec : ℕ) → Answer
 block_check side pred coef rec =
-    unless (component_side_ok side) (Refused Block)
-    (unless (lengths_ok side (length pred) coef rec) (Refused Length)
-    (unless (samples_ok pred) (Refused Sample)
-    Done))
+    unless (component_side_ok side) (Err Block)
+    (unless (lengths_ok side (length pred) coef rec) (Err Length)
+    (unless (samples_ok pred) (Err Sample)
+    (Ok tt)))
 
 abbrev pub check : Input → Answer
 check i = block_check i.side i.pred (length i.coef) (length i.rec)

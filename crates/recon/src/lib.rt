@@ -13,7 +13,7 @@ ghost use Rattle.recon.specs.Plane as plane;
 ghost use Rattle.recon.specs.Plane.{Fitting, block_lengths_ok, plane_check};
 ghost use Rattle.recon.specs.Recon.{recon_at, block_at, lengths_ok, block_check, outcome};
 
-use def::{Answer, Component, Pel, Refusal};
+use def::{Component, Pel, Refusal};
 
 // A residual held within -1023..1023: of a sample it makes the same, and their sum fits 16 bits, so that more are added at a time.
 fn held(r: i16) -> i16
@@ -45,15 +45,15 @@ fn reconstructed(p: u16, r: i16) -> u16
 
 // ---- rows: n samples of `rec` from place `at`
 
-// They are the prediction's from place `from`.
-fn copy_row(rec: &mut [u16], at: usize, pred: &[u16], from: usize, n: usize)
-    requires { (at + n ≤ length rec.old) × (from + n ≤ length pred.now) }
-    ensures { rec.new ≡ with_row 0 at n (λ (j : ℕ). get_or pred.now (from + j) 0) rec.old }
+// n samples of `to` from place `at` become those of `given` from place `from`.
+// kept: in each crate that copies rows, as a public function has no `requires`, and a total one misses the bar of speed (docs/DECISIONS.md); and index by
+// index, as `copy_from_slice` of each short row misses it too: 11 in 100 instructions more where a block of 4 that is not coded is laid into a plane.
+fn copy_row(to: &mut [u16], at: usize, given: &[u16], from: usize, n: usize)
+    requires { (at + n ≤ length to.old) × (from + n ≤ length given.now) }
+    ensures { to.new ≡ with_row 0 at n (λ (j : ℕ). get_or given.now (from + j) 0) to.old }
 {
-    let mut j = 0;
-    while j < n {
-        rec[at + j] = pred[from + j];
-        j += 1;
+    for j in 0..n {
+        to[at + j] = given[from + j];
     }
 }
 
@@ -62,10 +62,8 @@ fn add_row(rec: &mut [u16], at: usize, pred: &[u16], coef: &[i16], from: usize, 
     requires { (at + n ≤ length rec.old) × (from + n ≤ length pred.now) × (from + n ≤ length coef.now) × (samples_ok pred.now ≡ true) }
     ensures { rec.new ≡ with_row 0 at n (λ (j : ℕ). sample_z (pos (get_or pred.now (from + j) 0) +ℤ get_or coef.now (from + j) (pos 0))) rec.old }
 {
-    let mut j = 0;
-    while j < n {
+    for j in 0..n {
         rec[at + j] = reconstructed(pred[from + j], coef[from + j]);
-        j += 1;
     }
 }
 
@@ -100,34 +98,36 @@ fn lengths_ok(side: usize, pred: usize, coef: usize, rec: usize) -> bool
     (pred == n) & (coef == n) & (rec == n)
 }
 
-fn checked(side: usize, pred: &[u16], coef: usize, rec: usize) -> Answer
+fn checked(side: usize, pred: &[u16], coef: usize, rec: usize) -> Result<(), Refusal>
     ensures { result ≡ block_check side pred.now coef rec }
 {
     if !def::component_side_ok(side) {
-        return Answer::Refused(Refusal::Block);
+        return Err(Refusal::Block);
     }
     if !lengths_ok(side, pred.len(), coef, rec) {
-        return Answer::Refused(Refusal::Length);
+        return Err(Refusal::Length);
     }
     if !samples::samples_ok(pred) {
-        return Answer::Refused(Refusal::Sample);
+        return Err(Refusal::Sample);
     }
-    Answer::Done
+    Ok(())
 }
 
 // A block lies flat in its slice, so all of it is one row.
-pub fn recon(coded: bool, side: usize, pred: &[u16], coef: &[i16], rec: &mut [u16]) -> Answer
+pub fn recon(
+    coded: bool,
+    side: usize,
+    pred: &[u16],
+    coef: &[i16],
+    rec: &mut [u16],
+) -> Result<(), Refusal>
     ensures { Gives outcome
         (record { coded = coded; side = side; pred = pred.now; coef = coef.now; rec = rec.old })
         (record { number = answer_number result; rec = rec.new }) }
 {
-    match checked(side, pred, coef.len(), rec.len()) {
-        Answer::Refused(r) => Answer::Refused(r),
-        Answer::Done => {
-            recon_row(coded, rec, 0, pred, coef, 0, side * side);
-            Answer::Done
-        }
-    }
+    checked(side, pred, coef.len(), rec.len())?;
+    recon_row(coded, rec, 0, pred, coef, 0, side * side);
+    Ok(())
 }
 
 // ---- into a plane
@@ -146,10 +146,8 @@ fn recon_rows(
     requires { Fitting w x y n pred.now coef.now rec.old }
     ensures { rec.new ≡ with_block 0 w x y n n (block_at coded pred.now coef.now n) rec.old }
 {
-    let mut r = 0;
-    while r < n {
+    for r in 0..n {
         recon_row(coded, rec, (y + r) * w + x, pred, coef, r * n, n);
-        r += 1;
     }
 }
 
@@ -169,10 +167,8 @@ fn recon_small(
 {
     let mut own = [0u16; 16];
     recon_row(coded, &mut own, 0, pred, coef, 0, n * n);
-    let mut r = 0;
-    while r < n {
+    for r in 0..n {
         copy_row(rec, (y + r) * w + x, &own, r * n, n);
-        r += 1;
     }
 }
 
@@ -227,25 +223,25 @@ fn checked_plane(
     pred: &[u16],
     coef: usize,
     rec: usize,
-) -> Answer
+) -> Result<(), Refusal>
     ensures { result ≡ plane_check component w h x.0 y.0 side pred.now coef rec }
 {
     if !def::size_ok(w, h) {
-        return Answer::Refused(Refusal::Size);
+        return Err(Refusal::Size);
     }
     if !plane_length_ok(component, w, h, rec) {
-        return Answer::Refused(Refusal::Length);
+        return Err(Refusal::Length);
     }
     if !def::block_ok(w, h, x, y, side) {
-        return Answer::Refused(Refusal::Block);
+        return Err(Refusal::Block);
     }
     if !block_lengths_ok(component, side, pred.len(), coef) {
-        return Answer::Refused(Refusal::Length);
+        return Err(Refusal::Length);
     }
     if !samples::samples_ok(pred) {
-        return Answer::Refused(Refusal::Sample);
+        return Err(Refusal::Sample);
     }
-    Answer::Done
+    Ok(())
 }
 
 // Into a component's plane of a picture of w by h, the block at luma place (x, y) of luma side `side`.
@@ -260,20 +256,16 @@ pub fn recon_plane(
     pred: &[u16],
     coef: &[i16],
     rec: &mut [u16],
-) -> Answer
+) -> Result<(), Refusal>
     ensures { Gives plane.outcome
         (record { component = component; w = w; h = h; x = x.0; y = y.0; side = side; coded = coded; pred = pred.now; coef = coef.now; rec = rec.old })
         (record { number = answer_number result; rec = rec.new }) }
 {
-    match checked_plane(component, w, h, x, y, side, pred, coef.len(), rec.len()) {
-        Answer::Refused(r) => Answer::Refused(r),
-        Answer::Done => {
-            let column = def::in_component(component, x.0);
-            let row = def::in_component(component, y.0);
-            let wide = def::in_component(component, w);
-            let n = def::in_component(component, side);
-            recon_block(coded, wide, column, row, n, pred, coef, rec);
-            Answer::Done
-        }
-    }
+    checked_plane(component, w, h, x, y, side, pred, coef.len(), rec.len())?;
+    let column = def::in_component(component, x.0);
+    let row = def::in_component(component, y.0);
+    let wide = def::in_component(component, w);
+    let n = def::in_component(component, side);
+    recon_block(coded, wide, column, row, n, pred, coef, rec);
+    Ok(())
 }

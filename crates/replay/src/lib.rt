@@ -4,11 +4,17 @@
 // holds has gained; after an error it may hold a part of them.
 #![tactic(auto)]
 
-ghost use Rattle.std.specs.Prelude.{◌≡◌, ◌-◌, ◌≤◌, length, OnOk, [], ◌∷◌};
+ghost use Rattle.std.specs.Prelude.{◌≡◌, ◌-◌, ◌≤◌, ◌==◌, if◌then◌else◌, length, OnOk, MatchResult, [], ◌∷◌, ◌++◌, List, ℕ, Some, refl};
 ghost use Rattle.std.specs.Fmt.{decimal, signed_decimal};
 ghost use Rattle.std.specs.Io.KnownBytes.{Appends};
 ghost use Rattle.std.specs.List.{flat_map};
+ghost use Rattle.def.specs.Refusals.{number_of};
+ghost use Rattle.def.specs.declared.Component.TheVariants.{Luma, Chroma};
+ghost use Rattle.def.specs.declared.Format.TheVariants.{Grey, Colour};
 
+use cases::Case;
+use def::{Component, Format, Refusal};
+use std::fmt::Display;
 use std::fs::File;
 use std::io::{self, Eprint, Read, Stdout, Write};
 use std::rt::Files;
@@ -20,12 +26,8 @@ pub fn output(rt: &HostRuntime) -> Output {
     rt.stdout()
 }
 
-// Room for the largest file of cases. A call keeps the checker from looking into the array.
-pub fn room() -> [u8; 6000000]
-    ensures { Unit {0} }
-{
-    [0u8; 6000000]
-}
+// How many bytes the largest file of cases may have.
+const ROOM: usize = 6000000;
 
 // Reads the file of cases into room, and answers how many bytes there were.
 pub fn load(rt: &(impl Files<File = File> + Eprint), room: &mut [u8]) -> usize
@@ -45,6 +47,7 @@ fn read_full(rt: &impl Eprint, mut file: File, room: &mut [u8]) -> usize
     ensures { result ≤ length room.new }
 {
     let mut done = 0;
+    // kept: a loop over `read`, since `read_to_end` takes memory, which no program here needs, and `read_exact` tells no count of a shorter file.
     while done < room.len() {
         match file.read(&mut room[done..]) {
             Ok(0) => break,
@@ -68,13 +71,47 @@ fn say(rt: &impl Eprint, error: io::Error) {
 pub fn after(s: &[u8], at: usize, end: usize) -> usize
     ensures { length s.now - result ≤ (length s.now - at) - 1 }
 {
-    if end < at {
-        return s.len();
+    if at <= end && end < s.len() {
+        end + 1
+    } else {
+        s.len()
     }
-    if s.len() <= end {
-        return s.len();
+}
+
+// Hands each case of the file in turn to `one`, in a room of N bytes. The number is a parameter, so that the checker does not look into the room.
+fn each_in<const N: usize, F: Fn(&mut Output, &mut Case<'_>) -> io::Result<()>>(
+    rt: &HostRuntime,
+    one: F,
+) -> io::Result<()>
+where
+    F: Drop,
+    requires callable { F.IsAlwaysCallable one }
+    requires in_memory { N ≤ 6000000 }
+{
+    let mut all = [0u8; N];
+    let n = load(rt, &mut all);
+    let text = &all[..n];
+    let mut out = output(rt);
+    let mut at = 0;
+    // kept: a `while`, since only `one` finds where its case ends, so that no iterator can have the cases.
+    while at < text.len() {
+        let mut case = Case { text, at };
+        one(&mut out, &mut case)?;
+        at = after(text, at, case.at);
     }
-    end + 1
+    out.flush()
+}
+
+// Hands each case of the file in turn to `one`, which reads it and prints the line of its answer.
+pub fn each_case<F: Fn(&mut Output, &mut Case<'_>) -> io::Result<()>>(
+    rt: &HostRuntime,
+    one: F,
+) -> io::Result<()>
+where
+    F: Drop,
+    requires { F.IsAlwaysCallable one }
+{
+    each_in::<ROOM, F>(rt, one)
 }
 
 // The first number of an answer's line.
@@ -91,71 +128,95 @@ pub fn print_end<W: Write>(out: &mut W) -> io::Result<()>
     out.write_all(b"\n")
 }
 
-pub fn print_u8<W: Write>(out: &mut W, values: &[u8]) -> io::Result<()>
-    ensures { OnOk result (Appends (W.contents out.old) (W.contents out.new) (flat_map (λ n. 32 ∷ decimal n) values.now)) }
+// A number that is printed in decimal digits.
+pub trait Numeral: Display {
+    // Its digits, after a minus where it is below 0.
+    ghost digits: { Self → List ℕ };
+
+    // They are what it displays.
+    ghost displays: { (n : Self) → Self.output n ≡ Some (digits n) };
+}
+
+impl Numeral for u8 {
+    ghost digits = { decimal };
+
+    ghost displays = { λ n. refl };
+}
+
+impl Numeral for u16 {
+    ghost digits = { decimal };
+
+    ghost displays = { λ n. refl };
+}
+
+impl Numeral for u32 {
+    ghost digits = { decimal };
+
+    ghost displays = { λ n. refl };
+}
+
+impl Numeral for usize {
+    ghost digits = { decimal };
+
+    ghost displays = { λ n. refl };
+}
+
+impl Numeral for i8 {
+    ghost digits = { signed_decimal };
+
+    ghost displays = { λ n. refl };
+}
+
+impl Numeral for i16 {
+    ghost digits = { signed_decimal };
+
+    ghost displays = { λ n. refl };
+}
+
+// A number of an answer's line, after a space.
+pub fn print<T: Numeral + Drop, W: Write>(out: &mut W, number: T) -> io::Result<()>
+    ensures { OnOk result (Appends (W.contents out.old) (W.contents out.new) (32 ∷ T.digits number)) }
 {
-    for n in values {
+    write!(out, " {number}")
+}
+
+// Numbers of an answer's line, each after a space.
+pub fn print_all<T: Numeral, W: Write>(out: &mut W, numbers: &[T]) -> io::Result<()>
+    ensures { OnOk result (Appends (W.contents out.old) (W.contents out.new) (flat_map (λ n. 32 ∷ T.digits n) numbers.now)) }
+{
+    for n in numbers {
         write!(out, " {n}")?;
     }
     Ok(())
 }
 
-pub fn print_u16<W: Write>(out: &mut W, values: &[u16]) -> io::Result<()>
-    ensures { OnOk result (Appends (W.contents out.old) (W.contents out.new) (flat_map (λ n. 32 ∷ decimal n) values.now)) }
+// The line of a call that counts begins with its number and its count, which is 0 where it refused.
+pub fn print_count<W: Write>(out: &mut W, answer: Result<usize, Refusal>) -> io::Result<()>
+    ensures { MatchResult answer
+        (λ n. OnOk result (Appends (W.contents out.old) (W.contents out.new) (decimal 0 ++ 32 ∷ decimal n)))
+        (λ r. OnOk result (Appends (W.contents out.old) (W.contents out.new) (decimal (number_of r) ++ 32 ∷ decimal 0))) }
 {
-    for n in values {
-        write!(out, " {n}")?;
+    let (number, count) = match answer {
+        Ok(count) => (0, count),
+        Err(refusal) => (def::refusal_number(refusal), 0),
+    };
+    print_first(out, number)?;
+    print(out, count)
+}
+
+// A chroma format, by whether a case has colour.
+pub fn format_of(colour: bool) -> Format
+    ensures { result ≡ (if colour then Colour else Grey) }
+{
+    if colour { Format::Colour } else { Format::Grey }
+}
+
+// A component by a case's number of it, of which 0 is luma.
+pub fn component_of(number: usize) -> Component
+    ensures { result ≡ (if number == 0 then Luma else Chroma) }
+{
+    match number {
+        0 => Component::Luma,
+        _ => Component::Chroma,
     }
-    Ok(())
-}
-
-pub fn print_u32<W: Write>(out: &mut W, values: &[u32]) -> io::Result<()>
-    ensures { OnOk result (Appends (W.contents out.old) (W.contents out.new) (flat_map (λ n. 32 ∷ decimal n) values.now)) }
-{
-    for n in values {
-        write!(out, " {n}")?;
-    }
-    Ok(())
-}
-
-// A number below 0 has its minus, and its size from below.
-fn print_signed<W: Write>(out: &mut W, v: i16) -> io::Result<()>
-    ensures { OnOk result (Appends (W.contents out.old) (W.contents out.new) (32 ∷ signed_decimal v)) }
-{
-    let wide = i32::from(v);
-    if wide < 0 {
-        write!(out, " -{}", (0 - wide) as u64)
-    } else {
-        write!(out, " {}", wide as u64)
-    }
-}
-
-fn print_signed_byte<W: Write>(out: &mut W, v: i8) -> io::Result<()>
-    ensures { OnOk result (Appends (W.contents out.old) (W.contents out.new) (32 ∷ signed_decimal v)) }
-{
-    print_signed(out, i16::from(v))
-}
-
-pub fn print_i8<W: Write>(out: &mut W, values: &[i8]) -> io::Result<()>
-    ensures { OnOk result (Appends (W.contents out.old) (W.contents out.new) (flat_map (λ v. 32 ∷ signed_decimal v) values.now)) }
-{
-    for v in values {
-        print_signed_byte(out, *v)?;
-    }
-    Ok(())
-}
-
-pub fn print_i16<W: Write>(out: &mut W, values: &[i16]) -> io::Result<()>
-    ensures { OnOk result (Appends (W.contents out.old) (W.contents out.new) (flat_map (λ v. 32 ∷ signed_decimal v) values.now)) }
-{
-    for v in values {
-        print_signed(out, *v)?;
-    }
-    Ok(())
-}
-
-pub fn print_usize<W: Write>(out: &mut W, n: usize) -> io::Result<()>
-    ensures { OnOk result (Appends (W.contents out.old) (W.contents out.new) (32 ∷ decimal n)) }
-{
-    write!(out, " {n}")
 }

@@ -2,106 +2,36 @@
 // and both tables as it leaves them.
 #![tactic(auto)]
 
+use cases::Case;
 use replay::Output;
-use std::io::{self, Write};
+use std::io;
 
-fn one(stdout: &mut Output, s: &[u8], at: usize) -> io::Result<usize> {
-    let global = cases::number(s, at);
-    let same = cases::number(s, global.next);
-    let mut a0 = [0i8; 128];
-    let mut b0 = [0i8; 128];
-    let mut a1 = [0i8; 128];
-    let mut b1 = [0i8; 128];
-    let count0 = cases::number(s, same.next);
-    let pa0 = cases::slice_i8(s, count0.next, &mut a0);
-    let pb0 = cases::slice_i8(s, pa0.next, &mut b0);
-    let count1 = cases::number(s, pb0.next);
-    let pa1 = cases::slice_i8(s, count1.next, &mut a1);
-    let pb1 = cases::slice_i8(s, pa1.next, &mut b1);
-    tables(
-        stdout,
-        s,
-        pb1.next,
-        global.size == 1,
-        same.size == 1,
-        count0.size,
-        &a0[..pa0.len],
-        &b0[..pb0.len],
-        count1.size,
-        &a1[..pa1.len],
-        &b1[..pb1.len],
-    )
-}
-
-fn tables(
-    stdout: &mut Output,
-    s: &[u8],
-    at: usize,
-    global: bool,
-    same: bool,
-    count0: usize,
-    a0: &[i8],
-    b0: &[i8],
-    count1: usize,
-    a1: &[i8],
-    b1: &[i8],
-) -> io::Result<usize> {
-    let mut t0 = [0i8; 128];
-    let mut t1 = [0i8; 128];
-    let pt0 = cases::slice_i8(s, at, &mut t0);
-    let pt1 = cases::slice_i8(s, pt0.next, &mut t1);
-    derived(
-        stdout,
-        global,
-        same,
-        count0,
-        a0,
-        b0,
-        count1,
-        a1,
-        b1,
-        &mut t0[..pt0.len],
-        &mut t1[..pt1.len],
-    )?;
-    Ok(pt1.next)
-}
-
-fn derived(
-    stdout: &mut Output,
-    global: bool,
-    same: bool,
-    count0: usize,
-    a0: &[i8],
-    b0: &[i8],
-    count1: usize,
-    a1: &[i8],
-    b1: &[i8],
-    t0: &mut [i8],
-    t1: &mut [i8],
-) -> io::Result<()> {
+fn one(out: &mut Output, case: &mut Case<'_>) -> io::Result<()> {
+    let global = case.number() == 1;
+    let same = case.number() == 1;
+    let count0 = case.number();
+    let mut in0 = [0i8; 128];
+    let in0 = case.slice(&mut in0);
+    let mut out0 = [0i8; 128];
+    let out0 = case.slice(&mut out0);
+    let count1 = case.number();
+    let mut in1 = [0i8; 128];
+    let in1 = case.slice(&mut in1);
+    let mut out1 = [0i8; 128];
+    let out1 = case.slice(&mut out1);
+    let mut table0 = [0i8; 128];
+    let table0 = case.slice(&mut table0);
+    let mut table1 = [0i8; 128];
+    let table1 = case.slice(&mut table1);
     let answer = chroma_qp::derived_chroma_qp_mapping_tables(
-        global, same, count0, a0, b0, count1, a1, b1, t0, t1,
+        global, same, count0, in0, out0, count1, in1, out1, table0, table1,
     );
-    replay::print_first(stdout, def::answer_number(answer))?;
-    replay::print_i8(stdout, t0)?;
-    replay::print_i8(stdout, t1)?;
-    replay::print_end(stdout)
-}
-
-// Every case in turn.
-fn every(stdout: &mut Output, s: &[u8]) -> io::Result<()> {
-    let mut at = 0;
-    while at < s.len() {
-        let end = one(stdout, s, at)?;
-        at = replay::after(s, at, end);
-    }
-    Ok(())
+    replay::print_first(out, def::answer_number(answer))?;
+    replay::print_all(out, table0)?;
+    replay::print_all(out, table1)?;
+    replay::print_end(out)
 }
 
 fn main(rt: HostRuntime) -> io::Result<()> {
-    let mut all = replay::room();
-    let n = replay::load(&rt, &mut all);
-    let mut stdout = replay::output(&rt);
-    every(&mut stdout, &all[..n])?;
-    stdout.flush()
+    replay::each_case(&rt, one)
 }

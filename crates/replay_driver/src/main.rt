@@ -2,172 +2,85 @@
 // the planes, the unit words, the modes and the keep bytes as it leaves them.
 #![tactic(auto)]
 
+use cases::Case;
 use def::Format;
 use replay::Output;
-use std::io::{self, Write};
+use std::io;
 
-// What a call names beside its slices.
+// What a call names, and what it is lent to read: the split bytes, the two lists of their leaves, and the prediction.
 #[derive(Clone, Copy)]
-struct Head {
+struct Given<'a> {
     w: usize,
     h: usize,
     format: Format,
     constrained: bool,
-}
-
-// The split bytes, and the two lists of their leaves.
-#[derive(Clone, Copy)]
-struct Tree<'a> {
     splits: &'a [u8],
     leaves: &'a [u8],
     residual: &'a [i16],
+    pred_y: &'a [u16],
+    pred_u: &'a [u16],
+    pred_v: &'a [u16],
 }
 
-// The lent prediction.
-#[derive(Clone, Copy)]
-struct Prediction<'a> {
-    y: &'a [u16],
-    u: &'a [u16],
-    v: &'a [u16],
-}
-
-fn format_of(colour: bool) -> Format {
-    if colour { Format::Colour } else { Format::Grey }
-}
-
-// The picture's size and two flags come first in a case, whether it has colour and whether its intra is constrained; then its split bytes
-// and the two lists of its leaves.
-fn one(stdout: &mut Output, s: &[u8], at: usize) -> io::Result<usize> {
-    let w = cases::number(s, at);
-    let h = cases::number(s, w.next);
-    let colour = cases::number(s, h.next);
-    let constrained = cases::number(s, colour.next);
-    let head = Head {
-        w: w.size,
-        h: h.size,
-        format: format_of(colour.size == 1),
-        constrained: constrained.size == 1,
-    };
+// The picture's size and two flags come first in a case, whether it has colour and whether its intra is constrained; then its split bytes,
+// the two lists of its leaves, and the lent prediction.
+fn one(out: &mut Output, case: &mut Case<'_>) -> io::Result<()> {
+    let w = case.number();
+    let h = case.number();
+    let format = replay::format_of(case.number() == 1);
+    let constrained = case.number() == 1;
     let mut splits = [0u8; 67000];
-    let ps = cases::slice_u8(s, constrained.next, &mut splits);
+    let splits = case.slice(&mut splits);
     let mut leaves = [0u8; 5000];
-    let pl = cases::slice_u8(s, ps.next, &mut leaves);
+    let leaves = case.slice(&mut leaves);
     let mut residual = [0i16; 30000];
-    let pr = cases::slice_i16(s, pl.next, &mut residual);
-    let tree = Tree {
-        splits: &splits[..ps.len],
-        leaves: &leaves[..pl.len],
-        residual: &residual[..pr.len],
+    let residual = case.slice(&mut residual);
+    let mut pred_y = [0u16; 20000];
+    let pred_y = case.slice(&mut pred_y);
+    let mut pred_u = [0u16; 5000];
+    let pred_u = case.slice(&mut pred_u);
+    let mut pred_v = [0u16; 5000];
+    let pred_v = case.slice(&mut pred_v);
+    let given = Given {
+        w,
+        h,
+        format,
+        constrained,
+        splits,
+        leaves,
+        residual,
+        pred_y,
+        pred_u,
+        pred_v,
     };
-    predictions(stdout, s, pr.next, head, tree)
+    reconstructed(out, case, &given)
 }
 
-// Then the lent prediction.
-fn predictions(
-    stdout: &mut Output,
-    s: &[u8],
-    at: usize,
-    head: Head,
-    tree: Tree<'_>,
-) -> io::Result<usize> {
+// Then the planes, the unit words, the modes and the keep bytes, and the call is made.
+fn reconstructed(out: &mut Output, case: &mut Case<'_>, g: &Given<'_>) -> io::Result<()> {
     let mut y = [0u16; 20000];
-    let py = cases::slice_u16(s, at, &mut y);
+    let y = case.slice(&mut y);
     let mut u = [0u16; 5000];
-    let pu = cases::slice_u16(s, py.next, &mut u);
+    let u = case.slice(&mut u);
     let mut v = [0u16; 5000];
-    let pv = cases::slice_u16(s, pu.next, &mut v);
-    let prediction = Prediction {
-        y: &y[..py.len],
-        u: &u[..pu.len],
-        v: &v[..pv.len],
-    };
-    planes(stdout, s, pv.next, head, tree, prediction)
-}
-
-// Then the planes.
-fn planes(
-    stdout: &mut Output,
-    s: &[u8],
-    at: usize,
-    head: Head,
-    tree: Tree<'_>,
-    prediction: Prediction<'_>,
-) -> io::Result<usize> {
-    let mut y = [0u16; 20000];
-    let py = cases::slice_u16(s, at, &mut y);
-    let mut u = [0u16; 5000];
-    let pu = cases::slice_u16(s, py.next, &mut u);
-    let mut v = [0u16; 5000];
-    let pv = cases::slice_u16(s, pu.next, &mut v);
-    maps(
-        stdout,
-        s,
-        pv.next,
-        head,
-        tree,
-        prediction,
-        &mut y[..py.len],
-        &mut u[..pu.len],
-        &mut v[..pv.len],
-    )
-}
-
-// The unit words, the modes and the keep bytes come last, and the call is made.
-fn maps(
-    stdout: &mut Output,
-    s: &[u8],
-    at: usize,
-    head: Head,
-    tree: Tree<'_>,
-    prediction: Prediction<'_>,
-    y: &mut [u16],
-    u: &mut [u16],
-    v: &mut [u16],
-) -> io::Result<usize> {
+    let v = case.slice(&mut v);
     let mut words = [0u32; 1300];
-    let pw = cases::slice_u32(s, at, &mut words);
+    let words = case.slice(&mut words);
     let mut modes = [0u8; 1300];
-    let pm = cases::slice_u8(s, pw.next, &mut modes);
+    let modes = case.slice(&mut modes);
     let mut keep = [0u8; 1300];
-    let pk = cases::slice_u8(s, pm.next, &mut keep);
-    reconstructed(
-        stdout,
-        head,
-        tree,
-        prediction,
-        y,
-        u,
-        v,
-        &mut words[..pw.len],
-        &mut modes[..pm.len],
-        &mut keep[..pk.len],
-    )?;
-    Ok(pk.next)
-}
-
-fn reconstructed(
-    stdout: &mut Output,
-    head: Head,
-    tree: Tree<'_>,
-    prediction: Prediction<'_>,
-    y: &mut [u16],
-    u: &mut [u16],
-    v: &mut [u16],
-    words: &mut [u32],
-    modes: &mut [u8],
-    keep: &mut [u8],
-) -> io::Result<()> {
+    let keep = case.slice(&mut keep);
     let answer = driver::reconstruct(
-        head.w,
-        head.h,
-        head.format,
-        tree.splits,
-        tree.leaves,
-        tree.residual,
-        prediction.y,
-        prediction.u,
-        prediction.v,
-        head.constrained,
+        g.w,
+        g.h,
+        g.format,
+        g.splits,
+        g.leaves,
+        g.residual,
+        g.pred_y,
+        g.pred_u,
+        g.pred_v,
+        g.constrained,
         &mut *y,
         &mut *u,
         &mut *v,
@@ -175,13 +88,13 @@ fn reconstructed(
         &mut *modes,
         &mut *keep,
     );
-    replay::print_first(stdout, def::answer_number(answer))?;
-    print(stdout, y, u, v, words, modes, keep)
+    replay::print_first(out, def::answer_number(answer))?;
+    print_written(out, y, u, v, words, modes, keep)
 }
 
 // What the call may have written.
-fn print(
-    stdout: &mut Output,
+fn print_written(
+    out: &mut Output,
     y: &[u16],
     u: &[u16],
     v: &[u16],
@@ -189,29 +102,15 @@ fn print(
     modes: &[u8],
     keep: &[u8],
 ) -> io::Result<()> {
-    replay::print_u16(stdout, y)?;
-    replay::print_u16(stdout, u)?;
-    replay::print_u16(stdout, v)?;
-    replay::print_u32(stdout, words)?;
-    replay::print_u8(stdout, modes)?;
-    replay::print_u8(stdout, keep)?;
-    replay::print_end(stdout)
-}
-
-// Every case in turn.
-fn every(stdout: &mut Output, s: &[u8]) -> io::Result<()> {
-    let mut at = 0;
-    while at < s.len() {
-        let end = one(stdout, s, at)?;
-        at = replay::after(s, at, end);
-    }
-    Ok(())
+    replay::print_all(out, y)?;
+    replay::print_all(out, u)?;
+    replay::print_all(out, v)?;
+    replay::print_all(out, words)?;
+    replay::print_all(out, modes)?;
+    replay::print_all(out, keep)?;
+    replay::print_end(out)
 }
 
 fn main(rt: HostRuntime) -> io::Result<()> {
-    let mut all = replay::room();
-    let n = replay::load(&rt, &mut all);
-    let mut stdout = replay::output(&rt);
-    every(&mut stdout, &all[..n])?;
-    stdout.flush()
+    replay::each_case(&rt, one)
 }

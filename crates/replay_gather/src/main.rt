@@ -2,102 +2,42 @@
 // as it leaves it.
 #![tactic(auto)]
 
-use def::{Component, Pel};
+use cases::Case;
+use def::Pel;
 use replay::Output;
-use std::io::{self, Write};
+use std::io;
 
-fn component(n: usize) -> Component {
-    if n == 0 {
-        return Component::Luma;
-    }
-    Component::Chroma
-}
-
-fn one(stdout: &mut Output, s: &[u8], at: usize) -> io::Result<usize> {
-    let c = cases::number(s, at);
-    let w = cases::number(s, c.next);
-    let h = cases::number(s, w.next);
+fn one(out: &mut Output, case: &mut Case<'_>) -> io::Result<()> {
+    let component = replay::component_of(case.number());
+    let w = case.number();
+    let h = case.number();
     let mut plane = [0u16; 40000];
-    let pp = cases::slice_u16(s, h.next, &mut plane);
+    let plane = case.slice(&mut plane);
     let mut words = [0u32; 4096];
-    let pw = cases::slice_u32(s, pp.next, &mut words);
-    gathered(
-        stdout,
-        s,
-        pw.next,
-        component(c.size),
-        w.size,
-        h.size,
-        &plane[..pp.len],
-        &words[..pw.len],
-    )
-}
-
-fn gathered(
-    stdout: &mut Output,
-    s: &[u8],
-    at: usize,
-    c: Component,
-    w: usize,
-    h: usize,
-    plane: &[u16],
-    words: &[u32],
-) -> io::Result<usize> {
-    let x = cases::number(s, at);
-    let y = cases::number(s, x.next);
-    let side = cases::number(s, y.next);
-    let constrained = cases::number(s, side.next);
+    let words = case.slice(&mut words);
+    let x = Pel(case.number());
+    let y = Pel(case.number());
+    let side = case.number();
+    let constrained = case.number() == 1;
     let mut run = [0u16; 512];
-    let pr = cases::slice_u16(s, constrained.next, &mut run);
-    filled(
-        stdout,
-        c,
+    let run = case.slice(&mut run);
+    let answer = nbr::get_nbr(
+        component,
         w,
         h,
         plane,
         words,
-        Pel(x.size),
-        Pel(y.size),
-        side.size,
-        constrained.size == 1,
-        &mut run[..pr.len],
-    )?;
-    Ok(pr.next)
-}
-
-fn filled(
-    stdout: &mut Output,
-    c: Component,
-    w: usize,
-    h: usize,
-    plane: &[u16],
-    words: &[u32],
-    x: Pel,
-    y: Pel,
-    side: usize,
-    constrained: bool,
-    run: &mut [u16],
-) -> io::Result<()> {
-    let answer = nbr::get_nbr(c, w, h, plane, words, x, y, side, constrained, run);
-    replay::print_first(stdout, def::answer_number(answer))?;
-    replay::print_u16(stdout, run)?;
-    replay::print_end(stdout)
-}
-
-// Every case in turn.
-fn every(stdout: &mut Output, s: &[u8]) -> io::Result<()> {
-    let mut at = 0;
-    while at < s.len() {
-        let end = one(stdout, s, at)?;
-        at = replay::after(s, at, end);
-    }
-    Ok(())
+        x,
+        y,
+        side,
+        constrained,
+        &mut *run,
+    );
+    replay::print_first(out, def::answer_number(answer))?;
+    replay::print_all(out, run)?;
+    replay::print_end(out)
 }
 
 fn main(rt: HostRuntime) -> io::Result<()> {
-    let mut all = replay::room();
-    let n = replay::load(&rt, &mut all);
-    let mut stdout = replay::output(&rt);
-    every(&mut stdout, &all[..n])?;
-    stdout.flush()
+    replay::each_case(&rt, one)
 }

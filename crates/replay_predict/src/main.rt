@@ -2,55 +2,23 @@
 // block as it leaves it.
 #![tactic(auto)]
 
+use cases::Case;
 use replay::Output;
-use std::io::{self, Write};
+use std::io;
 
-fn one(stdout: &mut Output, s: &[u8], at: usize) -> io::Result<usize> {
-    let mode = cases::number(s, at);
-    let side = cases::number(s, mode.next);
+fn one(out: &mut Output, case: &mut Case<'_>) -> io::Result<()> {
+    let mode = case.read();
+    let side = case.number();
     let mut run = [0u16; 512];
-    let pr = cases::slice_u16(s, side.next, &mut run);
+    let run = case.slice(&mut run);
     let mut block = [0u16; 5000];
-    let pb = cases::slice_u16(s, pr.next, &mut block);
-    predicted(
-        stdout,
-        (mode.size % 256) as u8,
-        side.size,
-        &run[..pr.len],
-        &mut block[..pb.len],
-    )?;
-    Ok(pb.next)
-}
-
-fn predicted(
-    stdout: &mut Output,
-    mode: u8,
-    side: usize,
-    run: &[u16],
-    block: &mut [u16],
-) -> io::Result<()> {
-    replay::print_first(
-        stdout,
-        def::answer_number(ipred::ipred_b(mode, side, run, block)),
-    )?;
-    replay::print_u16(stdout, block)?;
-    replay::print_end(stdout)
-}
-
-// Every case in turn.
-fn every(stdout: &mut Output, s: &[u8]) -> io::Result<()> {
-    let mut at = 0;
-    while at < s.len() {
-        let end = one(stdout, s, at)?;
-        at = replay::after(s, at, end);
-    }
-    Ok(())
+    let block = case.slice(&mut block);
+    let answer = ipred::ipred_b(mode, side, run, &mut *block);
+    replay::print_first(out, def::answer_number(answer))?;
+    replay::print_all(out, block)?;
+    replay::print_end(out)
 }
 
 fn main(rt: HostRuntime) -> io::Result<()> {
-    let mut all = replay::room();
-    let n = replay::load(&rt, &mut all);
-    let mut stdout = replay::output(&rt);
-    every(&mut stdout, &all[..n])?;
-    stdout.flush()
+    replay::each_case(&rt, one)
 }

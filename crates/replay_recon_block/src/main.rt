@@ -2,59 +2,25 @@
 // it answers, and the block as it leaves it.
 #![tactic(auto)]
 
+use cases::Case;
 use replay::Output;
-use std::io::{self, Write};
+use std::io;
 
-fn one(stdout: &mut Output, s: &[u8], at: usize) -> io::Result<usize> {
-    let coded = cases::number(s, at);
-    let side = cases::number(s, coded.next);
+fn one(out: &mut Output, case: &mut Case<'_>) -> io::Result<()> {
+    let coded = case.number() == 1;
+    let side = case.number();
     let mut pred = [0u16; 5000];
-    let pp = cases::slice_u16(s, side.next, &mut pred);
+    let pred = case.slice(&mut pred);
     let mut coef = [0i16; 5000];
-    let pc = cases::slice_i16(s, pp.next, &mut coef);
+    let coef = case.slice(&mut coef);
     let mut rec = [0u16; 5000];
-    let pr = cases::slice_u16(s, pc.next, &mut rec);
-    added(
-        stdout,
-        coded.size == 1,
-        side.size,
-        &pred[..pp.len],
-        &coef[..pc.len],
-        &mut rec[..pr.len],
-    )?;
-    Ok(pr.next)
-}
-
-fn added(
-    stdout: &mut Output,
-    coded: bool,
-    side: usize,
-    pred: &[u16],
-    coef: &[i16],
-    rec: &mut [u16],
-) -> io::Result<()> {
-    replay::print_first(
-        stdout,
-        def::answer_number(recon::recon(coded, side, pred, coef, rec)),
-    )?;
-    replay::print_u16(stdout, rec)?;
-    replay::print_end(stdout)
-}
-
-// Every case in turn.
-fn every(stdout: &mut Output, s: &[u8]) -> io::Result<()> {
-    let mut at = 0;
-    while at < s.len() {
-        let end = one(stdout, s, at)?;
-        at = replay::after(s, at, end);
-    }
-    Ok(())
+    let rec = case.slice(&mut rec);
+    let answer = recon::recon(coded, side, pred, coef, &mut *rec);
+    replay::print_first(out, def::answer_number(answer))?;
+    replay::print_all(out, rec)?;
+    replay::print_end(out)
 }
 
 fn main(rt: HostRuntime) -> io::Result<()> {
-    let mut all = replay::room();
-    let n = replay::load(&rt, &mut all);
-    let mut stdout = replay::output(&rt);
-    every(&mut stdout, &all[..n])?;
-    stdout.flush()
+    replay::each_case(&rt, one)
 }

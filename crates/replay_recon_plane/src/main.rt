@@ -2,104 +2,31 @@
 // answers, and the plane as it leaves it.
 #![tactic(auto)]
 
-use def::{Component, Pel};
+use cases::Case;
+use def::Pel;
 use replay::Output;
-use std::io::{self, Write};
+use std::io;
 
-fn component(n: usize) -> Component {
-    if n == 0 {
-        return Component::Luma;
-    }
-    Component::Chroma
-}
-
-fn one(stdout: &mut Output, s: &[u8], at: usize) -> io::Result<usize> {
-    let c = cases::number(s, at);
-    let w = cases::number(s, c.next);
-    let h = cases::number(s, w.next);
-    let x = cases::number(s, h.next);
-    let y = cases::number(s, x.next);
-    let side = cases::number(s, y.next);
-    block(
-        stdout,
-        s,
-        side.next,
-        component(c.size),
-        w.size,
-        h.size,
-        Pel(x.size),
-        Pel(y.size),
-        side.size,
-    )
-}
-
-fn block(
-    stdout: &mut Output,
-    s: &[u8],
-    at: usize,
-    c: Component,
-    w: usize,
-    h: usize,
-    x: Pel,
-    y: Pel,
-    side: usize,
-) -> io::Result<usize> {
-    let coded = cases::number(s, at);
+fn one(out: &mut Output, case: &mut Case<'_>) -> io::Result<()> {
+    let component = replay::component_of(case.number());
+    let w = case.number();
+    let h = case.number();
+    let x = Pel(case.number());
+    let y = Pel(case.number());
+    let side = case.number();
+    let coded = case.number() == 1;
     let mut pred = [0u16; 5000];
-    let pp = cases::slice_u16(s, coded.next, &mut pred);
+    let pred = case.slice(&mut pred);
     let mut coef = [0i16; 5000];
-    let pc = cases::slice_i16(s, pp.next, &mut coef);
+    let coef = case.slice(&mut coef);
     let mut rec = [0u16; 40000];
-    let pr = cases::slice_u16(s, pc.next, &mut rec);
-    added(
-        stdout,
-        c,
-        w,
-        h,
-        x,
-        y,
-        side,
-        coded.size == 1,
-        &pred[..pp.len],
-        &coef[..pc.len],
-        &mut rec[..pr.len],
-    )?;
-    Ok(pr.next)
-}
-
-fn added(
-    stdout: &mut Output,
-    c: Component,
-    w: usize,
-    h: usize,
-    x: Pel,
-    y: Pel,
-    side: usize,
-    coded: bool,
-    pred: &[u16],
-    coef: &[i16],
-    rec: &mut [u16],
-) -> io::Result<()> {
-    let answer = recon::recon_plane(c, w, h, x, y, side, coded, pred, coef, rec);
-    replay::print_first(stdout, def::answer_number(answer))?;
-    replay::print_u16(stdout, rec)?;
-    replay::print_end(stdout)
-}
-
-// Every case in turn.
-fn every(stdout: &mut Output, s: &[u8]) -> io::Result<()> {
-    let mut at = 0;
-    while at < s.len() {
-        let end = one(stdout, s, at)?;
-        at = replay::after(s, at, end);
-    }
-    Ok(())
+    let rec = case.slice(&mut rec);
+    let answer = recon::recon_plane(component, w, h, x, y, side, coded, pred, coef, &mut *rec);
+    replay::print_first(out, def::answer_number(answer))?;
+    replay::print_all(out, rec)?;
+    replay::print_end(out)
 }
 
 fn main(rt: HostRuntime) -> io::Result<()> {
-    let mut all = replay::room();
-    let n = replay::load(&rt, &mut all);
-    let mut stdout = replay::output(&rt);
-    every(&mut stdout, &all[..n])?;
-    stdout.flush()
+    replay::each_case(&rt, one)
 }

@@ -8,7 +8,7 @@ ghost use Rattle.rows_rules.specs.Checks.{lengths_ok, check_maps, right_ok};
 ghost use Rattle.rows_rules.specs.FillCall as FillCall;
 
 use crate::run::{all_right, fill};
-use def::{Answer, Refusal};
+use def::Refusal;
 
 mod run; // run.rt: a map filled and tested, many units at a time
 
@@ -28,16 +28,16 @@ pub fn checked_maps(
     motion: usize,
     refs: usize,
     rows: usize,
-) -> Answer
+) -> Result<(), Refusal>
     ensures { result ≡ check_maps w h words motion refs rows }
 {
     if !def::size_ok(w, h) {
-        return Answer::Refused(Refusal::Size);
+        return Err(Refusal::Size);
     }
     if !lengths_ok(w, h, words, motion, refs, rows) {
-        return Answer::Refused(Refusal::Length);
+        return Err(Refusal::Length);
     }
-    Answer::Done
+    Ok(())
 }
 
 // Fills the map: everything is checked before the first write.
@@ -48,18 +48,14 @@ pub fn fill_rows(
     motion: &[i16],
     refs: &[i8],
     rows: &mut [u8],
-) -> Answer
+) -> Result<(), Refusal>
     ensures { Gives FillCall.outcome
         (record { w = w; h = h; words = words.now; motion = motion.now; refs = refs.now; rows = rows.old })
         (record { number = answer_number result; rows = rows.new }) }
 {
-    match checked_maps(w, h, words.len(), motion.len(), refs.len(), rows.len()) {
-        Answer::Refused(r) => Answer::Refused(r),
-        Answer::Done => {
-            fill(w / 4, words, motion, refs, rows);
-            Answer::Done
-        }
-    }
+    checked_maps(w, h, words.len(), motion.len(), refs.len(), rows.len())?;
+    fill(w / 4, words, motion, refs, rows);
+    Ok(())
 }
 
 // Whether the map is right, of a picture of w by h.
@@ -74,7 +70,7 @@ pub fn rows_right(
     ensures { result ≡ right_ok w h words.now motion.now refs.now rows.now }
 {
     match checked_maps(w, h, words.len(), motion.len(), refs.len(), rows.len()) {
-        Answer::Refused(_) => false,
-        Answer::Done => all_right(w / 4, words, motion, refs, rows),
+        Err(_) => false,
+        Ok(()) => all_right(w / 4, words, motion, refs, rows),
     }
 }

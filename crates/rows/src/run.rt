@@ -135,9 +135,7 @@ fn put_zeros(n: usize, bytes: &mut [u8])
     requires { n ≤ length bytes.old }
     ensures { FirstOf (λ (j : ℕ). 0) n bytes.old bytes.new }
 {
-    for j in 0..n {
-        bytes[j] = 0;
-    }
+    bytes[..n].fill(0);
 }
 
 // The bytes of n units from k on that are what those above them are: their left rows are those of the bytes above.
@@ -267,12 +265,11 @@ fn store(bytes: &[u8], k: usize, n: usize, rows: &mut [u8])
     requires { (n ≤ length bytes.now) × (k + n ≤ length rows.old) }
     ensures { Stored bytes.now k n rows.old rows.new }
 {
-    for j in 0..n {
-        rows[k + j] = bytes[j];
-    }
+    rows[k..k + n].copy_from_slice(&bytes[..n]);
 }
 
 // Every unit's byte.
+// kept: how long a run is decides where the next one starts, so that no range counts the turns.
 pub(crate) fn fill(columns: usize, words: &[u32], motion: &[i16], refs: &[i8], rows: &mut [u8])
     requires { Lent columns words.now motion.now refs.now × (length rows.old ≡ length words.now) }
     ensures { rows.new ≡ rule_map words.now motion.now refs.now columns (length rows.old) }
@@ -323,6 +320,7 @@ fn run_right(
 }
 
 // Whether every byte is right: a map that is lent is right but for an error.
+// kept: how long a run is decides where the next one starts, so that no range counts the turns.
 pub(crate) fn all_right(
     columns: usize,
     words: &[u32],

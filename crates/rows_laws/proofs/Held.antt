@@ -1,5 +1,6 @@
 -- Maps of edge rows, filled and edited: `kept`.
 -- Assumes nothing.
+use Rattle.std.specs.Prelude.{Ok, Err}
 use Prim.Native.Nat.{ℕ, ◌+◌, ◌-◌, ◌*◌, ◌/◌, ◌%◌, ◌≤◌, ◌<◌}
 use mathlib.Core.Path.{◌≡◌, refl, sym, ap, ◌∙◌, subst}
 use mathlib.Core.Bool.{Bool, true, false, ◌&&◌, ◌||◌}
@@ -19,8 +20,7 @@ use Rattle.laws.proofs.Bits.{field_same, field_above, field_below}
 use Rattle.laws.proofs.Tabulate.{length_tabulate, get_d_tabulate, is_tabulate}
 use Rattle.def.specs.Answers.{after_checks}
 use Rattle.def.specs.Picture.{unit_count}
-use Rattle.def.specs.declared.Answer.{Answer}
-use Rattle.def.specs.declared.Answer.TheVariants.{Done, Refused}
+use Rattle.def.specs.Answers.{Answer}
 use Rattle.def.proofs.Answers.{number_some}
 use Rattle.line.specs.declared.Motion.{Motion}
 use Rattle.line.specs.Row.{row_of}
@@ -228,13 +228,13 @@ unfolding move.outcome flag.outcome
 edit_right w h (moves x y m) s g = go (move.check (motion_input w h s x y m)) where
   go : (k : Answer) → let o = after_checks (move.refused (motion_input w h s x y m)) (move.done (motion_input w h s x y m)) k in
       Right w h (record { words = s.words; motion = o.motion; refs = o.refs; rows = o.rows })
-  go (Refused r) = g
-  go Done = stays_right w h s.rows (but_moved (y * (w / 4) + x) m s.words s.motion s.refs) g
+  go (Err r) = g
+  go (Ok _) = stays_right w h s.rows (but_moved (y * (w / 4) + x) m s.words s.motion s.refs) g
 edit_right w h (flags x y f on) s g = go (flag.check (flag_input w h s x y f on)) where
   go : (k : Answer) → let o = after_checks (flag.refused (flag_input w h s x y f on)) (flag.done (flag_input w h s x y f on)) k in
       Right w h (record { words = o.words; motion = s.motion; refs = s.refs; rows = o.rows })
-  go (Refused r) = g
-  go Done = stays_right w h s.rows (but_flagged (y * (w / 4) + x) _ s.words s.motion s.refs) g
+  go (Err r) = g
+  go (Ok _) = stays_right w h s.rows (but_flagged (y * (w / 4) + x) _ s.words s.motion s.refs) g
 
 edits_right : (w h : ℕ) (es : List Edit) (s : Held) → Right w h s → Right w h (run (after w h) es s)
 unfolding run
@@ -255,13 +255,13 @@ unfolding move.outcome flag.outcome
 edit_sets w h (moves x y m) s z = go (move.check (motion_input w h s x y m)) z where
   go : (k : Answer) → let o = after_checks (move.refused (motion_input w h s x y m)) (move.done (motion_input w h s x y m)) k in
       o.number ≡ 0 → Sets (w / 4) (y * (w / 4) + x) s (record { words = s.words; motion = o.motion; refs = o.refs; rows = o.rows })
-  go (Refused r) z = absurd (omega (arith, number_some r))
-  go Done z = set_by (w / 4) (y * (w / 4) + x) s _ _ _
+  go (Err r) z = absurd (omega (arith, number_some r))
+  go (Ok _) z = set_by (w / 4) (y * (w / 4) + x) s _ _ _
 edit_sets w h (flags x y f on) s z = go (flag.check (flag_input w h s x y f on)) z where
   go : (k : Answer) → let o = after_checks (flag.refused (flag_input w h s x y f on)) (flag.done (flag_input w h s x y f on)) k in
       o.number ≡ 0 → Sets (w / 4) (y * (w / 4) + x) s (record { words = o.words; motion = s.motion; refs = s.refs; rows = o.rows })
-  go (Refused r) z = absurd (omega (arith, number_some r))
-  go Done z = set_by (w / 4) (y * (w / 4) + x) s _ _ _
+  go (Err r) z = absurd (omega (arith, number_some r))
+  go (Ok _) z = set_by (w / 4) (y * (w / 4) + x) s _ _ _
 
 abbrev fill_input : (w h : ℕ) → Held → fill.Input
 fill_input w h s = record { w = w; h = h; words = s.words; motion = s.motion; refs = s.refs; rows = s.rows }
@@ -271,8 +271,8 @@ unfolding fill.outcome
 filled w h s z = go (fill.check (fill_input w h s)) z where
   go : (k : Answer) → let o = after_checks (fill.refused (fill_input w h s)) (fill.done (fill_input w h s)) k in
       o.number ≡ 0 → o.rows ≡ tabulate (unit_count w h) (rule_byte s.words s.motion s.refs (w / 4))
-  go (Refused r) z = absurd (omega (arith, number_some r))
-  go Done z = refl
+  go (Err r) z = absurd (omega (arith, number_some r))
+  go (Ok _) z = refl
 
 pub kept : (w h : ℕ) → Kept w h
 kept w h =

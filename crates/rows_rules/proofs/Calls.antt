@@ -4,6 +4,7 @@
 --     right_refused, right_done_lem, fill_refused, fill_done, motion_refused, motion_done    the test and the outcomes by what the checks found
 --     lent_moved, lent_flagged    what an edit leaves of the maps
 -- Assumes nothing.
+use Rattle.std.specs.Prelude.{Ok, Err}
 use Prim.Native.Nat.{ℕ, ◌*◌, ◌/◌}
 use mathlib.Core.Path.{◌≡◌, refl, sym, ap, ◌∙◌}
 use mathlib.Core.Bool.{Bool, true, false}
@@ -19,8 +20,7 @@ use Rattle.def.specs.Blocks.{unit_ok}
 use Rattle.def.specs.Picture.{size_ok, unit_count}
 use Rattle.def.specs.declared.Refusal.{Refusal}
 use Rattle.def.specs.declared.Refusal.TheVariants.{Size, Length, Block}
-use Rattle.def.specs.declared.Answer.{Answer}
-use Rattle.def.specs.declared.Answer.TheVariants.{Done, Refused}
+use Rattle.def.specs.Answers.{Answer}
 use Rattle.def.proofs.Answers.{on_refusal, on_done}
 use Rattle.def.proofs.Blocks.{placed}
 use Rattle.def.proofs.Ladders.{passes}
@@ -61,7 +61,7 @@ module _ (w h : ℕ) (words : List ℕ) (motion refs : List ℤ) (rows : List �
         units = a;
       }
 
-  pub maps_accepted : check_maps w h (length words) (length motion) (length refs) (length rows) ≡ Done → Accepted
+  pub maps_accepted : check_maps w h (length words) (length motion) (length refs) (length rows) ≡ Ok tt → Accepted
   unfolding check_maps
   maps_accepted e =
       let p = passes (size_ok w h) Size _ e in
@@ -72,7 +72,7 @@ module _ (w h : ℕ) (words : List ℕ) (motion refs : List ℤ) (rows : List �
     pub maps : Accepted
     pub unit : UnitAt (w / 4) (h / 4) (length words) x y
 
-  pub unit_accepted : (x y : ℕ) → check_unit w h (length words) (length motion) (length refs) (length rows) x y ≡ Done → UnitAccepted x y
+  pub unit_accepted : (x y : ℕ) → check_unit w h (length words) (length motion) (length refs) (length rows) x y ≡ Ok tt → UnitAccepted x y
   unfolding check_unit
   unit_accepted x y e =
       let p = passes (size_ok w h) Size _ e in
@@ -85,11 +85,11 @@ module _ (w h : ℕ) (words : List ℕ) (motion refs : List ℤ) (rows : List �
 -- ---- the test of a map
 
 module _ (w h : ℕ) (words : List ℕ) (motion refs : List ℤ) (rows : List ℕ) where
-  pub right_refused : (k : Answer) (r : Refusal) → k ≡ check_maps w h (length words) (length motion) (length refs) (length rows) → k ≡ Refused r → false ≡ right_ok w h words motion refs rows
+  pub right_refused : (k : Answer) (r : Refusal) → k ≡ check_maps w h (length words) (length motion) (length refs) (length rows) → k ≡ Err r → false ≡ right_ok w h words motion refs rows
   unfolding right_ok
   right_refused k r e q = on_refusal (λ r. false) _ k _ r e q
 
-  pub right_done_lem : (k : Answer) → k ≡ check_maps w h (length words) (length motion) (length refs) (length rows) → k ≡ Done
+  pub right_done_lem : (k : Answer) → k ≡ check_maps w h (length words) (length motion) (length refs) (length rows) → k ≡ Ok tt
       → right_bytes words motion refs (w / 4) rows ≡ right_ok w h words motion refs rows
   unfolding right_ok
   right_done_lem k e q = on_done (λ r. false) _ k _ _ e q refl
@@ -98,30 +98,30 @@ module _ (w h : ℕ) (words : List ℕ) (motion refs : List ℤ) (rows : List �
 
 module _ (w h words motion refs rows x y : ℕ) where
   abbrev rest : Answer
-  rest = unless (unit_ok w h x y) (Refused Block) Done
+  rest = unless (unit_ok w h x y) (Err Block) (Ok tt)
 
-  ladder : after_checks (λ r. Refused r) rest (check_maps w h words motion refs rows) ≡ check_unit w h words motion refs rows x y
+  ladder : after_checks (λ r. Err r) rest (check_maps w h words motion refs rows) ≡ check_unit w h words motion refs rows x y
   unfolding check_unit check_maps
   ladder = go (size_ok w h) (lengths_ok w h words motion refs rows) where
-    go : (a b : Bool) → after_checks (λ r. Refused r) rest (unless a (Refused Size) (unless b (Refused Length) Done)) ≡ unless a (Refused Size) (unless b (Refused Length) rest)
+    go : (a b : Bool) → after_checks (λ r. Err r) rest (unless a (Err Size) (unless b (Err Length) (Ok tt))) ≡ unless a (Err Size) (unless b (Err Length) rest)
     go true true = refl
     go true false = refl
     go false b = refl
 
-  pub unit_refused : (k : Answer) (r : Refusal) → k ≡ check_maps w h words motion refs rows → k ≡ Refused r → Refused r ≡ check_unit w h words motion refs rows x y
-  unit_refused k r e q = on_refusal (λ r. Refused r) rest k (check_maps w h words motion refs rows) r e q ∙ ladder
+  pub unit_refused : (k : Answer) (r : Refusal) → k ≡ check_maps w h words motion refs rows → k ≡ Err r → Err r ≡ check_unit w h words motion refs rows x y
+  unit_refused k r e q = on_refusal (λ r. Err r) rest k (check_maps w h words motion refs rows) r e q ∙ ladder
 
-  pub unit_goes : (k a : Answer) → k ≡ check_maps w h words motion refs rows → k ≡ Done → a ≡ rest → a ≡ check_unit w h words motion refs rows x y
-  unit_goes k a e q p = on_done (λ r. Refused r) rest k (check_maps w h words motion refs rows) a e q p ∙ ladder
+  pub unit_goes : (k a : Answer) → k ≡ check_maps w h words motion refs rows → k ≡ Ok tt → a ≡ rest → a ≡ check_unit w h words motion refs rows x y
+  unit_goes k a e q p = on_done (λ r. Err r) rest k (check_maps w h words motion refs rows) a e q p ∙ ladder
 
 -- ---- outcomes: k is what the checks answered
 
 module _ (i : fill.Input) (k : Answer) (e : k ≡ fill.check i) where
-  pub fill_refused : (r : Refusal) → k ≡ Refused r → Gives fill.outcome i (fill.refused i r)
+  pub fill_refused : (r : Refusal) → k ≡ Err r → Gives fill.outcome i (fill.refused i r)
   unfolding fill.outcome
   fill_refused r q = on_refusal (fill.refused i) (fill.done i) k (fill.check i) r e q
 
-  pub fill_done : (rows : List ℕ) → k ≡ Done → rows ≡ rule_map i.words i.motion i.refs (i.w / 4) (length i.rows) → Gives fill.outcome i (record { number = 0; rows = rows })
+  pub fill_done : (rows : List ℕ) → k ≡ Ok tt → rows ≡ rule_map i.words i.motion i.refs (i.w / 4) (length i.rows) → Gives fill.outcome i (record { number = 0; rows = rows })
   unfolding fill.outcome
   fill_done rows q p =
       let a = maps_accepted i.w i.h i.words i.motion i.refs i.rows (sym e ∙ q) in
@@ -129,11 +129,11 @@ module _ (i : fill.Input) (k : Answer) (e : k ≡ fill.check i) where
       (λ t. record { number = 0; rows = (p ∙ ap (rule_map i.words i.motion i.refs (i.w / 4)) (a.rows_long ∙ a.units)) t })
 
 module _ (i : move.Input) (k : Answer) (e : k ≡ move.check i) where
-  pub motion_refused : (r : Refusal) → k ≡ Refused r → Gives move.outcome i (move.refused i r)
+  pub motion_refused : (r : Refusal) → k ≡ Err r → Gives move.outcome i (move.refused i r)
   unfolding move.outcome
   motion_refused r q = on_refusal (move.refused i) (move.done i) k (move.check i) r e q
 
-  pub motion_done : (m r : List ℤ) (rows : List ℕ) → k ≡ Done → m ≡ move.with_motion (move.place i) i.moved i.motion → r ≡ move.with_refs (move.place i) i.moved i.refs
+  pub motion_done : (m r : List ℤ) (rows : List ℕ) → k ≡ Ok tt → m ≡ move.with_motion (move.place i) i.moved i.motion → r ≡ move.with_refs (move.place i) i.moved i.refs
       → rows ≡ edited_map i.words m r (i.w / 4) (move.place i) i.rows → Gives move.outcome i (record { number = 0; motion = m; refs = r; rows = rows })
   unfolding move.outcome
   motion_done m r rows q f g p =

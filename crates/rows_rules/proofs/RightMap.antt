@@ -2,6 +2,7 @@
 --     row_in_byte    at a side's two bits the rule's byte has the row of its unit and the unit on that side
 --     right_byte    a map that passes the test has the rule's byte of every unit
 -- Assumes nothing.
+use Rattle.std.specs.Prelude.{Ok, Err}
 use Prim.Native.Nat.{ℕ, ◌-◌, ◌/◌, ◌<◌}
 use mathlib.Core.Path.{◌≡◌, refl, sym, ap, ◌∙◌}
 use mathlib.Core.Bool.{true, false}
@@ -14,8 +15,7 @@ use Rattle.laws.specs.Bits.{field_of, with_field}
 use Rattle.laws.proofs.Bits.{field_same, field_below}
 use Rattle.laws.proofs.Scans.{scan_at}
 use Rattle.def.specs.Answers.{after_checks}
-use Rattle.def.specs.declared.Answer.{Answer}
-use Rattle.def.specs.declared.Answer.TheVariants.{Done, Refused}
+use Rattle.def.specs.Answers.{Answer}
 use Rattle.split.specs.Edges.{Pass, vertical, horizontal}
 use Rattle.df_rules.specs.Places.{step_across}
 use Rattle.df_rules.specs.Strength.{row_by}
@@ -44,5 +44,5 @@ pub right_byte : (w h : ℕ) (words : List ℕ) (motion refs : List ℤ) (rows :
 unfolding right_ok right_bytes
 right_byte w h words motion refs rows e k l = go (check_maps w h (length words) (length motion) (length refs) (length rows)) e where
   go : (a : Answer) → after_checks (λ r. false) (right_bytes words motion refs (w / 4) rows) a ≡ true → get_or rows k 0 ≡ rule_byte words motion refs (w / 4) k
-  go Done f = eqb-true _ _ (scan_at _ (length rows) k l f)
-  go (Refused r) f = absurd (let z : ◌≡◌ {A = ℕ} 0 1 = cc in omega arith)
+  go (Ok _) f = eqb-true _ _ (scan_at _ (length rows) k l f)
+  go (Err r) f = absurd (let z : ◌≡◌ {A = ℕ} 0 1 = cc in omega arith)

@@ -5,7 +5,7 @@ use Rattle.def.specs.Answers.{after_checks}
 use Rattle.def.specs.Picture.{unit_count}
 use Rattle.def.specs.Refusals.{number_of}
 use Rattle.def.specs.declared.Refusal.{Refusal}
-use Rattle.def.specs.declared.Answer.{Answer}
+use Rattle.def.specs.Answers.{Answer}
 use Rattle.rows_rules.specs.Checks.{check_maps}
 use Rattle.rows_rules.specs.Rule.{rule_map}
 

@@ -4,7 +4,7 @@ use Rattle.std.specs.Prelude.{ℕ, ◌+◌, ◌*◌, ◌/◌, List, ℤ, length,
 use Rattle.def.specs.Answers.{after_checks}
 use Rattle.def.specs.Refusals.{number_of}
 use Rattle.def.specs.declared.Refusal.{Refusal}
-use Rattle.def.specs.declared.Answer.{Answer}
+use Rattle.def.specs.Answers.{Answer}
 use Rattle.line.specs.declared.Motion.{Motion}
 use Rattle.rows_rules.specs.Checks.{check_unit}
 use Rattle.rows_rules.specs.Rule.{edited_map}

@@ -9,11 +9,5 @@ ghost use Rattle.samples.specs.Samples.{samples_ok};
 pub fn samples_ok(p: &[u16]) -> bool
     ensures { result ≡ samples_ok p.now }
 {
-    let mut all: u16 = 0;
-    let mut i = 0;
-    while i < p.len() {
-        all = all | p[i];
-        i += 1;
-    }
-    all <= 1023
+    p.iter().fold(0, |all: u16, s| all | *s) <= 1023
 }

@@ -3,6 +3,7 @@
 --     size_no, limit_no, old_no, not_old, walk_no, left-over, all_listed       the text for the digits of a sheet
 --     good_sheet, bad_sheet                                   the text for a sheet, by what its lines say
 -- Assumes nothing.
+use Rattle.std.specs.Prelude.{Ok}
 use mathlib.Core.Bool.{Bool, true, false, ◌||◌}
 use mathlib.Core.List.{List}
 use mathlib.Core.Path.{◌≡◌, refl, sym, ap, ◌∙◌}
@@ -12,7 +13,6 @@ use borrow.Author.Tests.{leb-true, eqb-true, eq-eqb, ne_eqb}
 use lib.Dec.{eqb}
 use lib.ListN.{length, take, drop}
 use Rattle.laws.proofs.Calls.{all_at}
-use Rattle.def.specs.declared.Answer.TheVariants.{Done, Refused}
 use Rattle.def.specs.declared.Refusal.{Refusal}
 use Rattle.def.specs.declared.Refusal.TheVariants.{Size, Setting, Sheet, Old}
 use Rattle.split.specs.Edges.{vertical, horizontal, edge_list}
@@ -77,7 +77,7 @@ module _ (w h limit : ℕ) (digits : List ℕ) where
             rw (sides, limited, met.done, e)
 
         -- the walk of the map ends, and its leaves are those of the digits
-        pub walked : (picture_walk map (w / 4) (h / 4)).answer ≡ Done
+        pub walked : (picture_walk map (w / 4) (h / 4)).answer ≡ Ok tt
         walked = ap (λ (v : Walk). v.answer) met.reads ∙ met.done
 
         leaves : (picture_descent (w / 4) (h / 4) digits).walk.list ≡ all_leaves map (w / 4) (h / 4)

@@ -2,6 +2,7 @@
 --     listed_both, not_refused    what the call answers and leaves
 --     Printable, printable        what printing it asks
 -- Assumes nothing.
+use Rattle.std.specs.Prelude.{Ok, Err, Result}
 use mathlib.Core.Bool.{Bool, true}
 use mathlib.Core.List.{List, [], ◌∷◌, Memᴰ}
 use mathlib.Core.Path.{◌≡◌, sym, ap, ◌∙◌}
@@ -16,14 +17,12 @@ use Rattle.laws.specs.Orders.{each}
 use Rattle.laws.proofs.Calls.{one_of}
 use Rattle.def.specs.Picture.{size_ok, root_count}
 use Rattle.def.specs.Refusals.{number_of}
-use Rattle.def.specs.declared.Answer.TheVariants.{Done}
 use Rattle.def.specs.declared.Refusal.{Refusal}
 use Rattle.def.proofs.Answers.{number_some}
 use Rattle.split.specs.Edges.{Pass, vertical, horizontal, Edge, edge_list, edge_numbers}
 use Rattle.split.specs.ListCall.{Input, Outcome, limit_ok, lengths_ok, check_of, after, done, outcome}
 use Rattle.split.specs.Picture.{picture_walk}
-use Rattle.split.specs.declared.Listed.{Listed}
-use Rattle.split.specs.declared.Listed.TheVariants.{Done as Counted, Refused as NotCounted}
+use Rattle.split.specs.declared.EdgeCounts.{EdgeCounts}
 use Rattle.split.proofs.Demand3.{demand_3, edges_twice}
 use Rattle.sheet.specs.Puts.{Places, numbers_text}
 use Rattle.sheet.specs.Taken.{Sides, Walked, edges_text}
@@ -32,7 +31,7 @@ use Rattle.sheet.proofs.Room.{few_edges, near_edges}
 use Rattle.sheet.proofs.Texts.{near_places, listed_text_lem}
 
 -- an edge a unit at most
-units : (halved : Bool) (s : List ℕ) (w h : ℕ) → 1 ≤ w → (picture_walk s w h).answer ≡ Done → (d : Pass) → length (edge_list d halved s w h) ≤ w * h
+units : (halved : Bool) (s : List ℕ) (w h : ℕ) → 1 ≤ w → (picture_walk s w h).answer ≡ Ok tt → (d : Pass) → length (edge_list d halved s w h) ≤ w * h
 units halved s w h pos e d = omega (arith, (demand_3 halved s w h pos e).fits d, edges_twice (edge_list d halved s w h))
 
 pub size_fits : (w h : ℕ) → Sides w h → size_ok w h ≡ true
@@ -56,7 +55,7 @@ module _ (w h limit : ℕ) (map v k : List ℕ) (u : Walked w h limit map) (lv :
   unfolding lengths_ok
   lengths = simp (eq-eqb (length map) (1024 * root_count w h) (u.long ∙ ap (λ (n : ℕ). 1024 * n) (sym (count_roots w h u.sides).0)), eq-eqb (length v) _ lv, eq-eqb (length k) _ lk)
 
-  passes : check_of w h map limit (length v) (length k) ≡ Done
+  passes : check_of w h map limit (length v) (length k) ≡ Ok tt
   unfolding check_of
   passes = rw (size_fits w h u.sides, lengths, u.limited) u.accepted
 
@@ -65,9 +64,9 @@ module _ (w h limit : ℕ) (map v k : List ℕ) (u : Walked w h limit map) (lv :
   accepted = rw passes
 
   -- the call does not refuse
-  pub not_refused : (r : Listed) (v₁ k₁ : List ℕ) (q : Refusal) → after r v₁ k₁ ≡ outcome asked → r ≡ NotCounted q → ⊥
+  pub not_refused : (r : Result EdgeCounts Refusal) (v₁ k₁ : List ℕ) (q : Refusal) → after r v₁ k₁ ≡ outcome asked → r ≡ Err q → ⊥
   not_refused r v₁ k₁ q e z =
-      let n : number_of q ≡ 0 = sym (ap (λ (l : Listed). (after l v₁ k₁).reading.number) z) ∙ ap (λ (o : Outcome). o.reading.number) (e ∙ accepted) in
+      let n : number_of q ≡ 0 = sym (ap (λ (l : Result EdgeCounts Refusal). (after l v₁ k₁).reading.number) z) ∙ ap (λ (o : Outcome). o.reading.number) (e ∙ accepted) in
       omega (arith, number_some q)
 
   -- what it counts and lists
@@ -77,9 +76,9 @@ module _ (w h limit : ℕ) (map v k : List ℕ) (u : Walked w h limit map) (lv :
     pub upright : v₁ ≡ sets v 0 (each edge_numbers (edges vertical))
     pub level : k₁ ≡ sets k 0 (each edge_numbers (edges horizontal))
 
-  pub listed_both : (r : Listed) (v₁ k₁ : List ℕ) (m n : ℕ) → after r v₁ k₁ ≡ outcome asked → r ≡ Counted m n → Both m n v₁ k₁
-  listed_both r v₁ k₁ m n e z =
-      let d : after (Counted m n) v₁ k₁ ≡ done asked = sym (ap (λ (l : Listed). after l v₁ k₁) z) ∙ e ∙ accepted in
+  pub listed_both : (r : Result EdgeCounts Refusal) (v₁ k₁ : List ℕ) (c : EdgeCounts) → after r v₁ k₁ ≡ outcome asked → r ≡ Ok c → Both c.vertical c.horizontal v₁ k₁
+  listed_both r v₁ k₁ c e z =
+      let d : after (Ok c) v₁ k₁ ≡ done asked = sym (ap (λ (l : Result EdgeCounts Refusal). after l v₁ k₁) z) ∙ e ∙ accepted in
       record {
         first = ap (λ (o : Outcome). o.reading.vertical) d;
         second = ap (λ (o : Outcome). o.reading.horizontal) d;

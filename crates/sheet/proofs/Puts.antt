@@ -1,5 +1,5 @@
 -- Laws of writing: one text after another, byte by byte, and decimal numbers.
---     put_byte, starts_as, put_length, put_start, put_more
+--     put_byte, starts_as, put_length
 --     decimal_one, decimal_more, decimal_three, decimal_four    a number's digits, and how many
 --     place_put, place_short, count_put, count_short, line_put, line_none, line_length, refused_put    lines
 --     places_none, places_more, listing_put    the places of a list, and a whole listing
@@ -14,13 +14,13 @@ use native.Mathlib.Decide.{dec_lt}
 use native.Mathlib.Omega.{arith}
 use borrow.Author.Tests.{lt-ltb, le-ltb, eq-eqb, ne_eqb}
 use lib.Dec.{ltb, eqb}
-use lib.ListN.{length, get_or, take, set, length-append}
-use lib.Seq.{length-sets, take-suc}
+use lib.ListN.{length, get_or, set, length-append}
+use lib.Seq.{length-sets}
 use Rattle.laws.specs.Index.{pick}
 use Rattle.def.specs.Refusals.{number_of}
 use Rattle.def.specs.declared.Refusal.{Refusal}
 use Rattle.edges.specs.Put.{Put}
-use Rattle.edges.proofs.Puts.{put_none, put_then, put_as}
+use Rattle.edges.proofs.Puts.{put_none, put_then}
 use Rattle.sheet.specs.Puts.{Starts, places_text, numbers_text}
 use Rattle.sheet.specs.Text.{decimal_by, decimal, place_text, count_text, line_text, refused_text}
 use Rattle.sheet.specs.Words.{refused_key, line_key, vertical_count, horizontal_count}
@@ -34,16 +34,6 @@ starts_as {out = out} {out' = out'} {r = r} e p = subst (λ (u : List ℕ). Star
 -- the buffer keeps its length
 pub put_length : {s out : List ℕ} {at : ℕ} {out' : List ℕ} {r : ℕ} → Put s out at out' r → length out' ≡ length out
 put_length {s} {out} {at} p = ap length p.put ∙ length-sets out at s
-
--- none of a text, and one byte more
-pub put_start : (text out : List ℕ) (at : ℕ) → Put (take 0 text) out at out (at + 0)
-put_start text out at = record { count = refl; put = refl }
-
-pub put_more : (text out out₁ : List ℕ) (at i : ℕ) → i < length text → Put (take i text) out at out₁ (at + i) → Put (take (i + 1) text) out at (set out₁ (at + i) (get_or text i 0)) (at + (i + 1))
-put_more text out out₁ at i l p =
-    let e : take i text ++ (get_or text i 0 ∷ []) ≡ take (i + 1) text = sym (ap (λ (k : ℕ). take k text) (add-one i) ∙ take-suc text i 0 l) in
-    let q : at + i + 1 ≡ at + (i + 1) = omega arith in
-    put_as e (subst (Put (take i text ++ (get_or text i 0 ∷ [])) out at (set out₁ (at + i) (get_or text i 0))) q (put_then p (put_byte (get_or text i 0) out₁ (at + i))))
 
 -- ---- decimal numbers
 

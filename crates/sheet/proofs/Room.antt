@@ -2,6 +2,7 @@
 --     few_edges, near_edges    how many edges a pass has, and how far they lie
 --     leaves_met               the leaves of a map that is walked to its end
 -- Assumes nothing.
+use Rattle.std.specs.Prelude.{Ok}
 use mathlib.Core.Bool.{Bool}
 use mathlib.Core.List.{List, ◌++◌, Memᴰ}
 use mathlib.Core.Path.{◌≡◌, refl, sym, ap, ◌∙◌}
@@ -10,7 +11,6 @@ use native.Mathlib.Nat.{mul-le-mul_right}
 use native.Mathlib.Omega.{arith}
 use lib.Arith.{digits_div, digits_mod}
 use lib.ListN.{length}
-use Rattle.def.specs.declared.Answer.TheVariants.{Done}
 use Rattle.laws.proofs.Counting.{few_below}
 use Rattle.laws.proofs.Orders.{pairwise_imp}
 use Rattle.split.specs.Demand3.{Demand3}
@@ -47,7 +47,7 @@ same_edge_lem : (d : Pass) (e f : Edge) → cross_of d e ≡ cross_of d f → al
 same_edge_lem vertical e f p q = λ i. record { x = p i; y = q i }
 same_edge_lem horizontal e f p q = λ i. record { x = q i; y = p i }
 
-module _ (halved : Bool) (s : List ℕ) (w h : ℕ) (pos : 1 ≤ w) (accepted : (picture_walk s w h).answer ≡ Done) where
+module _ (halved : Bool) (s : List ℕ) (w h : ℕ) (pos : 1 ≤ w) (accepted : (picture_walk s w h).answer ≡ Ok tt) where
   told : Demand3 halved s w h
   told = demand_3 halved s w h pos accepted
 
@@ -77,7 +77,7 @@ module _ (halved : Bool) (s : List ℕ) (w h : ℕ) (pos : 1 ≤ w) (accepted : 
 
 -- ---- the leaves of a map that is walked to its end
 
-pub leaves_met : (s : List ℕ) (w h n : ℕ) → (in_turn (root_walk s w h) n).answer ≡ Done → (in_turn (root_walk s w h) n).list ≡ leaves_of s w h n
+pub leaves_met : (s : List ℕ) (w h n : ℕ) → (in_turn (root_walk s w h) n).answer ≡ Ok tt → (in_turn (root_walk s w h) n).list ≡ leaves_of s w h n
 unfolding leaves_of in_turn
 leaves_met s w h zero e = refl
 leaves_met s w h (suc n) e =

@@ -2,31 +2,29 @@
 --     told, taken    by its answer: the descent's, the place after the digits, and the map
 --     picture_met, picture_stopped
 -- Assumes nothing.
-use mathlib.Core.Bool.{Bool, true}
+use Rattle.std.specs.Prelude.{Result, Ok, Err}
+use Rattle.std.specs.Result.{MatchResult, IsErrAnd}
+use Rattle.pack_rules.specs.Form.{placed_number, placed_at}
 use mathlib.Core.List.{List}
-use mathlib.Core.Path.{◌≡◌, refl, sym, ap, ◌∙◌}
-use Prim.Native.Nat.{ℕ, ◌+◌, ◌-◌, ◌*◌, ◌/◌, ◌≤◌}
+use mathlib.Core.Path.{◌≡◌, refl, sym, ap, ◌∙◌, subst}
+use Prim.Native.Nat.{ℕ, ◌-◌, ◌*◌, ◌/◌, ◌≤◌}
 use native.Mathlib.Nat.{zero-add}
 use native.Mathlib.Omega.{arith}
 use borrow.Author.Tests.{le-leb, eq-eqb}
-use lib.Dec.{eqb}
 use lib.ListN.{length, drop, length-drop, length-map}
 use Rattle.def.specs.Answers.{answer_number, after_checks}
-use Rattle.def.specs.Picture.{size_ok, root_count}
-use Rattle.def.specs.declared.Answer.{Answer}
-use Rattle.def.specs.declared.Answer.TheVariants.{Done, Refused}
+use Rattle.def.specs.Picture.{root_count}
+use Rattle.def.specs.Answers.{Answer}
 use Rattle.def.specs.declared.Refusal.{Refusal}
 use Rattle.def.proofs.Answers.{answer_apart}
-use Rattle.laws.specs.Call.{unless}
-use Rattle.marks_rules.specs.Descent.{Descent, root_descent}
+use Rattle.marks_rules.specs.Descent.{root_descent}
 use Rattle.marks_rules.specs.Pictures.{upto, map_of}
 use Rattle.marks_rules.proofs.Descents.{descend_take, descents_take}
 use Rattle.pack_rules.specs.TakeCall as take-call
 use Rattle.pack_rules.proofs.Grown.{map_walked}
 use Rattle.split.specs.Picture.{roots, root_x, root_y, picture_walk}
-use Rattle.split.specs.Walk.{Walk}
 use Rattle.sheet.specs.Descent.{values_of, picture_descent, as_sheet}
-use Rattle.sheet.specs.Taken.{Sides, Met, Stopped}
+use Rattle.sheet.specs.Taken.{Sides, Met, Stopped, Pictured}
 use Rattle.sheet.proofs.Lists.{size_fits}
 use Rattle.sheet.proofs.Pictures.{count_roots}
 
@@ -35,8 +33,8 @@ numbered : (i : take-call.Input) → (take-call.outcome i).number ≡ answer_num
 unfolding take-call.outcome
 numbered i = by (take-call.check i) where
   by : (a : Answer) → (after_checks (take-call.refused i) (take-call.done i) a).number ≡ answer_number a
-  by Done = refl
-  by (Refused r) = refl
+  by (Ok _) = refl
+  by (Err r) = refl
 
 module _ (w h : ℕ) (digits bits map : List ℕ) (s : Sides w h) (few : length digits ≤ 4096) (long : length map ≡ 1024 * roots (w / 4) (h / 4)) where
   abbrev asked : take-call.Input
@@ -58,10 +56,10 @@ module _ (w h : ℕ) (digits bits map : List ℕ) (s : Sides w h) (few : length 
         ap (λ (ds : List ℕ). (upto (w / 4) (h / 4) ds (roots (w / 4) (h / 4))).walk.answer) (sym e) ∙ sym checked
         ∙ sym (answer_apart a (take-call.check asked) (ap (λ (o : take-call.Outcome). o.number) p ∙ numbered asked))
 
-    pub picture_stopped : (r q : Refusal) → a ≡ Refused r → q ≡ as_sheet r → Stopped (w / 4) (h / 4) digits q
+    pub picture_stopped : (r q : Refusal) → a ≡ Err r → q ≡ as_sheet r → Stopped (w / 4) (h / 4) digits q
     picture_stopped r q d f = record { why = r; found = told ∙ d; said = f }
 
-    module _ (d : a ≡ Done) where
+    module _ (d : a ≡ Ok tt) where
       finished : record { number = answer_number a; at = at; map = m } ≡ take-call.done asked
       unfolding take-call.outcome
       finished = p ∙ ap (after_checks (take-call.refused asked) (take-call.done asked)) (sym (answer_apart a (take-call.check asked) (ap (λ (o : take-call.Outcome). o.number) p ∙ numbered asked)) ∙ d)
@@ -86,3 +84,11 @@ module _ (w h : ℕ) (digits bits map : List ℕ) (s : Sides w h) (few : length 
             left = ap length left ∙ length-drop at (values_of digits) ∙ ap (λ (n : ℕ). n - at) (length-map digits (λ (c : ℕ). c - 48));
             reads = ap (λ (t : List ℕ). picture_walk t (w / 4) (h / 4)) given ∙ map_walked (w / 4) (h / 4) (values_of digits) (told ∙ d);
           }
+
+  -- by the call's answer, and by what is made of it
+  module _ (m : List ℕ) (e : take-call.digits asked ≡ values_of digits) where
+    pub pictured : (k j : Result ℕ Refusal) → record { number = placed_number k; at = placed_at 0 k; map = m } ≡ take-call.outcome asked
+        → MatchResult k (λ n. j ≡ Ok n) (λ r. IsErrAnd j (λ q. q ≡ as_sheet r)) → Pictured (w / 4) (h / 4) digits m j
+    pictured (Ok n) j p c = subst (Pictured (w / 4) (h / 4) digits m) (sym c) (picture_met (Ok tt) n m p e refl)
+    pictured (Err r) (Err q) p c = picture_stopped (Err r) 0 m p e r q refl c
+    pictured (Err r) (Ok n) p c = absurd c

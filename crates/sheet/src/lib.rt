@@ -15,18 +15,10 @@ mod print;
 mod tree;
 
 use crate::print::{put_listing, put_refusal};
-use crate::tree::{Taken, root_count, take_picture};
+use crate::tree::{root_count, take_picture};
 use def::Refusal;
 use edges::list_edges;
-use sheet_lines::{Sheet, read};
-use split::Listed;
-
-// How many bytes the text has.
-#[derive(Drop)]
-pub enum Printed {
-    Done(usize),
-    Refused(Refusal),
-}
+use sheet_lines::read;
 
 // Whether w and h are sides of a sheet's picture: multiples of 4, from 4 to 256.
 fn sides_ok(w: usize, h: usize) -> bool
@@ -64,11 +56,14 @@ fn print_lists(
 {
     match list_edges(w, h, map, limit as u8, vertical, horizontal) {
         // none of the call's tests fails here
-        Listed::Refused(r) => put_refusal(out, r, 0),
-        Listed::Done {
-            vertical: m,
-            horizontal: n,
-        } => put_listing(out, vertical, m, horizontal, n),
+        Err(r) => put_refusal(out, r, 0),
+        Ok(counts) => put_listing(
+            out,
+            vertical,
+            counts.vertical,
+            horizontal,
+            counts.horizontal,
+        ),
     }
 }
 
@@ -103,8 +98,8 @@ fn print_tree(
     ensures { Starts (printed (found_of w h limit false digits.now)) out.old out.new result }
 {
     match take_picture(digits, w, h, map) {
-        Taken::Refused(r) => put_refusal(out, r, 5),
-        Taken::Done(next) => {
+        Err(r) => put_refusal(out, r, 5),
+        Ok(next) => {
             if next < digits.len() {
                 return put_refusal(out, Refusal::Sheet, 5);
             }
@@ -138,26 +133,19 @@ fn print_sheet(input: &[u8], out: &mut [u8]) -> usize
     ensures { Starts (text_of input.now) out.old out.new result }
 {
     match read(input) {
-        Sheet::Malformed(line) => put_refusal(out, Refusal::Sheet, line),
-        Sheet::Read {
-            w,
-            h,
-            limit,
-            old,
-            from,
-            to,
-        } => print_digits(&input[from..to], w, h, limit, old, out),
+        Err(m) => put_refusal(out, Refusal::Sheet, m.0),
+        Ok(p) => print_digits(&input[p.from..p.to], p.w, p.h, p.limit, p.old, out),
     }
 }
 
 // What `edgelist` prints for `input`, the bytes that it read: put first into `out`, a buffer of 81,920 bytes.
-pub fn listing(input: &[u8], out: &mut [u8]) -> Printed
+pub fn listing(input: &[u8], out: &mut [u8]) -> Result<usize, Refusal>
     ensures { Gives outcome
         (record { input = input.entry.now; out = out.old })
         (record { reading = reading_of result; out = out.new }) }
 {
     if out.len() != 81920 {
-        return Printed::Refused(Refusal::Length);
+        return Err(Refusal::Length);
     }
-    Printed::Done(print_sheet(input, out))
+    Ok(print_sheet(input, out))
 }

@@ -10,12 +10,9 @@ fn put_bytes(out: &mut [u8], at: usize, text: &[u8]) -> usize
     requires { at + length text.now ≤ length out.old }
     ensures { Put text.now out.old at out.new result }
 {
-    let mut i = 0;
-    while i < text.len() {
-        out[at + i] = text[i];
-        i += 1;
-    }
-    at + i
+    let end = at + text.len();
+    out[at..end].copy_from_slice(text);
+    end
 }
 
 // A number below 10,000 in decimal: what its tenth has, and the last digit.
@@ -76,21 +73,13 @@ fn put_places(out: &mut [u8], at: usize, letter: u8, numbers: &[u16], n: usize) 
     requires { Places numbers.now n × (at + 10 * n ≤ length out.old) }
     ensures { Put (places_text letter numbers.now n) out.old at out.new result × (result ≤ at + 10 * n) }
 {
-    let mut i = 0;
     let mut next = at;
-    while i < n {
-        let x = wide(numbers[2 * i]);
-        let y = wide(numbers[2 * i + 1]);
+    for i in 0..n {
+        let x = usize::from(numbers[2 * i]);
+        let y = usize::from(numbers[2 * i + 1]);
         next = put_place(out, next, letter, x, y);
-        i += 1;
     }
     next
-}
-
-fn wide(x: u16) -> usize
-    ensures { result ≡ x }
-{
-    x as usize
 }
 
 // A line of a count.

@@ -7,15 +7,8 @@ ghost use Rattle.sheet.specs.Descent.{as_sheet};
 ghost use Rattle.sheet.specs.Taken.{Sides, Pictured};
 
 use bits::put_bit;
-use def::{Answer, Refusal, refusal_number, roots_along};
+use def::{Refusal, refusal_number, roots_along};
 use unpack::take_map;
-
-// The place after the digits that were taken.
-#[derive(Drop)]
-pub(crate) enum Taken {
-    Done(usize),
-    Refused(Refusal),
-}
 
 // How many roots cover a picture.
 pub(crate) fn root_count(w: usize, h: usize) -> usize
@@ -29,10 +22,8 @@ pub(crate) fn root_count(w: usize, h: usize) -> usize
 fn put_digits(digits: &[u8], bits: &mut [u8])
     ensures { bits.new ≡ with_bits bits.old 0 (λ i. get_or digits.now i 0 % 2) (length digits.now) }
 {
-    let mut i = 0;
-    while i < digits.len() {
-        put_bit(bits, i, digits[i]);
-        i += 1;
+    for (i, digit) in digits.iter().enumerate() {
+        put_bit(bits, i, *digit);
     }
 }
 
@@ -47,17 +38,16 @@ fn as_sheet(r: Refusal) -> Refusal
 }
 
 // The digits of a picture, put into its map of 1,024 bytes a root.
-pub(crate) fn take_picture(digits: &[u8], w: usize, h: usize, map: &mut [u8]) -> Taken
+pub(crate) fn take_picture(
+    digits: &[u8],
+    w: usize,
+    h: usize,
+    map: &mut [u8],
+) -> Result<usize, Refusal>
     requires { Sides w h × (binary digits.now ≡ true) × (length digits.now ≤ 4096) × (length map.old ≡ 1024 * roots (w / 4) (h / 4)) }
     ensures { Pictured (w / 4) (h / 4) digits.now map.new result }
 {
     let mut bits = [0u8; 512];
     put_digits(digits, &mut bits);
-    let placed = take_map(w, h, &bits, 0, digits.len(), map);
-    let next = placed.at;
-    let answer = placed.answer;
-    match answer {
-        Answer::Refused(r) => Taken::Refused(as_sheet(r)),
-        Answer::Done => Taken::Done(next),
-    }
+    take_map(w, h, &bits, 0, digits.len(), map).map_err(as_sheet)
 }

@@ -4,6 +4,7 @@
 --     Whole, whole_sheet_lem          what is known where all five lines are well formed
 --     Bad, bad_line               what is known where one is not
 -- Assumes nothing.
+use Rattle.std.specs.Prelude.{Result, Ok, Err}
 use mathlib.Core.Bool.{Bool, true, false}
 use mathlib.Core.List.{List, [], ◌∷◌}
 use mathlib.Core.Path.{◌≡◌, refl, sym, ap, ap₂, ◌∙◌}
@@ -17,27 +18,27 @@ use Rattle.laws.specs.Call.{Gives, unless}
 use Rattle.laws.proofs.Bools.{both_left, both_right}
 use Rattle.laws.proofs.Calls.{all_at}
 use Rattle.sheet_lines.specs.Lines.{line_from, start_of, line, starts_with, binary, splits_line, line_ok, line_tests, first_bad, width_of, height_of, limit_of, old_of, digits_of}
-use Rattle.sheet_lines.specs.ReadCall.{Reading, Outcome, reading_of, after, whole_sheet, read_of, outcome}
+use Rattle.sheet_lines.specs.ReadCall.{Reading, Outcome, reading_of, after, malformed, whole_sheet, read_of, outcome}
 use Rattle.sheet_lines.specs.Words.{splits_key}
 use Rattle.sheet_lines.specs.declared.Kind.TheVariants.{Width, Height, Limit, Edge, Splits}
+use Rattle.sheet_lines.specs.declared.Malformed.{Malformed}
 use Rattle.sheet_lines.specs.declared.Sheet.{Sheet}
-use Rattle.sheet_lines.specs.declared.Sheet.TheVariants.{Read, Malformed}
 use Rattle.sheet_lines.proofs.Forms.{key_fits, line_part}
 
 -- ---- the outcome
 
-pub gives : (s : List ℕ) (r : Sheet) → r ≡ read_of s → Gives outcome (record { input = s }) (after r)
+pub gives : (s : List ℕ) (r : Result Sheet Malformed) → r ≡ read_of s → Gives outcome (record { input = s }) (after r)
 unfolding outcome
 gives s r e = ap after e
 
-pub reading_apart : (a b : Sheet) → reading_of a ≡ reading_of b → a ≡ b
-reading_apart (Read w h l o f t) (Read w' h' l' o' f' t') e =
-    λ i. Read (e i).w (e i).h (e i).limit (e i).old (e i).from (e i).to
-reading_apart (Read w h l o f t) (Malformed n) e = absurd (let z = ap (λ (o : Reading). o.number) e in omega arith)
-reading_apart (Malformed n) (Read w h l o f t) e = absurd (let z = ap (λ (o : Reading). o.number) e in omega arith)
-reading_apart (Malformed m) (Malformed n) e = ap Malformed (ap (λ (o : Reading). o.line) e)
+pub reading_apart : (a b : Result Sheet Malformed) → reading_of a ≡ reading_of b → a ≡ b
+reading_apart (Ok p) (Ok q) e =
+    λ i. Ok (record { w = (e i).w; h = (e i).h; limit = (e i).limit; old = (e i).old; from = (e i).from; to = (e i).to })
+reading_apart (Ok p) (Err m) e = absurd (let z = ap (λ (o : Reading). o.number) e in omega arith)
+reading_apart (Err m) (Ok p) e = absurd (let z = ap (λ (o : Reading). o.number) e in omega arith)
+reading_apart (Err m) (Err n) e = ap malformed (ap (λ (o : Reading). o.line) e)
 
-pub answer_is : (s : List ℕ) (r : Sheet) → Gives outcome (record { input = s }) (after r) → r ≡ read_of s
+pub answer_is : (s : List ℕ) (r : Result Sheet Malformed) → Gives outcome (record { input = s }) (after r) → r ≡ read_of s
 unfolding outcome
 answer_is s r e = reading_apart r (read_of s) (ap (λ (o : Outcome). o.reading) e)
 
@@ -111,17 +112,29 @@ splits_at s e =
     )
 
 -- the answer where all five lines are well formed
-pub whole_sheet_lem : (s : List ℕ) (w h limit : ℕ) (old : Bool) (from to : ℕ) → read_of s ≡ Read w h limit old from to → Whole s w h limit old from to
+pub whole_sheet_lem : (s : List ℕ) (p : Sheet) → read_of s ≡ Ok p → Whole s p.w p.h p.limit p.old p.from p.to
 unfolding read_of
-whole_sheet_lem s w h limit old from to e = go (eqb (first_bad s) 0) refl e where
-  go : (t : Bool) → eqb (first_bad s) 0 ≡ t → unless t (Malformed (first_bad s)) (whole_sheet s) ≡ Read w h limit old from to → Whole s w h limit old from to
+whole_sheet_lem s p e = go (eqb (first_bad s) 0) refl e where
+  go : (t : Bool) → eqb (first_bad s) 0 ≡ t → unless t (malformed (first_bad s)) (Ok (whole_sheet s)) ≡ Ok p → Whole s p.w p.h p.limit p.old p.from p.to
   go true g z =
       let d = eqb-true (first_bad s) 0 g in
-      let f : start_of s 4 + length splits_key ≡ from = cc in
-      let t : start_of s 4 + length (line s 4) ≡ to = cc in
-      let p = splits_at s (fifth s d) in
-      let q : take (to - from) (drop from s) ≡ digits_of s = rw (sym f, sym t) (digits_part s (start_of s 4) (length (line s 4)) (length splits_key) refl) in
-      record { good = d; width = cc; height = cc; limited = cc; aged = cc; ordered = omega arith; inside = omega arith; short = omega arith; digits = q; two = ap binary q ∙ p.3 }
+      let y : whole_sheet s ≡ p = cc in
+      let f : start_of s 4 + length splits_key ≡ p.from = ap (λ (x : Sheet). x.from) y in
+      let t : start_of s 4 + length (line s 4) ≡ p.to = ap (λ (x : Sheet). x.to) y in
+      let a = splits_at s (fifth s d) in
+      let q : take (p.to - p.from) (drop p.from s) ≡ digits_of s = rw (sym f, sym t) (digits_part s (start_of s 4) (length (line s 4)) (length splits_key) refl) in
+      record {
+        good = d;
+        width = sym (ap (λ (x : Sheet). x.w) y);
+        height = sym (ap (λ (x : Sheet). x.h) y);
+        limited = sym (ap (λ (x : Sheet). x.limit) y);
+        aged = sym (ap (λ (x : Sheet). x.old) y);
+        ordered = omega arith;
+        inside = omega arith;
+        short = omega arith;
+        digits = q;
+        two = ap binary q ∙ a.3;
+      }
   go false g z = absurd (let y : ◌≡◌ {A = ℕ} 0 1 = cc in omega arith)
 
 -- and where one is not: n is its number
@@ -130,9 +143,11 @@ pub record Bad (s : List ℕ) (n : ℕ) : Type 0 where
   pub some : eqb (first_bad s) 0 ≡ false
   pub small : n ≤ 6
 
-pub bad_line : (s : List ℕ) (n : ℕ) → read_of s ≡ Malformed n → Bad s n
+pub bad_line : (s : List ℕ) (m : Malformed) → read_of s ≡ Err m → Bad s m.0
 unfolding read_of
-bad_line s n e = go (eqb (first_bad s) 0) refl e where
-  go : (t : Bool) → eqb (first_bad s) 0 ≡ t → unless t (Malformed (first_bad s)) (whole_sheet s) ≡ Malformed n → Bad s n
+bad_line s m e = go (eqb (first_bad s) 0) refl e where
+  go : (t : Bool) → eqb (first_bad s) 0 ≡ t → unless t (malformed (first_bad s)) (Ok (whole_sheet s)) ≡ Err m → Bad s m.0
   go true g z = absurd (let y : ◌≡◌ {A = ℕ} 0 1 = cc in omega arith)
-  go false g z = let q : first_bad s ≡ n = cc in record { first = q; some = g; small = omega (arith, line_small s) }
+  go false g z =
+      let y : record { 0 = first_bad s } ≡ m = cc in
+      let q : first_bad s ≡ m.0 = ap (λ (x : Malformed). x.0) y in record { first = q; some = g; small = omega (arith, line_small s) }

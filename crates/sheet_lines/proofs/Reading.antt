@@ -4,10 +4,10 @@
 --     Numbered, numbered, digit_at                what the tests of a number tell
 --     value-none, value_on, value_all, value_more, value_small
 -- Assumes nothing.
-use mathlib.Core.Path.{◌≡◌, sym, ap, ◌∙◌}
-use mathlib.Core.Bool.{Bool, true, false}
+use mathlib.Core.Path.{◌≡◌, refl, sym, ap, ◌∙◌}
+use mathlib.Core.Bool.{Bool, true, false, ◌&&◌}
 use mathlib.Core.List.{List, [], ◌∷◌}
-use Prim.Native.Nat.{ℕ, suc, ◌+◌, ◌-◌, ◌*◌, ◌^◌, ◌≤◌, ◌<◌}
+use Prim.Native.Nat.{ℕ, zero, suc, ◌+◌, ◌-◌, ◌*◌, ◌^◌, ◌≤◌, ◌<◌}
 use native.Mathlib.Nat.{pow-succ', pow-le-pow_right}
 use native.Mathlib.Numerals.{add-one}
 use native.Mathlib.Omega.{arith}
@@ -16,29 +16,29 @@ use lib.ListN.{length, drop, get_or, drop_of_length-le}
 use lib.Seq.{drop-cons}
 use borrow.Author.Tests.{eq-eqb, ne_eqb, leb-true}
 use Rattle.laws.specs.Index.{pick}
-use Rattle.laws.specs.Scan.{all_in}
+use Rattle.std.specs.List.{list_all}
+use Rattle.laws.specs.Scan.{all_below, all_in}
 use Rattle.laws.proofs.Bools.{both_left, both_right}
 use Rattle.laws.proofs.Calls.{all_at}
-use Rattle.laws.proofs.Scans.{scan_at}
-use Rattle.sheet_lines.specs.Lines.{line_of, line_from, starts_with, between, is_number, number_tests, value_from}
+use Rattle.laws.proofs.Scans.{scan_none, scan_at}
+use Rattle.sheet_lines.specs.Lines.{line_of, between, is_number, number_tests, value_from}
 
--- ---- the line that starts at a place
+here : (s : List ℕ) (i : ℕ) → i < length s → drop i s ≡ get_or s i 0 ∷ drop (i + 1) s
+here s i h = drop-cons s i 0 h ∙ ap (λ (k : ℕ). get_or s i 0 ∷ drop k s) (sym (add-one i))
 
-module _ (s : List ℕ) (i : ℕ) where
-  here : i < length s → drop i s ≡ get_or s i 0 ∷ drop (i + 1) s
-  here h = drop-cons s i 0 h ∙ ap (λ (k : ℕ). get_or s i 0 ∷ drop k s) (sym (add-one i))
+-- ---- the first line
 
-  pub line_stop : i < length s → get_or s i 0 ≡ 10 → line_from s i ≡ []
-  unfolding line_of
-  line_stop h e = ap line_of (here h) ∙ rw (eq-eqb (get_or s i 0) 10 e)
+pub line_none : length (line_of []) ≡ 0
+unfolding line_of
+line_none = refl
 
-  pub line_on : i < length s → (get_or s i 0 ≡ 10 → ⊥) → line_from s i ≡ get_or s i 0 ∷ line_from s (i + 1)
-  unfolding line_of
-  line_on h e = ap line_of (here h) ∙ rw (ne_eqb (get_or s i 0) 10 e)
+pub line_hit : (b : ℕ) (s : List ℕ) → b ≡ 10 → length (line_of (b ∷ s)) ≡ 0
+unfolding line_of
+line_hit b s e = rw (eq-eqb b 10 e)
 
-  pub line_end : length s ≤ i → line_from s i ≡ []
-  unfolding line_of
-  line_end h = ap line_of (drop_of_length-le s h)
+pub line_miss : (b : ℕ) (s : List ℕ) → (b ≡ 10 → ⊥) → length (line_of (b ∷ s)) ≡ length (line_of s) + 1
+unfolding line_of
+line_miss b s e = rw (ne_eqb b 10 e) (omega arith)
 
 pub line_short : (s : List ℕ) → length (line_of s) ≤ length s
 unfolding line_of
@@ -48,24 +48,22 @@ line_short (b ∷ s) = go (eqb b 10) (line_short s) where
   go true h = omega arith
   go false h = omega arith
 
--- ---- what is left of a key and of a line
+-- ---- a test of each element
 
-module _ (key l : List ℕ) (i : ℕ) where
-  pub key_none : length key ≤ i → starts_with (drop i key) (drop i l) ≡ true
-  unfolding starts_with
-  key_none h = ap (λ (k : List ℕ). starts_with k (drop i l)) (drop_of_length-le key h)
+below_cons : (f : ℕ → Bool) (b : ℕ) (l : List ℕ) (n : ℕ) → all_below (λ (k : ℕ). f (get_or (b ∷ l) k 0)) (suc n) ≡ (f b && all_below (λ (k : ℕ). f (get_or l k 0)) n)
+unfolding all_below
+below_cons f b l zero = go (f b) where
+  go : (t : Bool) → (true && t) ≡ (t && true)
+  go true = refl
+  go false = refl
+below_cons f b l (suc n) = ap (λ (t : Bool). t && f (get_or l n 0)) (below_cons f b l n) ∙ go (f b) (all_below (λ (k : ℕ). f (get_or l k 0)) n) (f (get_or l n 0)) where
+  go : (x y z : Bool) → ((x && y) && z) ≡ (x && (y && z))
+  go true y z = refl
+  go false y z = refl
 
-  pub key_out : i < length key → length l ≤ i → starts_with (drop i key) (drop i l) ≡ false
-  unfolding starts_with
-  key_out h p = rw (here key i h, drop_of_length-le l p)
-
-  pub key_other : i < length key → i < length l → (get_or key i 0 ≡ get_or l i 0 → ⊥) → starts_with (drop i key) (drop i l) ≡ false
-  unfolding starts_with
-  key_other h p e = rw (here key i h, here l i p, ne_eqb (get_or key i 0) (get_or l i 0) e)
-
-  pub key_on : i < length key → i < length l → get_or key i 0 ≡ get_or l i 0 → starts_with (drop i key) (drop i l) ≡ starts_with (drop (i + 1) key) (drop (i + 1) l)
-  unfolding starts_with
-  key_on h p e = rw (here key i h, here l i p, eq-eqb (get_or key i 0) (get_or l i 0) e)
+pub list_all_in : (f : ℕ → Bool) (l : List ℕ) → list_all f l ≡ all_in 0 f l
+list_all_in f [] = sym (scan_none (λ (k : ℕ). f (get_or [] k 0)))
+list_all_in f (b ∷ l) = ap (λ (t : Bool). f b && t) (list_all_in f l) ∙ sym (below_cons f b l (length l))
 
 -- ---- a number, digit by digit
 

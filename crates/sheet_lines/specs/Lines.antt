@@ -42,9 +42,13 @@ starts_with (k ∷ key) (b ∷ l) = eqb k b && starts_with key l
 abbrev pub between : ℕ → ℕ → ℕ → Bool
 between low high b = leb low b && leb b high
 
--- a number of one to four digits, without leading zeros
+-- a number of one digit or more, up to `most`, without leading zeros
+abbrev pub digit_tests : ℕ → List ℕ → List Bool
+digit_tests most l = leb 1 (length l) ∷ leb (length l) most ∷ (eqb (length l) 1 || not (eqb (get_or l 0 0) 48)) ∷ all_in 0 (between 48 57) l ∷ []
+
+-- of one to four
 abbrev pub number_tests : List ℕ → List Bool
-number_tests l = leb 1 (length l) ∷ leb (length l) 4 ∷ (eqb (length l) 1 || not (eqb (get_or l 0 0) 48)) ∷ all_in 0 (between 48 57) l ∷ []
+number_tests l = digit_tests 4 l
 
 unfoldable pub is_number : List ℕ → Bool
 is_number l = all_of (number_tests l)

@@ -1,13 +1,13 @@
 -- The call `read`: what the five lines of a sheet say, or the first line that is malformed.
 -- Assumes nothing: these are definitions.
-use Rattle.std.specs.Prelude.{ℕ, ◌+◌, Bool, false, List, eqb, length}
+use Rattle.std.specs.Prelude.{ℕ, ◌+◌, Bool, false, List, Result, Ok, Err, eqb, length}
 use Rattle.laws.specs.Call.{unless}
 use Rattle.def.specs.Refusals.{number_of}
 use Rattle.def.specs.declared.Refusal.TheVariants.{Sheet as BadSheet}
 use Rattle.sheet_lines.specs.Lines.{start_of, line, first_bad, width_of, height_of, limit_of, old_of}
 use Rattle.sheet_lines.specs.Words.{splits_key}
+use Rattle.sheet_lines.specs.declared.Malformed.{Malformed}
 use Rattle.sheet_lines.specs.declared.Sheet.{Sheet}
-use Rattle.sheet_lines.specs.declared.Sheet.TheVariants.{Read, Malformed}
 
 pub record Input : Type 0 where
   pub input : List ℕ
@@ -23,22 +23,34 @@ pub record Reading : Type 0 where
   pub from : ℕ
   pub to : ℕ
 
-abbrev pub reading_of : Sheet → Reading
-reading_of (Read w h limit old from to) = record { number = 0; line = 0; w = w; h = h; limit = limit; old = old; from = from; to = to }
-reading_of (Malformed n) = record { number = number_of BadSheet; line = n; w = 0; h = 0; limit = 0; old = false; from = 0; to = 0 }
+abbrev pub reading_of : Result Sheet Malformed → Reading
+reading_of (Ok p) = record { number = 0; line = 0; w = p.w; h = p.h; limit = p.limit; old = p.old; from = p.from; to = p.to }
+reading_of (Err m) = record { number = number_of BadSheet; line = m.0; w = 0; h = 0; limit = 0; old = false; from = 0; to = 0 }
 
 pub record Outcome : Type 0 where
   pub reading : Reading
 
-abbrev pub after : Sheet → Outcome
+abbrev pub after : Result Sheet Malformed → Outcome
 after r = record { reading = reading_of r }
+
+-- line n is malformed
+abbrev pub malformed : ℕ → Result Sheet Malformed
+malformed n = Err (record { 0 = n })
 
 -- what the five lines say, the digits by their places
 abbrev pub whole_sheet : List ℕ → Sheet
-whole_sheet s = Read (width_of s) (height_of s) (limit_of s) (old_of s) (start_of s 4 + length splits_key) (start_of s 4 + length (line s 4))
+whole_sheet s =
+    record {
+      w = width_of s;
+      h = height_of s;
+      limit = limit_of s;
+      old = old_of s;
+      from = start_of s 4 + length splits_key;
+      to = start_of s 4 + length (line s 4);
+    }
 
-unfoldable pub read_of : List ℕ → Sheet
-read_of s = unless (eqb (first_bad s) 0) (Malformed (first_bad s)) (whole_sheet s)
+unfoldable pub read_of : List ℕ → Result Sheet Malformed
+read_of s = unless (eqb (first_bad s) 0) (malformed (first_bad s)) (Ok (whole_sheet s))
 
 unfoldable pub outcome : Input → Outcome
 outcome i = after (read_of i.input)

@@ -5,7 +5,6 @@ ghost use Rattle.std.specs.Prelude.{◌≡◌, replicate};
 ghost use Rattle.sheet.specs.Listing.{outcome};
 
 use files::Stream;
-use sheet::Printed;
 use std::io;
 
 // The buffer that `listing` asks for. A call keeps the checker from looking into the array.
@@ -19,8 +18,6 @@ pub fn room() -> [u8; 81920]
 pub fn print(rt: &HostRuntime, input: &[u8], out: &mut [u8]) -> io::Result<()>
     ensures { out.new ≡ (outcome (record { input = input.entry.now; out = out.old })).out }
 {
-    match sheet::listing(input, out) {
-        Printed::Done(n) => files::write_all(rt, Stream::Output, &out[..n]),
-        Printed::Refused(_) => Err(io::Error::from(io::ErrorKind::InvalidInput)),
-    }
+    let n = sheet::listing(input, out).map_err(|_| io::Error::from(io::ErrorKind::InvalidInput))?;
+    files::write_all(rt, Stream::Output, &out[..n])
 }

@@ -1,6 +1,7 @@
 -- How many units the leaves have: of a block that is walked and not refused, as many as the block has in the picture; of all roots, all.
 -- So a pass's edges, at most one for each unit, fit a buffer of two numbers a unit.
 -- Assumes nothing.
+use Rattle.std.specs.Prelude.{Ok}
 use mathlib.Core.Bool.{Bool, true, false, ◌&&◌}
 use mathlib.Core.Logic.{⊎_elim}
 use mathlib.Core.List.{List, [], ◌∷◌, ◌++◌, Memᴰ}
@@ -12,7 +13,6 @@ use borrow.Author.Tests.{ltb-true, ltb-false, eqb-true}
 use lib.Arith.{digits_div, digits_mod}
 use lib.Dec.{ltb, eqb}
 use lib.ListN.{length, length-append}
-use Rattle.def.specs.declared.Answer.TheVariants.{Done}
 use Rattle.laws.specs.Index.{pick}
 use Rattle.laws.specs.Orders.{each}
 use Rattle.split.specs.Edges.{Pass, Edge, stretch, edge_list}
@@ -64,7 +64,7 @@ module _ (s : List ℕ) (w h : ℕ) where
         (all_four l₀ l₁ l₂ l₃) c₀ c₁ c₂ c₃);
   }
 
-  block_area : (k x y : ℕ) → (walk s w h k x y).answer ≡ Done → area (walk s w h k x y).list ≡ min (2 ^ k) (w - x) * min (2 ^ k) (h - y)
+  block_area : (k x y : ℕ) → (walk s w h k x y).answer ≡ Ok tt → area (walk s w h k x y).list ≡ min (2 ^ k) (w - x) * min (2 ^ k) (h - y)
   block_area = walk_ind s w h Areas area_cases
 
 -- ---- the roots, in raster order
@@ -109,7 +109,7 @@ module _ (s : List ℕ) (w h : ℕ) (pos : 1 ≤ w) where
       ends : (t : ℕ) → t + 1 ≡ across w → w ≡ min (16 * t) w + min 16 (w - 16 * t)
       ends t e = omega arith
 
-  area_of : (n : ℕ) → ((i : ℕ) → i < n → (root_walk s w h i).answer ≡ Done) → area (leaves_of s w h n) ≡ sofar (n / across w) (n % across w)
+  area_of : (n : ℕ) → ((i : ℕ) → i < n → (root_walk s w h i).answer ≡ Ok tt) → area (leaves_of s w h n) ≡ sofar (n / across w) (n % across w)
   unfolding leaves_of
   area_of zero f =
       let m : 0 < across w = omega arith in
@@ -130,7 +130,7 @@ module _ (s : List ℕ) (w h : ℕ) (pos : 1 ≤ w) where
       (λ g. let g' = ltb-false (t + 1) (across w) g in
       let e = next_row n (across w) (omega arith) (omega arith) in rw (e.0, e.1) (j ∙ ap₂ ◌+◌ i d ∙ to_next q t (omega arith)))
 
-  module _ (fine : (i : ℕ) → i < roots w h → (root_walk s w h i).answer ≡ Done) where
+  module _ (fine : (i : ℕ) → i < roots w h → (root_walk s w h i).answer ≡ Ok tt) where
     -- all units of the picture, once
     pub whole_area : area (all_leaves s w h) ≡ w * h
     whole_area =
@@ -181,7 +181,7 @@ edges_length d halved (p ∷ l) f =
       edges_length d halved l (λ q m. f q (Memᴰ.tail m)),
     )
 
-module _ (d : Pass) (halved : Bool) (s : List ℕ) (w h : ℕ) (pos : 1 ≤ w) (fine : (i : ℕ) → i < roots w h → (root_walk s w h i).answer ≡ Done) where
+module _ (d : Pass) (halved : Bool) (s : List ℕ) (w h : ℕ) (pos : 1 ≤ w) (fine : (i : ℕ) → i < roots w h → (root_walk s w h i).answer ≡ Ok tt) where
   pub few_edges : length (edge_list d halved s w h) ≤ w * h
   few_edges =
       omega (

@@ -4,6 +4,7 @@
 --     skip_x, skip_y, skip, started, at_unit, at_leaf, at_bad, at_cut    each way through the walk
 --     Cut, cut    what a block that is cut hands to its parts
 -- Assumes nothing.
+use Rattle.std.specs.Prelude.{Ok, Err}
 use mathlib.Core.Bool.{Bool, true, false, ◌||◌}
 use mathlib.Core.List.{List, [], ◌∷◌}
 use mathlib.Core.Path.{◌≡◌, refl, sym, ap, ◌∙◌}
@@ -14,7 +15,6 @@ use borrow.Author.Tests.{leb-true, leb-false}
 use lib.Dec.{leb}
 use lib.ListN.{length, get_or}
 use lib.Pow.{pow_pos}
-use Rattle.def.specs.declared.Answer.TheVariants.{Done, Refused}
 use Rattle.def.specs.declared.Refusal.TheVariants.{Split, Leaf as PastPicture}
 use Rattle.split.specs.Stored.{Block}
 use Rattle.split.specs.Walk.{leaf, Walk, met, nothing, in_turn, leaf_walk, place, part, walk}
@@ -75,13 +75,13 @@ module _ {w h x y side level : ℕ} (b : Block w h x y side level) where
       let q : 1 ≤ side / 4 * (side / 4) = rw e (mul-pos p p) in
       omega arith
 
-  pub past_x : w < x + side → leaf_walk (w / 4) (h / 4) (2 ^ (4 - level)) (x / 4) (y / 4) ≡ met [] (Refused PastPicture)
+  pub past_x : w < x + side → leaf_walk (w / 4) (h / 4) (2 ^ (4 - level)) (x / 4) (y / 4) ≡ met [] (Err PastPicture)
   past_x g = leaf_x _ _ (2 ^ (4 - level)) _ _ (omega arith)
 
-  pub past_y : x + side ≤ w → h < y + side → leaf_walk (w / 4) (h / 4) (2 ^ (4 - level)) (x / 4) (y / 4) ≡ met [] (Refused PastPicture)
+  pub past_y : x + side ≤ w → h < y + side → leaf_walk (w / 4) (h / 4) (2 ^ (4 - level)) (x / 4) (y / 4) ≡ met [] (Err PastPicture)
   past_y f g = leaf_y _ _ (2 ^ (4 - level)) _ _ (omega arith) (omega arith)
 
-  pub inside : x + side ≤ w → y + side ≤ h → leaf_walk (w / 4) (h / 4) (2 ^ (4 - level)) (x / 4) (y / 4) ≡ met (leaf (x / 4) (y / 4) (2 ^ (4 - level)) ∷ []) Done
+  pub inside : x + side ≤ w → y + side ≤ h → leaf_walk (w / 4) (h / 4) (2 ^ (4 - level)) (x / 4) (y / 4) ≡ met (leaf (x / 4) (y / 4) (2 ^ (4 - level)) ∷ []) (Ok tt)
   inside f g = leaf_in_lem _ _ (2 ^ (4 - level)) _ _ (omega arith) (omega arith)
 
 -- ---- what a block that is cut hands to its parts
@@ -147,7 +147,7 @@ module _ (s : List ℕ) {w h x y side level : ℕ} (b : Block w h x y side level
         let l : 3 - (3 - level) ≡ level = omega arith in
         rw l (rw (c, r) at (sym is))
 
-    pub at_bad : 1 < byte → walk s (w / 4) (h / 4) (4 - level) (x / 4) (y / 4) ≡ met [] (Refused Split)
+    pub at_bad : 1 < byte → walk s (w / 4) (h / 4) (4 - level) (x / 4) (y / 4) ≡ met [] (Err Split)
     at_bad e = rw log (walk_bad s _ _ (3 - level) _ _ (omega arith) (omega arith) (rw centre e))
 
     pub at_leaf : byte ≡ 0 → walk s (w / 4) (h / 4) (4 - level) (x / 4) (y / 4) ≡ leaf_walk (w / 4) (h / 4) (2 ^ (4 - level)) (x / 4) (y / 4)

@@ -4,6 +4,7 @@
 --     across_order    the edges of one place along follow each other across; rows-across the same of the list row by row
 --     only_rows    row by row and left to right is one order
 -- Assumes nothing.
+use Rattle.std.specs.Prelude.{Ok}
 use mathlib.Core.Bool.{Bool}
 use mathlib.Core.Logic.{⊎_elim, ◌↔◌}
 use mathlib.Core.List.{List, [], ◌∷◌, Memᴰ}
@@ -11,7 +12,6 @@ use mathlib.Core.Path.{◌≡◌, refl, sym, ap, subst}
 use Prim.Native.Nat.{ℕ, ◌*◌, ◌≤◌, ◌<◌}
 use native.Mathlib.Omega.{arith}
 use lib.ListN.{length}
-use Rattle.def.specs.declared.Answer.TheVariants.{Done}
 use Rattle.laws.specs.Orders.{Pairwise, each}
 use Rattle.laws.proofs.Orders.{pairwise_imp, same_list}
 use Rattle.split.specs.Demand3.{OneLeaf, Aligned, Demand3}
@@ -39,8 +39,8 @@ edges_twice (e ∷ l) = let i = edges_twice l in omega arith
 abbrev pub Across : Pass → Edge → Edge → Type 0
 Across d e f = along_of d e ≡ along_of d f → cross_of d e < cross_of d f
 
-module _ (halved : Bool) (s : List ℕ) (w h : ℕ) (pos : 1 ≤ w) (accepted : (picture_walk s w h).answer ≡ Done) where
-  abbrev fine : (i : ℕ) → i < roots w h → (root_walk s w h i).answer ≡ Done
+module _ (halved : Bool) (s : List ℕ) (w h : ℕ) (pos : 1 ≤ w) (accepted : (picture_walk s w h).answer ≡ Ok tt) where
+  abbrev fine : (i : ℕ) → i < roots w h → (root_walk s w h i).answer ≡ Ok tt
   fine = each_done (root_walk s w h) (roots w h) accepted
 
   -- ---- which they are

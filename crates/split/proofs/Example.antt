@@ -1,11 +1,11 @@
 -- The paper's sheet, width 16, height 8, splits 11110: its lists, by the walk and row by row. And two leaves of 64 side by side, with limit 5.
 -- Assumes nothing.
+use Rattle.std.specs.Prelude.{Ok}
 use mathlib.Core.Bool.{true, false}
 use mathlib.Core.List.{List, [], ◌∷◌}
 use mathlib.Core.Path.{◌≡◌, refl}
 use Prim.Native.Nat.{ℕ}
 use lib.ListN.{set, replicate, length}
-use Rattle.def.specs.declared.Answer.TheVariants.{Done}
 use Rattle.laws.specs.Orders.{each}
 use Rattle.split.specs.Edges.{vertical, horizontal, edge, edge_numbers, visit_of, stretch, edge_list}
 use Rattle.split.specs.Picture.{leaves_of, picture_walk}
@@ -16,7 +16,7 @@ use Rattle.split.specs.Walk.{leaf, met, onward, in_turn, leaf_walk, by_byte, wal
 bytes : List ℕ
 bytes = set (set (set (set (replicate 1024 0) 136 1) 324 1) 546 1) 785 1
 
-accepted : picture_walk bytes 4 2 ≡ met (leaf 0 0 1 ∷ leaf 1 0 1 ∷ leaf 0 1 1 ∷ leaf 1 1 1 ∷ leaf 2 0 2 ∷ []) Done
+accepted : picture_walk bytes 4 2 ≡ met (leaf 0 0 1 ∷ leaf 1 0 1 ∷ leaf 0 1 1 ∷ leaf 1 1 1 ∷ leaf 2 0 2 ∷ []) (Ok tt)
 unfolding bytes walk leaf_walk by_byte onward in_turn
 accepted = refl
 

@@ -1,6 +1,7 @@
 -- Induction over a walk that is not refused: what holds of a block that is skipped, of a unit, of a leaf, and of a block that is cut
 -- if it holds of the four parts, holds of each block.
 -- Assumes nothing.
+use Rattle.std.specs.Prelude.{Ok}
 use mathlib.Core.Bool.{Bool, true, false}
 use mathlib.Core.Logic.{◌⊎◌, inl, inr}
 use mathlib.Core.List.{List, [], ◌∷◌, ◌++◌}
@@ -10,7 +11,6 @@ use native.Mathlib.Omega.{arith}
 use borrow.Author.Tests.{ltb-true, ltb-false, leb-true, leb-false}
 use lib.Dec.{ltb, leb}
 use lib.ListN.{get_or}
-use Rattle.def.specs.declared.Answer.TheVariants.{Done}
 use Rattle.split.specs.Walk.{Leaf, leaf, Walk, in_turn, leaf_walk, place, part, walk}
 use Rattle.split.proofs.Walks.{not_done, four, walk_x, walk_y, walk_unit, walk_leaf, walk_cut, walk_bad, leaf_in_lem, leaf_x, leaf_y, part₀, part₁, part₂, part₃}
 
@@ -28,7 +28,7 @@ test false f g = g refl
 module _ (s : List ℕ) (w h : ℕ) (P : ℕ → ℕ → ℕ → List Leaf → Type 0) (cases : Cases s w h P) where
   -- what the goal is at a walk
   abbrev Good : ℕ → ℕ → ℕ → Walk → Type 0
-  Good k x y v = v.answer ≡ Done → P k x y v.list
+  Good k x y v = v.answer ≡ Ok tt → P k x y v.list
 
   at_walk : (k x y : ℕ) {v : Walk} → walk s w h k x y ≡ v → Good k x y v → Good k x y (walk s w h k x y)
   at_walk k x y {v} e g = subst (Good k x y) (sym e) g
@@ -55,7 +55,7 @@ module _ (s : List ℕ) (w h : ℕ) (P : ℕ → ℕ → ℕ → List Leaf → T
       let f = walk s w h k in
       let n = 2 ^ k in
       let b = four (part f n x y) z in
-      let good : (u v : ℕ) (q : Walk) → q ≡ f u v → q.answer ≡ Done → P k u v q.list =
+      let good : (u v : ℕ) (q : Walk) → q ≡ f u v → q.answer ≡ Ok tt → P k u v q.list =
       λ u v q i d. subst (Good k u v) (sym i) (below u v) d in
       subst (P (suc k) x y) (sym b.joined)
       (cases.cut k x y _ _ _ _ e
@@ -71,6 +71,6 @@ module _ (s : List ℕ) (w h : ℕ) (P : ℕ → ℕ → ℕ → List Leaf → T
   by_byte_lem (suc (suc b)) k x y e p q below =
       at_walk (suc k) x y (walk_bad s w h k x y p q (omega arith)) (λ z. absurd (not_done _ z))
 
-  pub walk_ind : (k x y : ℕ) → (walk s w h k x y).answer ≡ Done → P k x y (walk s w h k x y).list
+  pub walk_ind : (k x y : ℕ) → (walk s w h k x y).answer ≡ Ok tt → P k x y (walk s w h k x y).list
   walk_ind zero x y = inside 0 x y (λ p q. at_walk 0 x y (walk_unit s w h x y p q) (a_leaf 0 x y 1 (cases.unit x y)))
   walk_ind (suc k) x y = inside (suc k) x y (λ p q. by_byte_lem (get_or s (place k x y) 0) k x y refl p q (walk_ind k))

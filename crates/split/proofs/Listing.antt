@@ -1,5 +1,6 @@
 -- What a root's list reads back as: read-back, ready.
 -- Assumes nothing.
+use Rattle.std.specs.Prelude.{Ok, Result}
 use mathlib.Core.List.{List, [], ◌∷◌, ◌++◌, Memᴰ}
 use mathlib.Core.Path.{◌≡◌, refl, sym, ap, ap₂, ◌∙◌}
 use Prim.Native.Nat.{ℕ, zero, suc, ◌+◌, ◌*◌, ◌/◌, ◌≤◌, ◌<◌}
@@ -8,13 +9,11 @@ use native.Mathlib.Omega.{arith}
 use lib.ListN.{length, get_or, take, get_or-append}
 use lib.Pow.{pow_pos}
 use lib.Seq.{sets-eq, length-sets, take-suc, take_all}
-use Rattle.def.specs.declared.Answer.TheVariants.{Done}
+use Rattle.def.specs.declared.Refusal.{Refusal}
 use Rattle.laws.specs.Orders.{each}
 use Rattle.split.specs.Picture.{root_bytes, root_x, root_y, root_walk, root_leaves}
 use Rattle.split.specs.Stored.{leaf_numbers, Stored, leaves_from, Ready}
 use Rattle.split.specs.Walk.{Leaf, leaf as leaf'}
-use Rattle.split.specs.declared.Walked.{Walked}
-use Rattle.split.specs.declared.Walked.TheVariants.{Done as Counted}
 use Rattle.split.proofs.Stores.{stored_done, thrice}
 use Rattle.split.proofs.Tiling.{sound}
 use Rattle.split.proofs.Walks.{few_leaves}
@@ -44,8 +43,8 @@ numbers_at (p ∷ l) (suc j) h =
     let c : suc (suc (suc (3 * j))) + 2 ≡ suc (suc (suc (3 * j + 2))) = omega arith in
     rw (a, b, c) i
 
-module _ (s : List ℕ) (w h i : ℕ) (done : (root_walk s w h i).answer ≡ Done) {out list : List ℕ} {r : Walked} (z : Stored (root_walk s w h i) out 0 list r) (long : length out ≡ 768)
-    (n : ℕ) (e : r ≡ Counted n) where
+module _ (s : List ℕ) (w h i : ℕ) (done : (root_walk s w h i).answer ≡ Ok tt) {out list : List ℕ} {r : Result ℕ Refusal} (z : Stored (root_walk s w h i) out 0 list r) (long : length out ≡ 768)
+    (n : ℕ) (e : r ≡ Ok n) where
   abbrev l : List Leaf
   l = root_leaves s w h i
 

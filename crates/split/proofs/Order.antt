@@ -1,5 +1,6 @@
 -- The edges of the walk stand in the paper's order, which is strict: there is one list of these edges that stands in it.
 -- Assumes nothing.
+use Rattle.std.specs.Prelude.{Ok}
 use mathlib.Core.Bool.{Bool, true, false, ◌&&◌}
 use mathlib.Core.Logic.{◌⊎◌, inl, inr, ⊎_elim}
 use mathlib.Core.List.{List, [], Memᴰ}
@@ -8,7 +9,6 @@ use Prim.Native.Nat.{ℕ, zero, suc, ◌+◌, ◌/◌, ◌%◌, ◌≤◌, ◌<�
 use native.Mathlib.Omega.{arith}
 use borrow.Author.Tests.{eqb-true}
 use lib.Dec.{ltb, eqb}
-use Rattle.def.specs.declared.Answer.TheVariants.{Done}
 use Rattle.laws.specs.Index.{pick}
 use Rattle.laws.specs.Orders.{Pairwise, each}
 use Rattle.laws.proofs.Orders.{pairwise_append, pairwise_imp, pairwise_both, pairwise_each}
@@ -170,7 +170,7 @@ strict_order d s w e f =
 
 -- ---- a picture's edges
 
-module _ (halved : Bool) (s : List ℕ) (w h : ℕ) (pos : 1 ≤ w) (fine : (i : ℕ) → i < roots w h → (root_walk s w h i).answer ≡ Done) where
+module _ (halved : Bool) (s : List ℕ) (w h : ℕ) (pos : 1 ≤ w) (fine : (i : ℕ) → i < roots w h → (root_walk s w h i).answer ≡ Ok tt) where
   abbrev tv : Tiled vertical (home_of vertical s w) w h (all_leaves s w h)
   tv = tiled_v s w h pos fine
 

@@ -1,5 +1,6 @@
 -- The outcomes of the public calls, by what their checks find.
 -- Assumes nothing.
+use Rattle.std.specs.Prelude.{Ok, Err, Result}
 use mathlib.Core.Bool.{Bool, true, false, ◌&&◌}
 use mathlib.Core.List.{List, [], ◌∷◌}
 use mathlib.Core.Path.{◌≡◌, refl, sym, ap, ap₂, ◌∙◌}
@@ -14,8 +15,7 @@ use lib.Seq.{sets}
 use Rattle.def.specs.Answers.{answer_number, after_checks}
 use Rattle.def.specs.Picture.{size_ok, roots_along, root_count}
 use Rattle.def.specs.Refusals.{number_of}
-use Rattle.def.specs.declared.Answer.{Answer}
-use Rattle.def.specs.declared.Answer.TheVariants.{Done, Refused}
+use Rattle.def.specs.Answers.{Answer}
 use Rattle.def.specs.declared.Refusal.{Refusal}
 use Rattle.def.specs.declared.Refusal.TheVariants.{Size, Length, Block}
 use Rattle.def.proofs.Sizes.{Sized, sized}
@@ -28,8 +28,6 @@ use Rattle.split.specs.LeavesCall as leaves-call
 use Rattle.split.specs.Picture.{root_bytes, root_walk}
 use Rattle.split.specs.RootLeavesCall as root-leaves-call
 use Rattle.split.specs.Stored.{leaf_numbers, counted, Stored}
-use Rattle.split.specs.declared.Walked.{Walked}
-use Rattle.split.specs.declared.Walked.TheVariants.{Done as Counted, Refused as NotCounted}
 use Rattle.split.proofs.Induct.{test}
 use Rattle.split.proofs.Roots.{few_roots, number_column, number_below, root_row}
 use Rattle.split.proofs.Stores.{take_sets, thrice, counted_done, counted_refused}
@@ -38,8 +36,8 @@ use Rattle.split.proofs.Walks.{not_done, few_leaves}
 -- ---- check
 
 by_number : (k : Answer) → check-call.numbered (answer_number k) ≡ after_checks (λ r. check-call.numbered (number_of r)) (check-call.numbered 0) k
-by_number Done = refl
-by_number (Refused r) = refl
+by_number (Ok _) = refl
+by_number (Err r) = refl
 
 pub check_gives : (i : check-call.Input) (a : Answer) → a ≡ check-call.check i → check-call.numbered (answer_number a) ≡ check-call.outcome i
 unfolding check-call.outcome
@@ -48,7 +46,7 @@ check_gives i a e = rw e (by_number (check-call.check i))
 -- ---- leaves
 
 -- a ladder that ends in done has passed its first rung
-pub past : (t : Bool) (r : Refusal) (k : Answer) → unless t (Refused r) k ≡ Done → (t ≡ true) × (k ≡ Done)
+pub past : (t : Bool) (r : Refusal) (k : Answer) → unless t (Err r) k ≡ Ok tt → (t ≡ true) × (k ≡ Ok tt)
 past true r k e = (refl, e)
 past false r k e = absurd (not_done r e)
 
@@ -59,10 +57,10 @@ module _ (w h : ℕ) (s : List ℕ) (x y out : ℕ) where
   few_met : length (leaves-call.leaves_at w h s x y) ≤ 256
   few_met = (few_leaves (root_bytes s at) (w / 4) (h / 4) 4 _ _).few
 
-  pub met_refused : (list : List ℕ) (r : Refusal) → Refused r ≡ leaves-call.check_of w h s x y out → leaves-call.Met w h s x y out list (NotCounted r)
+  pub met_refused : (list : List ℕ) (r : Refusal) → Err r ≡ leaves-call.check_of w h s x y out → leaves-call.Met w h s x y out list (Err r)
   met_refused list r e = record { answer = ap (counted _) e; listed = λ d. absurd (not_done r (e ∙ d)); few = few_met }
 
-  pub met_walked : (list₀ list : List ℕ) (r : Walked) → length list₀ ≡ 768 → (root_walk s (w / 4) (h / 4) at).answer ≡ leaves-call.check_of w h s x y out
+  pub met_walked : (list₀ list : List ℕ) (r : Result ℕ Refusal) → length list₀ ≡ 768 → (root_walk s (w / 4) (h / 4) at).answer ≡ leaves-call.check_of w h s x y out
       → Stored (root_walk s (w / 4) (h / 4) at) list₀ 0 list r → leaves-call.Met w h s x y out list r
   met_walked list₀ list r n e d =
       let l = leaves-call.leaves_at w h s x y in
@@ -92,37 +90,37 @@ pub record LeavesPassed (w h : ℕ) (s : List ℕ) (x y out : ℕ) : Type 0 wher
   pub room : out ≡ 768
   pub column : x < w
   pub row : y < h
-  pub walked : (root_walk s (w / 4) (h / 4) (leaves-call.root_index w x y)).answer ≡ Done
+  pub walked : (root_walk s (w / 4) (h / 4) (leaves-call.root_index w x y)).answer ≡ Ok tt
 
-pub leaves_passed : (w h : ℕ) (s : List ℕ) (x y out : ℕ) → leaves-call.check_of w h s x y out ≡ Done → LeavesPassed w h s x y out
+pub leaves_passed : (w h : ℕ) (s : List ℕ) (x y out : ℕ) → leaves-call.check_of w h s x y out ≡ Ok tt → LeavesPassed w h s x y out
 unfolding leaves-call.check_of
 leaves_passed w h s x y out e =
     let t = leaves-call.lengths_ok w h (length s) out in
     let k = (root_walk s (w / 4) (h / 4) (leaves-call.root_index w x y)).answer in
-    let rest = unless (leaves-call.root_ok w h x y) (Refused Block) k in
-    let a = past (size_ok w h) Size (unless t (Refused Length) rest) e in
+    let rest = unless (leaves-call.root_ok w h x y) (Err Block) k in
+    let a = past (size_ok w h) Size (unless t (Err Length) rest) e in
     let b = past t Length rest a.1 in
     let c = past (leaves-call.root_ok w h x y) Block k b.1 in
     let l = lengths_told w h (length s) out b.0 in
     let r = root_told w h x y c.0 in
     record { size = sized w h a.0; bytes = l.0; room = l.1; column = r.2; row = r.3; walked = c.1 }
 
-pub met_room : {w h : ℕ} {s : List ℕ} {x y out : ℕ} {list : List ℕ} {r : Walked} (n : ℕ) → leaves-call.Met w h s x y out list r → r ≡ Counted n → (n ≤ 256) × (out ≡ 768)
+pub met_room : {w h : ℕ} {s : List ℕ} {x y out : ℕ} {list : List ℕ} {r : Result ℕ Refusal} (n : ℕ) → leaves-call.Met w h s x y out list r → r ≡ Ok n → (n ≤ 256) × (out ≡ 768)
 met_room {w} {h} {s} {x} {y} {out} n m e =
     let k = counted_done n _ (leaves-call.check_of w h s x y out) (sym e ∙ m.answer) in
     (omega (arith, k.1, m.few), (leaves_passed w h s x y out k.0).room)
 
 -- n is what the walk counted
-pub leaves_done : (i : leaves-call.Input) (list : List ℕ) (n : ℕ) (r : Walked) (o : List ℕ)
-    → leaves-call.Met i.w i.h i.splits i.x i.y (length i.out) list r → r ≡ Counted n → o ≡ sets i.out 0 (take (3 * n) list)
-    → leaves-call.after (Counted n) o ≡ leaves-call.outcome i
+pub leaves_done : (i : leaves-call.Input) (list : List ℕ) (n : ℕ) (r : Result ℕ Refusal) (o : List ℕ)
+    → leaves-call.Met i.w i.h i.splits i.x i.y (length i.out) list r → r ≡ Ok n → o ≡ sets i.out 0 (take (3 * n) list)
+    → leaves-call.after (Ok n) o ≡ leaves-call.outcome i
 unfolding leaves-call.outcome
 leaves_done i list n r o m e q =
     let k = counted_done n _ (leaves-call.check i) (sym e ∙ m.answer) in
     rw (k.0, q, k.1, m.listed k.0)
 
-pub leaves_refused : (i : leaves-call.Input) (list : List ℕ) (q : Refusal) (r : Walked)
-    → leaves-call.Met i.w i.h i.splits i.x i.y (length i.out) list r → r ≡ NotCounted q → leaves-call.after (NotCounted q) i.out ≡ leaves-call.outcome i
+pub leaves_refused : (i : leaves-call.Input) (list : List ℕ) (q : Refusal) (r : Result ℕ Refusal)
+    → leaves-call.Met i.w i.h i.splits i.x i.y (length i.out) list r → r ≡ Err q → leaves-call.after (Err q) i.out ≡ leaves-call.outcome i
 unfolding leaves-call.outcome
 leaves_refused i list q r m e = rw (counted_refused q _ (leaves-call.check i) (sym e ∙ m.answer))
 

@@ -1,6 +1,7 @@
 -- The passes come to the lists. In the vertical one the unit left of a visit's top row is done when it is made, and the one right of it is not:
 -- of two visits the later one stands right of the earlier, or below it, and no more is needed.
 -- Assumes nothing.
+use Rattle.std.specs.Prelude.{Ok}
 use mathlib.Core.Bool.{Bool, true, false, ◌&&◌}
 use mathlib.Core.Logic.{◌⊎◌, inl, inr, ⊎_elim}
 use mathlib.Core.List.Memᴰ
@@ -10,7 +11,6 @@ use Prim.Native.Nat.{ℕ, ◌+◌, ◌-◌, ◌≤◌, ◌<◌}
 use native.Mathlib.Omega.{arith}
 use borrow.Author.Tests.{lt-ltb, le-leb, leb-true, ltb-true, ltb-false, eqb-true}
 use lib.Dec.{ltb, leb, eqb}
-use Rattle.def.specs.declared.Answer.TheVariants.{Done}
 use Rattle.laws.specs.Index.{pick}
 use Rattle.laws.specs.Orders.{Pairwise, each}
 use Rattle.laws.proofs.Bools.{and_false, or_true}
@@ -183,7 +183,7 @@ by_leaves d halved s w h = each_each (near_edge d) (visit_of d halved) (leaf_edg
 pub horizontal_pass_lem : (halved : Bool) (s : List ℕ) (w h : ℕ) → horizontal_pass (visits horizontal halved s w h) ≡ edge_list horizontal halved s w h
 horizontal_pass_lem halved s w h = refl
 
-module _ (halved : Bool) (s : List ℕ) (w h : ℕ) (pos : 1 ≤ w) (fine : (i : ℕ) → i < roots w h → (root_walk s w h i).answer ≡ Done) where
+module _ (halved : Bool) (s : List ℕ) (w h : ℕ) (pos : 1 ≤ w) (fine : (i : ℕ) → i < roots w h → (root_walk s w h i).answer ≡ Ok tt) where
   abbrev t : Tiled vertical (home_of vertical s w) w h (all_leaves s w h)
   t = tiled_v s w h pos fine
 

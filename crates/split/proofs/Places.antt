@@ -1,5 +1,6 @@
 -- The leaves of a whole picture tile it, and follow each other: of two, the later one stands right of the earlier, or below it.
 -- Assumes nothing.
+use Rattle.std.specs.Prelude.{Ok}
 use mathlib.Core.Logic.{◌⊎◌, inl, inr, ⊎_elim}
 use mathlib.Core.List.Memᴰ
 use mathlib.Core.List.{List, [], ◌∷◌, ◌++◌, Memᴰ}
@@ -10,7 +11,6 @@ use native.Mathlib.Omega.{arith}
 use borrow.Author.Tests.{eqb-true, eqb-false}
 use lib.Dec.{eqb}
 use lib.Pow.{pow_pos}
-use Rattle.def.specs.declared.Answer.TheVariants.{Done}
 use Rattle.laws.specs.Orders.{Pairwise}
 use Rattle.laws.proofs.Orders.{pairwise_append, pairwise_imp}
 use Rattle.split.specs.Edges.{vertical, horizontal}
@@ -71,7 +71,7 @@ follows_cases s w h = record {
     alone : (p : Leaf) → Pairwise Before (p ∷ [])
     alone p = (λ q m. absurd (Memᴰ.not-nil m), tt)
 
-follows : (s : List ℕ) (w h x y : ℕ) → (walk s w h 4 x y).answer ≡ Done → Pairwise Before (walk s w h 4 x y).list
+follows : (s : List ℕ) (w h x y : ℕ) → (walk s w h 4 x y).answer ≡ Ok tt → Pairwise Before (walk s w h 4 x y).list
 follows s w h x y z = (walk_ind s w h Follows (follows_cases s w h) 4 x y z).1
 
 -- ---- the roots
@@ -98,7 +98,7 @@ module _ (s : List ℕ) (w h : ℕ) (pos : 1 ≤ w) where
       (λ t. let e = eqb-true i n t in Memᴰ.append_right (leaves_of s w h n) (subst (λ (j : ℕ). Memᴰ p (root_leaves s w h j)) e m))
       (λ t. let ne = eqb-false i n t in Memᴰ.append_left _ (mem_leaves n i p (omega arith) m))
 
-  module _ (fine : (i : ℕ) → i < roots w h → (root_walk s w h i).answer ≡ Done) where
+  module _ (fine : (i : ℕ) → i < roots w h → (root_walk s w h i).answer ≡ Ok tt) where
     pub sound_at : (i : ℕ) → i < roots w h → (p : Leaf) → Memᴰ p (root_leaves s w h i) → Sound (root_bytes s i) w h 4 (root_x w i) (root_y w i) p
     sound_at i l p m = sound (root_bytes s i) w h 4 (root_x w i) (root_y w i) (fine i l) p m
 

@@ -1,6 +1,7 @@
 -- The leaves of a root that is not refused: each stands on a multiple of its side, and their visiting ranks rise.
 -- What is asked of the ranks of a root's sixteen columns (or rows) is one test, which the checker computes.
 -- Assumes nothing.
+use Rattle.std.specs.Prelude.{Ok}
 use mathlib.Core.Bool.{Bool, true, false}
 use mathlib.Core.Logic.{⊎_elim}
 use mathlib.Core.List.Memᴰ
@@ -12,7 +13,6 @@ use native.Mathlib.Omega.{arith}
 use borrow.Author.Tests.{eqb-true, eq-eqb, le-leb}
 use lib.Dec.{leb, eqb}
 use lib.Pow.{pow_pos}
-use Rattle.def.specs.declared.Answer.TheVariants.{Done}
 use Rattle.laws.specs.Call.{unless, all_of}
 use Rattle.laws.specs.Orders.{Pairwise}
 use Rattle.laws.specs.Scan.{all_below}
@@ -170,7 +170,7 @@ rising_cases s w h = record {
         let h = mul-pos (pow_pos k) (pow_pos k) in
         subst (Ranked k x y) (sym (Memᴰ.eq_of_singleton m)) (record { from = omega arith; to = omega arith; stands = record { log = k; power = e; spot = d } })
 
-module _ (s : List ℕ) (w h x y : ℕ) (column : x % 16 ≡ 0) (row : y % 16 ≡ 0) (done : (walk s w h 4 x y).answer ≡ Done) where
+module _ (s : List ℕ) (w h x y : ℕ) (column : x % 16 ≡ 0) (row : y % 16 ≡ 0) (done : (walk s w h 4 x y).answer ≡ Ok tt) where
   pub rising : Pairwise Rises (walk s w h 4 x y).list
   rising = (walk_ind s w h Rising (rising_cases s w h) 4 x y done (root_spot x y column row)).1
 

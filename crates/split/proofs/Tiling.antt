@@ -1,6 +1,7 @@
 -- The leaves of a walk that is not refused tile the block: each unit of the picture is in the leaf that the descent finds,
 -- that leaf is in the list, and each leaf of the list is what the descent finds from each of its units.
 -- Assumes nothing.
+use Rattle.std.specs.Prelude.{Ok}
 use mathlib.Core.Logic.{⊎_elim}
 use mathlib.Core.List.Memᴰ
 use mathlib.Core.List.{List, Memᴰ}
@@ -11,7 +12,6 @@ use native.Mathlib.Omega.{arith}
 use borrow.Author.Tests.{lt-ltb, le-ltb, ltb-true, ltb-false}
 use lib.Dec.{ltb}
 use lib.ListN.{get_or}
-use Rattle.def.specs.declared.Answer.TheVariants.{Done}
 use Rattle.laws.specs.Index.{pick}
 use Rattle.split.specs.Walk.{Leaf, leaf, by_byte, place, walk}
 use Rattle.split.specs.Tiling.{Holds, leaf_at}
@@ -69,7 +69,7 @@ module _ (s : List ℕ) where
           (Memᴰ.append_right l₀ (Memᴰ.append_right l₁ (Memᴰ.append_right l₂ m.0)), m.1)));
     }
 
-    pub covers : (k x y : ℕ) → (walk s c r k x y).answer ≡ Done → Covers k x y (walk s c r k x y).list
+    pub covers : (k x y : ℕ) → (walk s c r k x y).answer ≡ Ok tt → Covers k x y (walk s c r k x y).list
     covers = walk_ind s c r Covers covers_cases
 
     -- a leaf that is listed: it lies in the block and in the picture, its side is a power of 2, and the descent finds it from each of its units
@@ -147,10 +147,10 @@ module _ (s : List ℕ) where
           (Memᴰ.append_cases l₂ n')) (Memᴰ.append_cases l₁ n)) (Memᴰ.append_cases l₀ m);
     }
 
-    pub sound : (k x y : ℕ) → (walk s c r k x y).answer ≡ Done → Sounds k x y (walk s c r k x y).list
+    pub sound : (k x y : ℕ) → (walk s c r k x y).answer ≡ Ok tt → Sounds k x y (walk s c r k x y).list
     sound = walk_ind s c r Sounds sound_cases
 
     -- two leaves of the list that share a unit are the same
-    pub one_leaf : (k x y : ℕ) → (walk s c r k x y).answer ≡ Done → (p q : Leaf) → Memᴰ p (walk s c r k x y).list → Memᴰ q (walk s c r k x y).list
+    pub one_leaf : (k x y : ℕ) → (walk s c r k x y).answer ≡ Ok tt → (p q : Leaf) → Memᴰ p (walk s c r k x y).list → Memᴰ q (walk s c r k x y).list
         → (u v : ℕ) → Holds p u v → Holds q u v → p ≡ q
     one_leaf k x y z p q m n u v i j = sym ((sound k x y z p m).found u v i) ∙ (sound k x y z q n).found u v j

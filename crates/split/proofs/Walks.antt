@@ -5,6 +5,7 @@
 --     walk_x, walk_y, walk_unit, walk_leaf, walk_cut, walk_bad, leaf_in_lem, leaf_x, leaf_y
 --     few_in_turn, few_leaves    how many leaves there are at most
 -- Assumes nothing.
+use Rattle.std.specs.Prelude.{Ok, Err}
 use mathlib.Core.Bool.{Bool, true, false}
 use mathlib.Core.Path.{◌≡◌, refl, sym, ap, ap₂, ◌∙◌, subst}
 use mathlib.Core.List.{List, [], ◌∷◌, ◌++◌, append_assoc}
@@ -17,36 +18,35 @@ use borrow.Author.Tests.{le-ltb, lt-ltb, le-leb, lt-leb}
 use lib.Dec.{ltb, leb}
 use lib.ListN.{length, get_or, length-append}
 use lib.Pow.{pow_pos}
-use Rattle.def.specs.declared.Answer.{Answer}
-use Rattle.def.specs.declared.Answer.TheVariants.{Done, Refused}
+use Rattle.def.specs.Answers.{Answer}
 use Rattle.def.specs.declared.Refusal.{Refusal}
 use Rattle.def.specs.declared.Refusal.TheVariants.{Split, Leaf as PastPicture}
 use Rattle.laws.specs.Call.{unless}
 use Rattle.laws.specs.Index.{pick}
 use Rattle.split.specs.Walk.{Leaf, leaf, Walk, met, nothing, onward, and_then, in_turn, leaf_walk, by_byte, place, part, walk}
 
-pub not_done : (r : Refusal) → Refused r ≡ Done → ⊥
+pub not_done : (r : Refusal) → ◌≡◌ {A = Answer} (Err r) (Ok tt) → ⊥
 not_done r e = let z : ◌≡◌ {A = ℕ} 0 1 = cc in omega arith
 
 -- ---- a walk, and then another
 
-pub onward_done : (a : Answer) (l : List Leaf) (b : Walk) → a ≡ Done → onward a l b ≡ met (l ++ b.list) b.answer
+pub onward_done : (a : Answer) (l : List Leaf) (b : Walk) → a ≡ Ok tt → onward a l b ≡ met (l ++ b.list) b.answer
 unfolding onward
 onward_done a l b e = rw e
 
-pub onward_stop : (a : Answer) (l : List Leaf) (b : Walk) (r : Refusal) → a ≡ Refused r → onward a l b ≡ met l (Refused r)
+pub onward_stop : (a : Answer) (l : List Leaf) (b : Walk) (r : Refusal) → a ≡ Err r → onward a l b ≡ met l (Err r)
 unfolding onward
 onward_stop a l b r e = rw e
 
 pub record Both (a : Answer) (l : List Leaf) (b : Walk) : Type 0 where
-  pub first : a ≡ Done
-  pub second : b.answer ≡ Done
+  pub first : a ≡ Ok tt
+  pub second : b.answer ≡ Ok tt
   pub joined : (onward a l b).list ≡ l ++ b.list
 
-pub both : (a : Answer) (l : List Leaf) (b : Walk) → (onward a l b).answer ≡ Done → Both a l b
+pub both : (a : Answer) (l : List Leaf) (b : Walk) → (onward a l b).answer ≡ Ok tt → Both a l b
 unfolding onward
-both Done l b e = record { first = refl; second = e; joined = refl }
-both (Refused r) l b e = absurd (not_done r e)
+both (Ok _) l b e = record { first = refl; second = e; joined = refl }
+both (Err r) l b e = absurd (not_done r e)
 
 -- ---- walks in turn
 
@@ -59,46 +59,46 @@ unfolding in_turn
 turn_more f n = refl
 
 -- once one is refused, that is all
-pub turn_stop : (f : ℕ → Walk) (n m : ℕ) (r : Refusal) → (in_turn f n).answer ≡ Refused r → in_turn f (n + m) ≡ in_turn f n
+pub turn_stop : (f : ℕ → Walk) (n m : ℕ) (r : Refusal) → (in_turn f n).answer ≡ Err r → in_turn f (n + m) ≡ in_turn f n
 turn_stop f n zero r e = rw add-zero
 turn_stop f n (suc m) r e =
     let i = turn_stop f n m r e in
     rw add-suc (turn_more f (n + m) ∙ onward_stop _ _ (f (n + m)) r (ap (λ (v : Walk). v.answer) i ∙ e) ∙ stays (in_turn f (n + m)) (ap (λ (v : Walk). v.answer) i ∙ e) ∙ i)
   where
-    stays : (v : Walk) → v.answer ≡ Refused r → met v.list (Refused r) ≡ v
+    stays : (v : Walk) → v.answer ≡ Err r → met v.list (Err r) ≡ v
     stays v q i = record { list = v.list; answer = sym q i }
 
 -- one more
-turn_answer : (f : ℕ → Walk) (i : ℕ) (a : Answer) → (in_turn f i).answer ≡ Done → (f i).answer ≡ a → (in_turn f (suc i)).answer ≡ a
+turn_answer : (f : ℕ → Walk) (i : ℕ) (a : Answer) → (in_turn f i).answer ≡ Ok tt → (f i).answer ≡ a → (in_turn f (suc i)).answer ≡ a
 turn_answer f i a p q = ap (λ (v : Walk). v.answer) (turn_more f i ∙ onward_done _ (in_turn f i).list (f i) p) ∙ q
 
-pub turn_done : (f : ℕ → Walk) (i : ℕ) → (in_turn f i).answer ≡ Done → (f i).answer ≡ Done → (in_turn f (i + 1)).answer ≡ Done
-turn_done f i p q = rw (add-one i) (turn_answer f i Done p q)
+pub turn_done : (f : ℕ → Walk) (i : ℕ) → (in_turn f i).answer ≡ Ok tt → (f i).answer ≡ Ok tt → (in_turn f (i + 1)).answer ≡ Ok tt
+turn_done f i p q = rw (add-one i) (turn_answer f i (Ok tt) p q)
 
-pub turn_refused : (f : ℕ → Walk) (i n : ℕ) (r : Refusal) → i < n → (in_turn f i).answer ≡ Done → (f i).answer ≡ Refused r → (in_turn f n).answer ≡ Refused r
+pub turn_refused : (f : ℕ → Walk) (i n : ℕ) (r : Refusal) → i < n → (in_turn f i).answer ≡ Ok tt → (f i).answer ≡ Err r → (in_turn f n).answer ≡ Err r
 turn_refused f i n r l p q =
-    let e = turn_answer f i (Refused r) p q in
+    let e = turn_answer f i (Err r) p q in
     let j : suc i + (n - suc i) ≡ n = omega arith in
     ap (λ (k : ℕ). (in_turn f k).answer) (sym j) ∙ ap (λ (v : Walk). v.answer) (turn_stop f (suc i) (n - suc i) r e) ∙ e
 
-last : (f : ℕ → Walk) (n : ℕ) → (in_turn f (suc n)).answer ≡ Done → Both (in_turn f n).answer (in_turn f n).list (f n)
+last : (f : ℕ → Walk) (n : ℕ) → (in_turn f (suc n)).answer ≡ Ok tt → Both (in_turn f n).answer (in_turn f n).list (f n)
 unfolding in_turn
 last f n e = both _ _ _ e
 
-pub each_done : (f : ℕ → Walk) (n : ℕ) → (in_turn f n).answer ≡ Done → (i : ℕ) → i < n → (f i).answer ≡ Done
+pub each_done : (f : ℕ → Walk) (n : ℕ) → (in_turn f n).answer ≡ Ok tt → (i : ℕ) → i < n → (f i).answer ≡ Ok tt
 each_done f zero e i l = absurd (not-suc-le-zero l)
 each_done f (suc n) e i l =
     let b = last f n e in
-    ⊎_elim (λ q. subst (λ (j : ℕ). (f j).answer ≡ Done) (sym q) b.second) (λ g. each_done f n b.first i g) (eq-or-lt_of_le (le_of_suc-le-suc l))
+    ⊎_elim (λ q. subst (λ (j : ℕ). (f j).answer ≡ Ok tt) (sym q) b.second) (λ g. each_done f n b.first i g) (eq-or-lt_of_le (le_of_suc-le-suc l))
 
 pub record Four (f : ℕ → Walk) : Type 0 where
-  pub done₀ : (f 0).answer ≡ Done
-  pub done₁ : (f 1).answer ≡ Done
-  pub done₂ : (f 2).answer ≡ Done
-  pub done₃ : (f 3).answer ≡ Done
+  pub done₀ : (f 0).answer ≡ Ok tt
+  pub done₁ : (f 1).answer ≡ Ok tt
+  pub done₂ : (f 2).answer ≡ Ok tt
+  pub done₃ : (f 3).answer ≡ Ok tt
   pub joined : (in_turn f 4).list ≡ (f 0).list ++ ((f 1).list ++ ((f 2).list ++ (f 3).list))
 
-pub four : (f : ℕ → Walk) → (in_turn f 4).answer ≡ Done → Four f
+pub four : (f : ℕ → Walk) → (in_turn f 4).answer ≡ Ok tt → Four f
 unfolding in_turn
 four f e =
     let b₃ = both _ _ (f 3) e in
@@ -131,7 +131,7 @@ module _ (s : List ℕ) (w h : ℕ) where
   walk_unit x y p q = simp (lt-ltb x w p, lt-ltb y h q)
 
   byte : (b k x y : ℕ) → x < w → y < h → get_or s (place k x y) 0 ≡ b
-      → walk s w h (suc k) x y ≡ by_byte b (leaf_walk w h (2 ^ suc k) x y) (in_turn (part (walk s w h k) (2 ^ k) x y) 4) (met [] (Refused Split))
+      → walk s w h (suc k) x y ≡ by_byte b (leaf_walk w h (2 ^ suc k) x y) (in_turn (part (walk s w h k) (2 ^ k) x y) 4) (met [] (Err Split))
   unfolding walk
   byte b k x y p q e = simp (lt-ltb x w p, lt-ltb y h q, e)
 
@@ -143,11 +143,11 @@ module _ (s : List ℕ) (w h : ℕ) where
   unfolding by_byte
   walk_cut k x y p q e = byte 1 k x y p q e
 
-  pub walk_bad : (k x y : ℕ) → x < w → y < h → 1 < get_or s (place k x y) 0 → walk s w h (suc k) x y ≡ met [] (Refused Split)
+  pub walk_bad : (k x y : ℕ) → x < w → y < h → 1 < get_or s (place k x y) 0 → walk s w h (suc k) x y ≡ met [] (Err Split)
   unfolding by_byte
   walk_bad k x y p q e = go (get_or s (place k x y) 0) refl e
     where
-      go : (b : ℕ) → get_or s (place k x y) 0 ≡ b → 1 < b → walk s w h (suc k) x y ≡ met [] (Refused Split)
+      go : (b : ℕ) → get_or s (place k x y) 0 ≡ b → 1 < b → walk s w h (suc k) x y ≡ met [] (Err Split)
       go zero u l = absurd (omega arith)
       go (suc zero) u l = absurd (omega arith)
       go (suc (suc b)) u l = byte (suc (suc b)) k x y p q u
@@ -155,15 +155,15 @@ module _ (s : List ℕ) (w h : ℕ) where
 -- ---- a leaf
 
 module _ (w h : ℕ) where
-  pub leaf_in_lem : (n x y : ℕ) → x + n ≤ w → y + n ≤ h → leaf_walk w h n x y ≡ met (leaf x y n ∷ []) Done
+  pub leaf_in_lem : (n x y : ℕ) → x + n ≤ w → y + n ≤ h → leaf_walk w h n x y ≡ met (leaf x y n ∷ []) (Ok tt)
   unfolding leaf_walk
   leaf_in_lem n x y p q = simp (le-leb (x + n) w p, le-leb (y + n) h q)
 
-  pub leaf_x : (n x y : ℕ) → w < x + n → leaf_walk w h n x y ≡ met [] (Refused PastPicture)
+  pub leaf_x : (n x y : ℕ) → w < x + n → leaf_walk w h n x y ≡ met [] (Err PastPicture)
   unfolding leaf_walk
   leaf_x n x y p = simp (lt-leb (x + n) w p)
 
-  pub leaf_y : (n x y : ℕ) → x + n ≤ w → h < y + n → leaf_walk w h n x y ≡ met [] (Refused PastPicture)
+  pub leaf_y : (n x y : ℕ) → x + n ≤ w → h < y + n → leaf_walk w h n x y ≡ met [] (Err PastPicture)
   unfolding leaf_walk
   leaf_y n x y p q = simp (le-leb (x + n) w p, lt-leb (y + n) h q)
 
@@ -206,12 +206,12 @@ few_byte (suc (suc b)) f g h = h
 
 few_onward : (a : Answer) (l : List Leaf) (v : Walk) (m n : ℕ) → length l ≤ m → Few v n → Few (onward a l v) (m + n)
 unfolding onward
-few_onward Done l v m n g h = record { few = omega (arith, length-append l v.list) }
-few_onward (Refused r) l v m n g h = record { few = omega arith }
+few_onward (Ok _) l v m n g h = record { few = omega (arith, length-append l v.list) }
+few_onward (Err r) l v m n g h = record { few = omega arith }
 
 pub few_in_turn : (f : ℕ → Walk) (m : ℕ) → ((i : ℕ) → Few (f i) m) → (n : ℕ) → Few (in_turn f n) (n * m)
 unfolding in_turn
-few_in_turn f m h zero = few_none Done _
+few_in_turn f m h zero = few_none (Ok tt) _
 few_in_turn f m h (suc n) =
     let i = few_onward (in_turn f n).answer (in_turn f n).list (f n) (n * m) m (few_in_turn f m h n).few (h n) in
     subst (Few (in_turn f (suc n))) (sym (suc-mul n m)) i
@@ -222,7 +222,7 @@ few_leaf w h n x y m g = few_unless (leb (x + n) w) (few_none _ m) (few_unless (
 
 pub few_leaves : (s : List ℕ) (w h k x y : ℕ) → Few (walk s w h k x y) (2 ^ k * 2 ^ k)
 unfolding walk
-few_leaves s w h zero x y = few_pick (ltb x w) (few_pick (ltb y h) (few_leaf w h 1 x y 1 (omega arith)) (few_none Done 1)) (few_none Done 1)
+few_leaves s w h zero x y = few_pick (ltb x w) (few_pick (ltb y h) (few_leaf w h 1 x y 1 (omega arith)) (few_none (Ok tt) 1)) (few_none (Ok tt) 1)
 few_leaves s w h (suc k) x y =
     let n = 2 ^ suc k * 2 ^ suc k in
     let q = 2 ^ k * 2 ^ k in
@@ -233,6 +233,6 @@ few_leaves s w h (suc k) x y =
     (few_byte (get_or s (place k x y) 0)
     (few_leaf w h (2 ^ suc k) x y n one)
     (subst (Few (in_turn (part (walk s w h k) (2 ^ k) x y) 4)) (sym e) (few_in_turn (part (walk s w h k) (2 ^ k) x y) q (λ i. few_leaves s w h k _ _) 4))
-    (few_none (Refused Split) n))
-    (few_none Done n))
-    (few_none Done n)
+    (few_none (Err Split) n))
+    (few_none (Ok tt) n))
+    (few_none (Ok tt) n)

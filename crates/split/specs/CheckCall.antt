@@ -1,11 +1,10 @@
 -- The call `check`: whether the walk of a picture of w by h samples is refused, and why.
 -- Assumes nothing: these are definitions.
-use Rattle.std.specs.Prelude.{ℕ, ◌*◌, ◌/◌, List, eqb, length}
+use Rattle.std.specs.Prelude.{ℕ, ◌*◌, ◌/◌, List, eqb, length, Err}
 use Rattle.def.specs.Answers.{after_checks}
 use Rattle.def.specs.Picture.{size_ok, root_count}
 use Rattle.def.specs.Refusals.{number_of}
-use Rattle.def.specs.declared.Answer.{Answer}
-use Rattle.def.specs.declared.Answer.TheVariants.{Refused}
+use Rattle.def.specs.Answers.{Answer}
 use Rattle.def.specs.declared.Refusal.TheVariants.{Size, Length}
 use Rattle.laws.specs.Call.{unless}
 use Rattle.split.specs.Picture.{picture_walk}
@@ -20,8 +19,8 @@ pub record Outcome : Type 0 where
 
 unfoldable pub check : Input → Answer
 check i =
-    unless (size_ok i.w i.h) (Refused Size)
-    (unless (eqb (length i.splits) (1024 * root_count i.w i.h)) (Refused Length)
+    unless (size_ok i.w i.h) (Err Size)
+    (unless (eqb (length i.splits) (1024 * root_count i.w i.h)) (Err Length)
     (picture_walk i.splits (i.w / 4) (i.h / 4)).answer)
 
 abbrev pub numbered : ℕ → Outcome

@@ -1,13 +1,11 @@
 -- What the functions of the walk ask and leave behind, and the leaves of a list. They work in luma samples; 4 of them make a unit, and no position of theirs lies inside one.
 -- Assumes nothing: these are definitions.
-use Rattle.std.specs.Prelude.{List, [], ◌∷◌, ◌++◌, ◌≡◌, ℕ, zero, suc, ◌+◌, ◌-◌, ◌*◌, ◌/◌, ◌%◌, ◌^◌, ◌≤◌, ◌<◌, length, get_or}
+use Rattle.std.specs.Prelude.{List, [], ◌∷◌, ◌++◌, ◌≡◌, ℕ, zero, suc, ◌+◌, ◌-◌, ◌*◌, ◌/◌, ◌%◌, ◌^◌, ◌≤◌, ◌<◌, length, get_or, Ok, Err, Result}
 use Rattle.std.proofs.lemmas.List.Edits.{sets}
-use Rattle.def.specs.declared.Answer.{Answer}
-use Rattle.def.specs.declared.Answer.TheVariants.{Done, Refused}
+use Rattle.def.specs.declared.Refusal.{Refusal}
+use Rattle.def.specs.Answers.{Answer}
 use Rattle.laws.specs.Orders.{each}
 use Rattle.split.specs.Walk.{Leaf, leaf, Walk}
-use Rattle.split.specs.declared.Walked.{Walked}
-use Rattle.split.specs.declared.Walked.TheVariants.{Done as Counted, Refused as NotCounted}
 
 -- a block of the tree of a picture of w by h, of side `side` at (x, y)
 pub record Block (w h x y side level : ℕ) : Type 0 where
@@ -27,12 +25,12 @@ abbrev pub leaf_numbers : Leaf → List ℕ
 leaf_numbers p = 4 * p.x ∷ 4 * p.y ∷ 4 * p.side ∷ []
 
 -- the answer of a walk after which n leaves are listed
-abbrev pub counted : ℕ → Answer → Walked
-counted n Done = Counted n
-counted n (Refused r) = NotCounted r
+abbrev pub counted : ℕ → Answer → Result ℕ Refusal
+counted n (Ok _) = Ok n
+counted n (Err r) = Err r
 
 -- the leaves that a walk met are listed after the n before them, whether it was refused or not
-pub record Stored (v : Walk) (out : List ℕ) (n : ℕ) (out' : List ℕ) (r : Walked) : Type 0 where
+pub record Stored (v : Walk) (out : List ℕ) (n : ℕ) (out' : List ℕ) (r : Result ℕ Refusal) : Type 0 where
   pub answer : r ≡ counted (n + length v.list) v.answer
   pub stored : out' ≡ sets out (3 * n) (each leaf_numbers v.list)
 

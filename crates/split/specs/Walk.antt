@@ -1,11 +1,10 @@
 -- The walk of one root's split tree. Places and sides are in units of 4x4 luma samples, counted in the picture: w and h are its sides in units,
 -- s the root's 1,024 split bytes. A block of level 4 - k has a side of 2 ^ k units.
 -- Assumes nothing: these are definitions.
-use Rattle.std.specs.Prelude.{List, [], ◌∷◌, ◌++◌, ℕ, zero, suc, ◌+◌, ◌-◌, ◌*◌, ◌/◌, ◌%◌, ◌^◌, ltb, leb, get_or}
+use Rattle.std.specs.Prelude.{List, [], ◌∷◌, ◌++◌, ℕ, zero, suc, ◌+◌, ◌-◌, ◌*◌, ◌/◌, ◌%◌, ◌^◌, ltb, leb, get_or, Ok, Err}
 use Rattle.laws.specs.Call.{unless}
 use Rattle.laws.specs.Index.{pick}
-use Rattle.def.specs.declared.Answer.{Answer}
-use Rattle.def.specs.declared.Answer.TheVariants.{Done, Refused}
+use Rattle.def.specs.Answers.{Answer}
 use Rattle.def.specs.declared.Refusal.TheVariants.{Split, Leaf as PastPicture}
 
 -- a leaf: its first unit's column and row, and its side in units
@@ -26,12 +25,12 @@ abbrev pub met : List Leaf → Answer → Walk
 met l a = record { list = l; answer = a }
 
 abbrev pub nothing : Walk
-nothing = met [] Done
+nothing = met [] (Ok tt)
 
 -- a walk, and then, unless it was refused, another
 unfoldable pub onward : Answer → List Leaf → Walk → Walk
-onward Done l b = met (l ++ b.list) b.answer
-onward (Refused r) l b = met l (Refused r)
+onward (Ok _) l b = met (l ++ b.list) b.answer
+onward (Err r) l b = met l (Err r)
 
 abbrev pub and_then : Walk → Walk → Walk
 and_then a b = onward a.answer a.list b
@@ -44,9 +43,9 @@ in_turn f (suc n) = and_then (in_turn f n) (f n)
 -- 5: a leaf reaches past the picture
 unfoldable pub leaf_walk : (w h n x y : ℕ) → Walk
 leaf_walk w h n x y =
-    unless (leb (x + n) w) (met [] (Refused PastPicture))
-    (unless (leb (y + n) h) (met [] (Refused PastPicture))
-    (met (leaf x y n ∷ []) Done))
+    unless (leb (x + n) w) (met [] (Err PastPicture))
+    (unless (leb (y + n) h) (met [] (Err PastPicture))
+    (met (leaf x y n ∷ []) (Ok tt)))
 
 -- by a split byte: a leaf where it is 0, a cut where it is 1, and else refused
 unfoldable pub by_byte : {A : Type 0} → ℕ → A → A → A → A
@@ -71,6 +70,6 @@ walk s w h (suc k) x y =
     (by_byte (get_or s (place k x y) 0)
     (leaf_walk w h (2 ^ suc k) x y)
     (in_turn (part (walk s w h k) (2 ^ k) x y) 4)
-    (met [] (Refused Split)))
+    (met [] (Err Split)))
     nothing)
     nothing

@@ -2,9 +2,11 @@
 // status is 0, or 3 where a packed file goes on behind the map, 1 for a refusal and 2 for a failure.
 #![tactic(auto)]
 
-use def::Answer;
+ghost use Rattle.std.specs.Prelude.{IfOk};
+ghost use Rattle.files.specs.Counts.{IsPrefixLen};
+
 use files::Source;
-use say::{end_line, field};
+use say::{Done, Stop};
 use std::process::ExitCode;
 
 // ---- room for the largest picture's map, which has 4,096 roots of 1,024 bytes, and for its digits, 85 bits a root; and a byte more of each, so that a file
@@ -18,105 +20,122 @@ fn digits_room() -> [u8; 43521] {
     [0u8; 43521]
 }
 
-// ---- both ways
-
-// How many bytes the digits take, at position `at` behind them, in bits. Answers the exit status, 2 where that cannot be written.
-fn tell(rt: &HostRuntime, at: usize, status: u8) -> u8 {
-    field(rt, b"bytes=", at / 8);
-    say::shown(rt, end_line(rt), status)
+// Reads the file that argument 4 names into a room: how many bytes it has.
+fn read(rt: &HostRuntime, file: &mut Source, room: &mut [u8]) -> Result<usize, Stop>
+    ensures { IfOk result (λ n. IsPrefixLen n room.new) }
+{
+    let n = files::read_full(&mut *file, room);
+    if words::unreadable(rt, 4, file) {
+        return Err(Stop::Failed);
+    }
+    Ok(n)
 }
 
+// Tells how many bytes the digits take, at position `at` behind them, in bits.
+fn tell(rt: &HostRuntime, at: usize) -> Result<(), Stop> {
+    say::told(rt, println!(rt; "bytes={}", at / 8))
+}
+
+// ---- both ways
+
 // The map is packed, and its digits are saved.
-fn packed(rt: &HostRuntime, w: usize, h: usize, map: &[u8], digits: &mut [u8]) -> u8 {
-    let placed = pack::put_map(w, h, map, &mut *digits, 0);
-    let answer = placed.answer;
-    match answer {
-        Answer::Refused(r) => map_file::refused_map(rt, 4, w, h, map, def::refusal_number(r)),
-        Answer::Done => {
-            let n = placed.at / 8;
-            if digits.len() < n {
-                return 2;
-            }
-            if !map_file::save(rt, 5, &digits[..n]) {
-                return 2;
-            }
-            tell(rt, placed.at, 0)
-        }
-    }
+fn packed(
+    rt: &HostRuntime,
+    w: usize,
+    h: usize,
+    map: &[u8],
+    digits: &mut [u8],
+) -> Result<Done, Stop> {
+    let at = pack::put_map(w, h, map, &mut *digits, 0).map_err(|refusal| map_file::refused_map(
+        rt, 4, w, h, map, refusal,
+    ))?;
+    map_file::save(rt, 5, digits.get(..at / 8).ok_or(Stop::Failed)?)?;
+    tell(rt, at)?;
+    Ok(Done::Plain)
+}
+
+fn pack(rt: &HostRuntime, file: &mut Source, w: usize, h: usize) -> Result<Done, Stop> {
+    let mut map = map_room();
+    let n = read(rt, file, &mut map)?;
+    packed(rt, w, h, &map[..n], &mut digits_room())
 }
 
 // The digits are unpacked, and the map is saved.
-fn unpacked(rt: &HostRuntime, w: usize, h: usize, digits: &[u8], map: &mut [u8]) -> u8 {
-    let placed = unpack::get_map(w, h, digits, 0, &mut *map);
-    let answer = placed.answer;
-    match answer {
-        Answer::Refused(r) => map_file::refused_digits(rt, 4, w, h, digits, def::refusal_number(r)),
-        Answer::Done => {
-            if !map_file::save(rt, 5, map) {
-                return 2;
-            }
-            if placed.at / 8 < digits.len() {
-                words::name(rt, 4);
-                say::line(rt, b"the file goes on behind the map");
-                return tell(rt, placed.at, 3);
-            }
-            tell(rt, placed.at, 0)
-        }
+fn unpacked(
+    rt: &HostRuntime,
+    w: usize,
+    h: usize,
+    digits: &[u8],
+    map: &mut [u8],
+) -> Result<Done, Stop> {
+    let at = unpack::get_map(w, h, digits, 0, &mut *map).map_err(|refusal| map_file::refused_digits(
+        rt, 4, w, h, digits, refusal,
+    ))?;
+    map_file::save(rt, 5, map)?;
+    let more = at / 8 < digits.len();
+    if more {
+        words::name(rt, 4);
+        say::line(rt, b"the file goes on behind the map");
     }
+    tell(rt, at)?;
+    Ok(if more { Done::Noted } else { Done::Plain })
 }
 
-// Reads the file and goes the way that was asked for. Answers the exit status.
-fn one_map(rt: &HostRuntime, file: &mut Source, w: usize, h: usize, unpack: bool) -> u8 {
-    let mut map = map_room();
+fn unpack(rt: &HostRuntime, file: &mut Source, w: usize, h: usize) -> Result<Done, Stop> {
     let mut digits = digits_room();
-    if unpack {
-        let n = files::read_full(&mut *file, &mut digits);
-        if words::unreadable(rt, 4, &mut *file) {
-            return 2;
-        }
-        let bytes = 1024 * map_file::root_count(w, h);
-        return unpacked(rt, w, h, &digits[..n], &mut map[..bytes]);
-    }
-    let n = files::read_full(&mut *file, &mut map);
-    if words::unreadable(rt, 4, &mut *file) {
-        return 2;
-    }
-    packed(rt, w, h, &map[..n], &mut digits)
+    let n = read(rt, file, &mut digits)?;
+    let bytes = 1024 * map_file::root_count(w, h);
+    let mut map = map_room();
+    unpacked(rt, w, h, &digits[..n], &mut map[..bytes])
 }
 
 // ---- the arguments
 
-fn help(rt: &HostRuntime) {
-    say::words(
-        rt,
-        b"usage: splitpack pack W H MAP DIGITS
+// The way to call it. That is an answer where it was asked for.
+fn help(rt: &HostRuntime) -> Result<Done, Stop> {
+    let _ = eprint!(rt;
+        "usage: splitpack pack W H MAP DIGITS
        splitpack unpack W H DIGITS MAP
 Writes the split map of a picture of W by H, 1,024 bytes a root, as its digits, a bit each; or back.
 status: 0 done, 3 done, and the digits' file goes on, 1 refused, 2 bad usage or a failure of input or output
-",
+"
     );
+    if words::asked(rt, 1, b"--help") {
+        Ok(Done::Plain)
+    } else {
+        Err(Stop::Failed)
+    }
 }
 
-// The way that was asked for, of the file that argument 4 names. Answers the exit status.
-fn run(rt: &HostRuntime, unpack: bool, w: words::Counted, h: words::Counted) -> u8 {
-    match words::open(rt, 4) {
-        None => 2,
-        Some(mut file) => one_map(rt, &mut file, w.value, h.value, unpack),
+#[derive(Clone, Copy)]
+enum Way {
+    Pack,
+    Unpack,
+}
+
+fn way_of(rt: &HostRuntime) -> Option<Way> {
+    if words::asked(rt, 1, b"pack") {
+        Some(Way::Pack)
+    } else if words::asked(rt, 1, b"unpack") {
+        Some(Way::Unpack)
+    } else {
+        None
+    }
+}
+
+// The way that was asked for, of the file that argument 4 names.
+fn run(rt: &HostRuntime, way: Way, w: usize, h: usize) -> Result<Done, Stop> {
+    let mut file = words::open(rt, 4).ok_or(Stop::Failed)?;
+    match way {
+        Way::Pack => pack(rt, &mut file, w, h),
+        Way::Unpack => unpack(rt, &mut file, w, h),
     }
 }
 
 fn main(rt: HostRuntime) -> ExitCode {
-    let unpack = words::asked(&rt, 1, b"unpack");
-    let w = words::number_arg(&rt, 2);
-    let h = words::number_arg(&rt, 3);
-    let good = w.good & h.good & (files::arg_count(&rt) == 6);
-    if good & (unpack | words::asked(&rt, 1, b"pack")) {
-        return say::status(run(&rt, unpack, w, h));
-    }
-    help(&rt);
-    say::status(if words::asked(&rt, 1, b"--help") {
-        0
-    } else {
-        2
+    let sides = (words::number_arg(&rt, 2), words::number_arg(&rt, 3));
+    say::exit_code(match (way_of(&rt), sides) {
+        (Some(way), (Some(w), Some(h))) if files::arg_count(&rt) == 6 => run(&rt, way, w, h),
+        _ => help(&rt),
     })
 }

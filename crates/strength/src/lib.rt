@@ -56,10 +56,8 @@ fn straight_qps(table: &[i8], first: usize) -> [u8; 52]
     ensures { result ≡ straight_qps table.now first }
 {
     let mut qps = [0u8; 52];
-    let mut qp = 0;
-    while qp < 52 {
+    for qp in 0..52 {
         qps[qp] = held_qp(table[first + qp]);
-        qp += 1;
     }
     qps
 }
@@ -69,10 +67,8 @@ fn clipped_qps(table: &[i8], offset: i8) -> [u8; 52]
     ensures { result ≡ mapped_qps table.now offset }
 {
     let mut qps = [0u8; 52];
-    let mut qp = 0;
-    while qp < 52 {
+    for qp in 0..52 {
         qps[qp] = mapped(table, offset, qp as u8);
-        qp += 1;
     }
     qps
 }
@@ -101,10 +97,8 @@ fn put_row(list: &mut [u8], from: usize, to: usize, qps: &[u8; 52])
     requires { (from + 52 ≤ to) × (to + 52 ≤ length list.old) × ((qp : ℕ) → get_or qps.now qp 0 ≤ 51) }
     ensures { list.new ≡ with_row 0 to 52 (λ (qp : ℕ). get_or list.old (from + get_or qps.now qp 0) 0) list.old }
 {
-    let mut qp = 0;
-    while qp < 52 {
+    for qp in 0..52 {
         list[to + qp] = list[from + qps[qp] as usize];
-        qp += 1;
     }
 }
 
@@ -113,10 +107,8 @@ fn put_rows(list: &mut [u8], at: usize, qps: &[u8; 52])
     requires { (208 ≤ at) × (at + 208 ≤ length list.old) × ((qp : ℕ) → get_or qps.now qp 0 ≤ 51) }
     ensures { list.new ≡ with_row 0 at 208 (rows_by list.old qps.now) list.old }
 {
-    let mut row = 0;
-    while row < 4 {
+    for row in 0..4 {
         put_row(list, 52 * row, at + 52 * row, qps);
-        row += 1;
     }
 }
 
@@ -134,10 +126,8 @@ fn same_qps(a: &[u8; 52], b: &[u8; 52]) -> bool
     ensures { result ≡ true → (qp : ℕ) → qp < 52 → get_or a.now qp 0 ≡ get_or b.now qp 0 }
 {
     let mut alike: u8 = 0;
-    let mut qp = 0;
-    while qp < 52 {
+    for qp in 0..52 {
         alike += same(a[qp], b[qp]);
-        qp += 1;
     }
     alike == 52
 }
@@ -147,11 +137,7 @@ fn put_again(list: &mut [u8])
     requires { 624 ≤ length list.old }
     ensures { list.new ≡ with_row 0 416 208 (λ (i : ℕ). get_or list.old (208 + i) 0) list.old }
 {
-    let mut i = 0;
-    while i < 208 {
-        list[416 + i] = list[208 + i];
-        i += 1;
-    }
+    list.copy_within(208..416, 416);
 }
 
 // V's rows, from 416 on: where its QPs are U's, which stand before them, these once more.
@@ -173,15 +159,9 @@ fn luma_entries(strengths: &[u8]) -> [u8; 624]
     ensures { result ≡ luma_entries strengths.now }
 {
     let mut list = [0u8; 624];
-    let n = if strengths.len() < 208 {
-        strengths.len()
-    } else {
-        208
-    };
-    let mut i = 0;
-    while i < n {
+    let n = strengths.len().min(208);
+    for i in 0..n {
         list[i] = strengths[i];
-        i += 1;
     }
     list
 }

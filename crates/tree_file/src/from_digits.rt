@@ -1,7 +1,7 @@
 // A map by its digits, as `bin/splitpack` writes it.
 use crate::map_bytes;
-use decoder::Answer;
 use files::Source;
+use say::Stop;
 
 // The digits of the largest picture, 85 bits a root, and a byte more, by which a file that goes on is seen. A call keeps the checker from looking into the
 // array.
@@ -9,24 +9,25 @@ fn room() -> [u8; 43521] {
     [0u8; 43521]
 }
 
-fn unpacked(rt: &HostRuntime, at: usize, w: usize, h: usize, digits: &[u8], map: &mut [u8]) -> u8 {
-    let placed = decoder::get_map(w, h, digits, 0, map);
-    let answer = placed.answer;
-    match answer {
-        Answer::Refused(r) => {
-            map_file::refused_digits(rt, at, w, h, digits, decoder::refusal_number(r))
-        }
-        Answer::Done => {
-            if placed.at / 8 < digits.len() {
-                words::name(rt, at);
-                say::line(rt, b"the file goes on behind the map");
-            }
-            0
-        }
+fn unpacked(
+    rt: &HostRuntime,
+    at: usize,
+    w: usize,
+    h: usize,
+    digits: &[u8],
+    map: &mut [u8],
+) -> Result<(), Stop> {
+    let end = decoder::get_map(w, h, digits, 0, map).map_err(|refusal| map_file::refused_digits(
+        rt, at, w, h, digits, refusal,
+    ))?;
+    if end / 8 < digits.len() {
+        words::name(rt, at);
+        say::line(rt, b"the file goes on behind the map");
     }
+    Ok(())
 }
 
-// The map of a picture of w by h, from the file that an argument names, put first into a room. Answers the exit status: 0, or that of what was told.
+// The map of a picture of w by h, from the file that an argument names, put first into a room.
 pub fn by_digits(
     rt: &HostRuntime,
     at: usize,
@@ -34,17 +35,17 @@ pub fn by_digits(
     w: usize,
     h: usize,
     map: &mut [u8],
-) -> u8 {
+) -> Result<(), Stop> {
     let mut digits = room();
-    let n = files::read_full(file, &mut digits);
+    let n = files::read_full(&mut *file, &mut digits);
     if words::unreadable(rt, at, file) {
-        return 2;
+        return Err(Stop::Failed);
     }
     let bytes = map_bytes(w, h);
     if map.len() < bytes {
         words::name(rt, at);
         say::line(rt, b"there is no room for the map");
-        return 2;
+        return Err(Stop::Failed);
     }
     unpacked(rt, at, w, h, &digits[..n], &mut map[..bytes])
 }

@@ -13,23 +13,12 @@ pub use from_digits::by_digits;
 pub use from_map::by_bytes;
 pub use from_sheet::by_sheet;
 
-// What is known of a tree: its picture's size, and the transform limit. The status is 0, or the exit status of what was told: 1 where the tree is refused, 2
-// where its file cannot be read.
-#[derive(Drop)]
+// What a sheet says of its tree: the picture's size, and the transform limit.
+#[derive(Clone, Copy)]
 pub struct Tree {
-    pub status: u8,
     pub w: usize,
     pub h: usize,
     pub limit: usize,
-}
-
-fn no_tree(status: u8) -> Tree {
-    Tree {
-        status,
-        w: 0,
-        h: 0,
-        limit: 0,
-    }
 }
 
 // How many bytes the map of a picture of w by h has: 0 for a size that no picture has.

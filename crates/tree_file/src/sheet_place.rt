@@ -1,50 +1,40 @@
 // Where a sheet is refused: its line and character, both from 1 on, and of a digit its root and its block.
 use crate::from_sheet::put_digits;
-use decoder::Sheet;
 
 // A line and a character of it.
 fn tell_character(rt: &HostRuntime, line: usize, character: usize) {
-    say::form(rt, b"line @, character @", &[line, character]);
+    let _ = eprint!(rt; "line {line}, character {character}");
 }
 
 // ---- a line that is malformed
 
-// Where a line starts, of those of a text.
-fn line_start(input: &[u8], line: usize) -> usize {
-    let mut met: usize = 1;
-    let mut i = 0;
-    while i < input.len() {
-        if line <= met {
+// A line of a text, from 1 on, without its newline: nothing past the last.
+fn line_of(input: &[u8], line: usize) -> &[u8] {
+    input
+        .split(|b| *b == b'\n')
+        .nth(line.saturating_sub(1))
+        .unwrap_or(&[])
+}
+
+// Whether a line cannot have a byte at a place: where the key goes on it is the key's, and behind the key one between two.
+fn departs_at(key: &[u8], low: u8, high: u8, i: usize, b: u8) -> bool {
+    match key.get(i) {
+        Some(k) => b != *k,
+        None => (b < low) | (high < b),
+    }
+}
+
+// The place of the first character that a line cannot have.
+fn departs(line: &[u8], key: &[u8], low: u8, high: u8) -> usize {
+    for (i, b) in line.iter().enumerate() {
+        if departs_at(key, low, high, i, *b) {
             return i;
         }
-        if input[i] == b'\n' {
-            met = std::num::wrapping_add_usize(met, 1);
-        }
-        i += 1;
     }
-    i
+    line.len()
 }
 
-// The first character of a line that is not the key's, or behind the key not between two.
-fn departs(line: &[u8], key: &[u8], low: u8, high: u8) -> usize {
-    let mut i = 0;
-    while i < line.len() {
-        let b = line[i];
-        if i < key.len() {
-            if b != key[i] {
-                return i;
-            }
-        } else {
-            if (b < low) | (high < b) {
-                return i;
-            }
-        }
-        i += 1;
-    }
-    i
-}
-
-// A line's first character that it cannot have, by which of the five it is to be. Behind the fourth's words comes nothing.
+// The same, by which of the five it is to be. Behind the fourth's words comes nothing.
 fn departs_in(text: &[u8], line: usize) -> usize {
     match line {
         1 => departs(text, b"width=", b'0', b'9'),
@@ -57,27 +47,21 @@ fn departs_in(text: &[u8], line: usize) -> usize {
 }
 
 // What the line has to be.
-fn tell_asked(rt: &HostRuntime, line: usize) {
+fn asked(line: usize) -> &'static str {
     match line {
-        1 => say::words(rt, b"'width=' and one to four digits are asked for: "),
-        2 => say::words(rt, b"'height=' and one to four digits are asked for: "),
-        3 => say::words(rt, b"'tr_log2=' and one to four digits are asked for: "),
-        4 => say::words(rt, b"'v_edge=own' is asked for: "),
-        5 => say::words(rt, b"'splits=' and digits 0 and 1 are asked for: "),
-        _ => say::words(rt, b"nothing is asked for behind the fifth line: "),
+        1 => "'width=' and one to four digits are asked for",
+        2 => "'height=' and one to four digits are asked for",
+        3 => "'tr_log2=' and one to four digits are asked for",
+        4 => "'v_edge=own' is asked for",
+        5 => "'splits=' and digits 0 and 1 are asked for",
+        _ => "nothing is asked for behind the fifth line",
     }
 }
 
 fn tell_line(rt: &HostRuntime, input: &[u8], line: usize) {
-    let start = line_start(input, line);
-    let end = input.len();
-    if end < start {
-        return;
-    }
-    let at = departs_in(&input[start..end], line);
-    tell_character(rt, line, std::num::wrapping_add_usize(at, 1));
-    say::words(rt, b": ");
-    tell_asked(rt, line);
+    let at = departs_in(line_of(input, line), line);
+    tell_character(rt, line, at.wrapping_add(1));
+    let _ = eprint!(rt; ": {}: ", asked(line));
 }
 
 // ---- a digit
@@ -86,53 +70,43 @@ fn tell_line(rt: &HostRuntime, input: &[u8], line: usize) {
 fn tell_digit(rt: &HostRuntime, w: usize, h: usize, digits: &[u8]) {
     let mut bits = [0u8; 512];
     put_digits(digits, &mut bits);
-    let d = map_file::offending(w, h, &bits, digits.len());
-    tell_character(rt, 5, std::num::wrapping_add_usize(d.at, 8));
-    if !d.refused {
-        say::words(rt, b", behind the last digit: ");
-        return;
+    match map_file::behind(w, h, &bits, digits.len()) {
+        Ok(end) => {
+            tell_character(rt, 5, end.wrapping_add(8));
+            let _ = eprint!(rt; ", behind the last digit: ");
+        }
+        Err(digit) => {
+            tell_character(rt, 5, digit.at.wrapping_add(8));
+            map_file::tell_refused(rt, w, digit, digits.len(), "line");
+        }
     }
-    if digits.len() <= d.at {
-        say::words(rt, b", where the line ends");
-    }
-    say::words(rt, b", ");
-    map_file::tell_block(rt, w, d.root, d.place);
 }
 
 // ---- the sheet
 
 fn tell_size(rt: &HostRuntime, w: usize, h: usize) {
-    say::form(
-        rt,
-        b"lines 1 and 2, a picture of @x@, and a sheet's have at most 256x256: ",
-        &[w, h],
+    let _ = eprint!(rt;
+        "lines 1 and 2, a picture of {w}x{h}, and a sheet's have at most 256x256: "
     );
 }
 
-// Where a sheet is refused, by the number that it is refused for.
+// Where a sheet is refused, by the number that its listing has.
 pub(crate) fn tell_where(rt: &HostRuntime, input: &[u8], number: u8) {
-    match decoder::read(input) {
-        Sheet::Malformed(line) => tell_line(rt, input, line),
-        Sheet::Read {
-            w,
-            h,
-            limit: _,
-            old: _,
-            from,
-            to,
-        } => {
-            if to < from {
-                return;
-            }
-            if input.len() < to {
-                return;
-            }
-            match number {
-                1 => tell_size(rt, w, h),
-                3 => say::words(rt, b"line 3: "),
-                20 => say::words(rt, b"line 4: "),
-                _ => tell_digit(rt, w, h, &input[from..to]),
-            }
+    let sheet = match decoder::read(input) {
+        Ok(sheet) => sheet,
+        Err(malformed) => return tell_line(rt, input, malformed.0),
+    };
+    let Some(digits) = input.get(sheet.from..sheet.to) else {
+        return;
+    };
+    match number {
+        1 => tell_size(rt, sheet.w, sheet.h),
+        3 => {
+            let _ = eprint!(rt; "line 3: ");
         }
+        20 => {
+            let _ = eprint!(rt; "line 4: ");
+        }
+        _ => tell_digit(rt, sheet.w, sheet.h, digits),
     }
 }

@@ -6,7 +6,7 @@ use Rattle.def.specs.Answers.{after_checks}
 use Rattle.def.specs.Refusals.{number_of}
 use Rattle.def.specs.Word.{bit}
 use Rattle.def.specs.declared.Refusal.{Refusal}
-use Rattle.def.specs.declared.Answer.{Answer}
+use Rattle.def.specs.Answers.{Answer}
 use Rattle.rows_rules.specs.Checks.{check_unit}
 use Rattle.rows_rules.specs.Rule.{edited_map}
 use Rattle.unit_edits.specs.declared.Flag.{Flag}

@@ -17,7 +17,7 @@ ghost use Rattle.unit_edits.specs.FlagCall as FlagCall;
 ghost use Rattle.unit_edits.specs.FlagCall.{with_flag};
 ghost use Rattle.unit_edits.specs.Sides.{pass_of};
 
-use def::{Answer, Refusal, Scu};
+use def::{Refusal, Scu};
 use line::Motion;
 use row::row_at;
 use rows::checked_maps;
@@ -196,18 +196,14 @@ fn checked_unit(
     rows: usize,
     x: Scu,
     y: Scu,
-) -> Answer
+) -> Result<(), Refusal>
     ensures { result ≡ check_unit w h words motion refs rows x.0 y.0 }
 {
-    match checked_maps(w, h, words, motion, refs, rows) {
-        Answer::Refused(r) => Answer::Refused(r),
-        Answer::Done => {
-            if !def::unit_ok(w, h, x, y) {
-                return Answer::Refused(Refusal::Block);
-            }
-            Answer::Done
-        }
+    checked_maps(w, h, words, motion, refs, rows)?;
+    if !def::unit_ok(w, h, x, y) {
+        return Err(Refusal::Block);
     }
+    Ok(())
 }
 
 // Unit k's four numbers.
@@ -249,12 +245,12 @@ pub fn set_motion(
     motion: &mut [i16],
     refs: &mut [i8],
     rows: &mut [u8],
-) -> Answer
+) -> Result<(), Refusal>
     ensures { Gives MotionCall.outcome
         (record { w = w; h = h; x = x.0; y = y.0; moved = moved; words = words.now; motion = motion.old; refs = refs.old; rows = rows.old })
         (record { number = answer_number result; motion = motion.new; refs = refs.new; rows = rows.new }) }
 {
-    match checked_unit(
+    checked_unit(
         w,
         h,
         words.len(),
@@ -263,17 +259,13 @@ pub fn set_motion(
         rows.len(),
         x,
         y,
-    ) {
-        Answer::Refused(r) => Answer::Refused(r),
-        Answer::Done => {
-            let columns = w / 4;
-            let k = y.0 * columns + x.0;
-            put_motion(&mut *motion, k, moved);
-            put_refs(&mut *refs, k, moved);
-            put_edges(columns, h / 4, words, &*motion, &*refs, x, y, rows);
-            Answer::Done
-        }
-    }
+    )?;
+    let columns = w / 4;
+    let k = y.0 * columns + x.0;
+    put_motion(&mut *motion, k, moved);
+    put_refs(&mut *refs, k, moved);
+    put_edges(columns, h / 4, words, &*motion, &*refs, x, y, rows);
+    Ok(())
 }
 
 // A bit of the unit word that an edit may set.
@@ -312,12 +304,12 @@ pub fn set_flag(
     motion: &[i16],
     refs: &[i8],
     rows: &mut [u8],
-) -> Answer
+) -> Result<(), Refusal>
     ensures { Gives FlagCall.outcome
         (record { w = w; h = h; x = x.0; y = y.0; flag = flag; on = on; words = words.old; motion = motion.now; refs = refs.now; rows = rows.old })
         (record { number = answer_number result; words = words.new; rows = rows.new }) }
 {
-    match checked_unit(
+    checked_unit(
         w,
         h,
         words.len(),
@@ -326,14 +318,10 @@ pub fn set_flag(
         rows.len(),
         x,
         y,
-    ) {
-        Answer::Refused(r) => Answer::Refused(r),
-        Answer::Done => {
-            let columns = w / 4;
-            let k = y.0 * columns + x.0;
-            words[k] = with_flag(flag, on, words[k]);
-            put_edges(columns, h / 4, &*words, motion, refs, x, y, rows);
-            Answer::Done
-        }
-    }
+    )?;
+    let columns = w / 4;
+    let k = y.0 * columns + x.0;
+    words[k] = with_flag(flag, on, words[k]);
+    put_edges(columns, h / 4, &*words, motion, refs, x, y, rows);
+    Ok(())
 }

@@ -12,10 +12,8 @@ use def::Scu;
 pub fn clear_words(words: &mut [u32])
     ensures { words.new ≡ tabulate (length words.old) (λ (k : ℕ). 0) }
 {
-    let mut i = 0;
-    while i < words.len() {
-        words[i] = 0;
-        i += 1;
+    for word in words.iter_mut() {
+        *word = 0;
     }
 }
 
@@ -64,12 +62,10 @@ fn tell_row(
     ensures { (words.new ≡ with_row 0 at n (λ (j : ℕ). word) words.old) × (modes.new ≡ with_row 0 at n (λ (j : ℕ). mode) modes.old)
         × (keep.new ≡ with_row 0 at n (λ (j : ℕ). mark) keep.old) }
 {
-    let mut j = 0;
-    while j < n {
+    for j in 0..n {
         words[at + j] = word;
         modes[at + j] = mode;
         keep[at + j] = mark;
-        j += 1;
     }
 }
 
@@ -95,20 +91,9 @@ fn tell_block(
         tell_row(words, modes, keep, at, 1, word, mode, mark);
         return;
     }
-    let mut r = 0;
-    while r < n {
+    for r in 0..n {
         let at = (y + r) * columns + x;
-        tell_row(
-            &mut *words,
-            &mut *modes,
-            &mut *keep,
-            at,
-            n,
-            word,
-            mode,
-            mark,
-        );
-        r += 1;
+        tell_row(words, modes, keep, at, n, word, mode, mark);
     }
 }
 

@@ -1,5 +1,6 @@
 -- The outcomes of `get_map` and `take_map`, by what their checks find.
 -- Assumes nothing.
+use Rattle.std.specs.Prelude.{Ok, Err}
 use mathlib.Core.Bool.{Bool, true, false}
 use mathlib.Core.List.{List, []}
 use mathlib.Core.Path.{◌≡◌, refl, sym, ap, ◌∙◌}
@@ -12,7 +13,6 @@ use Rattle.bits.specs.Bits.{bits_from}
 use Rattle.def.proofs.Sizes.{sized}
 use Rattle.def.specs.Answers.{after_checks}
 use Rattle.def.specs.Refusals.{number_of}
-use Rattle.def.specs.declared.Answer.TheVariants.{Done, Refused}
 use Rattle.def.specs.declared.Refusal.{Refusal}
 use Rattle.def.specs.declared.Refusal.TheVariants.{Bits}
 use Rattle.laws.specs.Call.{unless}
@@ -29,21 +29,21 @@ use Rattle.unpack.proofs.Reading.{none_read}
 -- ---- get_map
 
 module _ (i : get-call.Input) where
-  pub get_refused : (r : Refusal) → Refused r ≡ get-call.check i → record { number = number_of r; at = i.at; map = i.map } ≡ get-call.outcome i
+  pub get_refused : (r : Refusal) → Err r ≡ get-call.check i → record { number = number_of r; at = i.at; map = i.map } ≡ get-call.outcome i
   unfolding get-call.outcome
   get_refused r e = rw (sym e)
 
   module _ (z : Mapped i.w i.h (length i.map)) where
-    get_checked : get-call.check i ≡ after_checks Refused (unless (fill_ok i.src i.at (get-call.count i)) (Refused Bits) Done) (get-call.descent i).walk.answer
+    get_checked : get-call.check i ≡ after_checks Err (unless (fill_ok i.src i.at (get-call.count i)) (Err Bits) (Ok tt)) (get-call.descent i).walk.answer
     unfolding get-call.check
     get_checked = rw (z.size, eq-eqb _ _ z.bytes)
 
-    pub get_stopped : (r : Refusal) → (get-call.descent i).walk.answer ≡ Refused r → record { number = number_of r; at = i.at; map = i.map } ≡ get-call.outcome i
-    get_stopped r e = get_refused r (sym (get_checked ∙ ap (after_checks Refused (unless (fill_ok i.src i.at (get-call.count i)) (Refused Bits) Done)) e))
+    pub get_stopped : (r : Refusal) → (get-call.descent i).walk.answer ≡ Err r → record { number = number_of r; at = i.at; map = i.map } ≡ get-call.outcome i
+    get_stopped r e = get_refused r (sym (get_checked ∙ ap (after_checks Err (unless (fill_ok i.src i.at (get-call.count i)) (Err Bits) (Ok tt))) e))
 
-    module _ (d : (get-call.descent i).walk.answer ≡ Done) where
-      filled : (t : Bool) → fill_ok i.src i.at (get-call.count i) ≡ t → get-call.check i ≡ unless t (Refused Bits) Done
-      filled t e = get_checked ∙ ap (after_checks Refused (unless (fill_ok i.src i.at (get-call.count i)) (Refused Bits) Done)) d ∙ ap (λ (b : Bool). unless b (Refused Bits) Done) e
+    module _ (d : (get-call.descent i).walk.answer ≡ Ok tt) where
+      filled : (t : Bool) → fill_ok i.src i.at (get-call.count i) ≡ t → get-call.check i ≡ unless t (Err Bits) (Ok tt)
+      filled t e = get_checked ∙ ap (after_checks Err (unless (fill_ok i.src i.at (get-call.count i)) (Err Bits) (Ok tt))) d ∙ ap (λ (b : Bool). unless b (Err Bits) (Ok tt)) e
 
       -- a fill bit is not 0
       pub get_unfilled : fill_ok i.src i.at (get-call.count i) ≡ false → record { number = 16; at = i.at; map = i.map } ≡ get-call.outcome i
@@ -68,12 +68,12 @@ module _ (i : get-call.Input) where
 -- ---- take_map
 
 module _ (i : take-call.Input) where
-  pub take_refused : (r : Refusal) → Refused r ≡ take-call.check i → record { number = number_of r; at = i.from; map = i.map } ≡ take-call.outcome i
+  pub take_refused : (r : Refusal) → Err r ≡ take-call.check i → record { number = number_of r; at = i.from; map = i.map } ≡ take-call.outcome i
   unfolding take-call.outcome
   take_refused r e = rw (sym e)
 
   module _ (z : Mapped i.w i.h (length i.map)) where
-    take_checked : (t : Bool) → take-call.places_ok i.from i.to ≡ t → take-call.check i ≡ unless t (Refused Bits) (take-call.descent i).walk.answer
+    take_checked : (t : Bool) → take-call.places_ok i.from i.to ≡ t → take-call.check i ≡ unless t (Err Bits) (take-call.descent i).walk.answer
     unfolding take-call.check
     take_checked t e = rw (z.size, eq-eqb _ _ z.bytes, e)
 
@@ -82,9 +82,9 @@ module _ (i : take-call.Input) where
     take_off e = take_refused Bits (sym (take_checked false e))
 
     module _ (e : take-call.places_ok i.from i.to ≡ true) where
-      pub take_stopped : (r : Refusal) → (take-call.descent i).walk.answer ≡ Refused r → record { number = number_of r; at = i.from; map = i.map } ≡ take-call.outcome i
+      pub take_stopped : (r : Refusal) → (take-call.descent i).walk.answer ≡ Err r → record { number = number_of r; at = i.from; map = i.map } ≡ take-call.outcome i
       take_stopped r f = take_refused r (sym (take_checked true e ∙ f))
 
-      pub take_done : (o : take-call.Outcome) → (take-call.descent i).walk.answer ≡ Done → o ≡ take-call.done i → o ≡ take-call.outcome i
+      pub take_done : (o : take-call.Outcome) → (take-call.descent i).walk.answer ≡ Ok tt → o ≡ take-call.done i → o ≡ take-call.outcome i
       unfolding take-call.outcome
       take_done o d f = f ∙ sym (ap (after_checks (take-call.refused i) (take-call.done i)) (take_checked true e ∙ d))

@@ -1,27 +1,16 @@
 -- Zeros that are put one after the other, and bits that are tested so.
 -- Assumes nothing.
 use mathlib.Core.Bool.{Bool, true, false}
-use mathlib.Core.List.{List, [], ◌∷◌, ◌++◌}
-use mathlib.Core.Path.{◌≡◌, refl, sym, ap, ◌∙◌}
-use Prim.Native.Nat.{ℕ, zero, suc, ◌+◌, ◌-◌, ◌≤◌, ◌<◌}
-use native.Mathlib.Numerals.{add-one}
+use mathlib.Core.List.{List}
+use mathlib.Core.Path.{◌≡◌, sym, ap, ◌∙◌}
+use Prim.Native.Nat.{ℕ, ◌+◌, ◌-◌, ◌≤◌, ◌<◌}
 use native.Mathlib.Omega.{arith}
 use borrow.Author.Tests.{eq-eqb, ne_eqb}
 use lib.Dec.{eqb}
-use lib.ListN.{length, take, set, replicate}
-use lib.Seq.{take-suc-set}
 use Rattle.bits.specs.Bits.{bit_at}
 use Rattle.laws.specs.Scan.{all_below}
 use Rattle.laws.proofs.Scans.{scan_none, scan_more, scan_stop}
 use Rattle.pack_rules.specs.Form.{zeros_ok}
-
-zeros_snoc : (n : ℕ) → replicate n 0 ++ (0 ∷ []) ≡ replicate {A = ℕ} (suc n) 0
-zeros_snoc zero = refl
-zeros_snoc (suc n) = ap (λ (l : List ℕ). 0 ∷ l) (zeros_snoc n)
-
-pub zeros_more : (map : List ℕ) (i : ℕ) → i < length map → take i map ≡ replicate i 0 → take (i + 1) (set map i 0) ≡ replicate (i + 1) 0
-zeros_more map i l e =
-    ap (λ (n : ℕ). take n (set map i 0)) (add-one i) ∙ take-suc-set map i 0 l ∙ ap (λ (z : List ℕ). z ++ (0 ∷ [])) e ∙ zeros_snoc i ∙ ap (λ (n : ℕ). replicate n 0) (sym (add-one i))
 
 -- the bits of src from place p on
 module _ (src : List ℕ) (p : ℕ) where

@@ -4,6 +4,7 @@
 --     lent_0, lent_1, lent_2, fits    the plane whose turn it is, and that the row fits
 --     row_refused, row_given    the outcome
 -- Assumes nothing.
+use Rattle.std.specs.Prelude.{Ok, Err}
 use mathlib.Core.Bool.{Bool, true, false, not}
 use mathlib.Core.List.{List, [], ◌∷◌}
 use mathlib.Core.Path.{◌≡◌, sym, ap, ◌∙◌, subst}
@@ -19,7 +20,6 @@ use Rattle.laws.specs.Plane.{with_row}
 use Rattle.laws.proofs.Calls.{all_at}
 use Rattle.laws.proofs.Flat.{row_below}
 use Rattle.decoder.specs.Face.{Answer, Format, Refusal}
-use Rattle.decoder.specs.Face.answers.{Done, Refused as No}
 use Rattle.decoder.specs.Face.formats.{Grey, Colour}
 use Rattle.decoder.specs.Face.refusals.{Sample}
 use Rattle.ward_check.specs.Checks as checks
@@ -33,9 +33,8 @@ use Rattle.ward_check.proofs.Sizes.{part_le, part_sum, part_small, across_small,
 use Rattle.ward_rows.specs.Rows.{sample_at, last_row, made_ok, put_ok, put_row}
 use Rattle.ward_rows.proofs.Runs.{Within, lies_within}
 use Rattle.ward.specs.Fits.{Fits}
-use Rattle.ward.specs.RowCall.{Input, Outcome, reading_of, turn_ok, asked, plane_of, row_ok, row_into, given, lent_plane, outcome}
+use Rattle.ward.specs.RowCall.{Input, Outcome, reading_of, refusal, turn_ok, asked, plane_of, row_ok, row_into, given, lent_plane, outcome}
 use Rattle.ward.specs.Turns.{next_turn}
-use Rattle.ward.specs.declared.Rowed.TheVariants.{Given, Refused}
 use Rattle.ward.specs.declared.Turn.{Turn}
 use Rattle.ward.proofs.Ladder.{Asked, stopped, told, gone}
 use Rattle.ward.proofs.Planes.{row_shown}
@@ -85,14 +84,14 @@ module _ (t : Turn) (w : ℕ) (c : Window) where
     g : out' ≡ pick b (with_row 0 0 (across t.run n) (sample_at t.run s x y t.row p) out) out
     g = put ∙ ap (λ (i : Bool). pick i (with_row 0 0 (across t.run n) (sample_at t.run s x y t.row p) out) out) (sym f)
 
-    pub given_no : not b ≡ true → record { reading = reading_of (Refused Sample t); out = out' } ≡ given t w c p out
+    pub given_no : not b ≡ true → record { reading = reading_of (refusal t Sample); out = out' } ≡ given t w c p out
     given_no q =
         let e : row_ok t w c p ≡ false = sym tested ∙ not-true b q in
         let same : out' ≡ out = g ∙ rw (not-true b q) in
         rw (e, same)
 
     pub given_yes : not b ≡ false → t.row < rows_of t.run c t.plane → (next : Turn) (k : ℕ) → next ≡ next_turn c t → k ≡ across t.run n
-        → record { reading = reading_of (Given next k); out = out' } ≡ given t w c p out
+        → record { reading = reading_of (record { written = Ok k; next = next }); out = out' } ≡ given t w c p out
     given_yes q l next k en' ek =
         let e : row_ok t w c p ≡ true = sym tested ∙ not-false b q in
         let m = in_plane t.plane (c.bottom - c.top) in
@@ -176,18 +175,18 @@ module _ (t : Turn) (plane row : ℕ) (f : Format) (w h y u v : ℕ) (c : Window
 -- ---- the outcome
 
 module _ (i : Input) (found : Answer)
-    (e : found ≡ asked i.turn i.plane i.row i.format i.w i.h (length i.y) (length i.u) (length i.v) i.window (length i.out) Done) where
-  pub row_refused : (r : Refusal) → found ≡ No r → Gives outcome i (record { reading = reading_of (Refused r i.turn); out = i.out })
+    (e : found ≡ asked i.turn i.plane i.row i.format i.w i.h (length i.y) (length i.u) (length i.v) i.window (length i.out) (Ok tt)) where
+  pub row_refused : (r : Refusal) → found ≡ Err r → Gives outcome i (record { reading = reading_of (refusal i.turn r); out = i.out })
   unfolding outcome
   row_refused r q = rw (stopped i.turn i.plane i.row i.format i.w i.h (length i.y) (length i.u) (length i.v) i.window (length i.out) _ r (sym e ∙ q))
 
-  pub all_passed : found ≡ Done → Asked i.turn i.plane i.row i.format i.w i.h (length i.y) (length i.u) (length i.v) i.window (length i.out)
+  pub all_passed : found ≡ Ok tt → Asked i.turn i.plane i.row i.format i.w i.h (length i.y) (length i.u) (length i.v) i.window (length i.out)
   all_passed q = told i.turn i.plane i.row i.format i.w i.h (length i.y) (length i.u) (length i.v) i.window (length i.out) (sym e ∙ q)
 
-  pub row_given : found ≡ Done → (p : List ℕ) → p ≡ lent_plane i → (o : Outcome) → o ≡ given i.turn i.w i.window p i.out → Gives outcome i o
+  pub row_given : found ≡ Ok tt → (p : List ℕ) → p ≡ lent_plane i → (o : Outcome) → o ≡ given i.turn i.w i.window p i.out → Gives outcome i o
   unfolding outcome
   row_given q p d o g =
       g ∙ ap (λ (l : List ℕ). given i.turn i.w i.window l i.out) d
       ∙ rw
       (gone i.turn i.plane i.row i.format i.w i.h (length i.y) (length i.u) (length i.v) i.window (length i.out) (all_passed q)
-      (unless (row_ok i.turn i.w i.window (lent_plane i)) (No Sample) Done))
+      (unless (row_ok i.turn i.w i.window (lent_plane i)) (Err Sample) (Ok tt)))

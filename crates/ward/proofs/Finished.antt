@@ -1,5 +1,6 @@
 -- 7 never comes for planes that deblocking finished, whatever else is asked: the ladder's other rungs have other numbers.
 -- Assumes nothing.
+use Rattle.std.specs.Prelude.{Ok, Err}
 use mathlib.Core.Bool.{Bool, true, false}
 use mathlib.Core.Path.{◌≡◌, ap, ◌∙◌}
 use Prim.Native.Nat.{ℕ, ◌≤◌}
@@ -9,7 +10,6 @@ use lib.ListN.{length, get_or}
 use Rattle.laws.specs.Call.{unless}
 use Rattle.laws.specs.Index.{pick}
 use Rattle.decoder.specs.Face.{after_checks, samples_ok, size_ok}
-use Rattle.decoder.specs.Face.answers.{Done, Refused}
 use Rattle.decoder.specs.Face.bands.{Plane, luma_plane, u_plane, v_plane}
 use Rattle.decoder.specs.Face.deblocking as deblocking
 use Rattle.decoder.specs.Face.refusals.{Size, Length, Window as OffWindow, Turn as OutOfTurn}
@@ -39,7 +39,7 @@ module _ (j : Input) (small : (x : Plane) → samples_ok (lent_as x j) ≡ true)
     where
       go : (a b c d : Bool)
           → (after_checks (refused j.turn j.out) (done j.turn j.w j.window (lent_plane j) j.out)
-          (unless a (Refused Size) (unless b (Refused Length) (unless c (Refused OffWindow) (unless d (Refused OutOfTurn) Done))))).reading.number ≡ 7 → ⊥
+          (unless a (Err Size) (unless b (Err Length) (unless c (Err OffWindow) (unless d (Err OutOfTurn) (Ok tt)))))).reading.number ≡ 7 → ⊥
       go false b c d p = omega arith
       go true false c d p = omega arith
       go true true false d p = omega arith

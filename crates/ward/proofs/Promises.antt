@@ -5,6 +5,7 @@
 --     accepted
 -- The answer is determined, and not its reading alone, because the reading tells all answers apart: `reading_apart`.
 -- Assumes nothing.
+use Rattle.std.specs.Prelude.{Result, Ok, Err}
 use mathlib.Core.List.{List, [], ◌∷◌}
 use mathlib.Core.Path.{◌≡◌, refl, sym, ap, ap₂, ◌∙◌}
 use Prim.Native.Nat.{ℕ}
@@ -12,7 +13,7 @@ use native.Mathlib.Omega.{arith}
 use lib.ListN.{length, replicate}
 use Rattle.laws.specs.Scan.{all_below}
 use Rattle.decoder.proofs.Face.{number_apart, number_some}
-use Rattle.decoder.specs.Face.{size_ok}
+use Rattle.decoder.specs.Face.{size_ok, Refusal}
 use Rattle.decoder.specs.Face.formats.{Grey, Colour}
 use Rattle.decoder.specs.Face.refusals.{Size, Length, Sample, Window as OffWindow, Turn as OutOfTurn}
 use Rattle.decoder.specs.Promise.{ended, Sole, Refuses}
@@ -28,17 +29,26 @@ use Rattle.ward_rows.specs.Samples.{run_ok}
 use Rattle.ward.specs.RowCall as call
 use Rattle.ward.specs.Turns.{first_turn}
 use Rattle.ward.specs.declared.Rowed.{Rowed}
-use Rattle.ward.specs.declared.Rowed.TheVariants.{Given, Refused}
+use Rattle.ward.specs.declared.Turn.{Turn}
 use Rattle.ward.proofs.Turn.first.Kinds as first-kinds
 use Rattle.ward.proofs.Turn.first.Reads as first_reads
 use Rattle.ward.proofs.Turn.row.Kinds as row-kinds
 use Rattle.ward.proofs.Turn.row.Reads as row_reads
 
+written_apart : (t s : Turn) (a b : Result ℕ Refusal) → call.reading_by t a ≡ call.reading_by s b → a ≡ b
+written_apart t s (Ok n) (Ok m) e = ap Ok (ap (λ (o : call.Reading). o.written) e)
+written_apart t s (Ok n) (Err r) e = absurd (let z = ap (λ (o : call.Reading). o.number) e in omega (arith, number_some r))
+written_apart t s (Err r) (Ok m) e = absurd (let z = ap (λ (o : call.Reading). o.number) e in omega (arith, number_some r))
+written_apart t s (Err r) (Err q) e = ap Err (number_apart r q (ap (λ (o : call.Reading). o.number) e))
+
+turn_of : (t : Turn) (a : Result ℕ Refusal) → (call.reading_by t a).turn ≡ t
+turn_of t (Ok n) = refl
+turn_of t (Err r) = refl
+
 pub reading_apart : (a b : Rowed) → call.reading_of a ≡ call.reading_of b → a ≡ b
-reading_apart (Given t n) (Given s m) e = ap₂ Given (ap (λ (o : call.Reading). o.turn) e) (ap (λ (o : call.Reading). o.written) e)
-reading_apart (Given t n) (Refused r s) e = absurd (let z = ap (λ (o : call.Reading). o.number) e in omega (arith, number_some r))
-reading_apart (Refused r t) (Given s m) e = absurd (let z = ap (λ (o : call.Reading). o.number) e in omega (arith, number_some r))
-reading_apart (Refused r t) (Refused q s) e = ap₂ Refused (number_apart r q (ap (λ (o : call.Reading). o.number) e)) (ap (λ (o : call.Reading). o.turn) e)
+reading_apart a b e =
+    ap₂ (λ (w : Result ℕ Refusal) (t : Turn). record { written = w; next = t }) (written_apart a.next b.next a.written b.written e)
+    (sym (turn_of a.next a.written) ∙ ap (λ (o : call.Reading). o.turn) e ∙ turn_of b.next b.written)
 
 pub first_once : Sole 0 first-kinds.ps first-kinds.r first_reads.Post (λ κs r x. r)
 first_once κs a r r' x x' p q = p ∙ sym q

@@ -4,6 +4,7 @@
 --     At, start, step, steps    after k calls: which turn it is, and what came out
 --     whole    what all of them come to
 -- Assumes nothing.
+use Rattle.std.specs.Prelude.{Ok, Err}
 use mathlib.Core.Bool.{Bool, true, false}
 use mathlib.Core.List.{List, [], ◌∷◌, ◌++◌, append_assoc, append-nil}
 use mathlib.Core.Path.{◌≡◌, refl, sym, ap, ap₂, ◌∙◌, subst}
@@ -21,7 +22,6 @@ use Rattle.laws.proofs.Calls.{all_at, all_fails}
 use Rattle.laws.proofs.Flat.{next_row, row_below}
 use Rattle.decoder.proofs.Face.{sample_any}
 use Rattle.decoder.specs.Face.{Format}
-use Rattle.decoder.specs.Face.answers.{Done, Refused}
 use Rattle.decoder.specs.Face.formats.{Grey, Colour}
 use Rattle.decoder.specs.Face.refusals.{Sample}
 use Rattle.ward_check.specs.Checks as checks
@@ -112,7 +112,7 @@ module _ (l : Lent) (fine : Fine l) (run : Run) where
     row_given =
         let p = plane_of a l.y l.u l.v in
         let ok : row_ok (turn_at a b) l.w l.window p ≡ true = made_fine p (small a) run _ _ _ _ b in
-        rw (gone _ _ _ _ _ _ _ _ _ _ _ passed (unless (row_ok (turn_at a b) l.w l.window p) (Refused Sample) Done), ok)
+        rw (gone _ _ _ _ _ _ _ _ _ _ _ passed (unless (row_ok (turn_at a b) l.w l.window p) (Err Sample) (Ok tt)), ok)
 
     room : columns_of run l.window a ≤ length out
     room =

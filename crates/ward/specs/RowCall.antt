@@ -1,12 +1,11 @@
 -- The call `row`: the row of a plane whose turn it is. Its refusals: 1, 2, 21 for the window, 22 for a row out of turn, 7 for the samples that the row is
 -- made of.
 -- Assumes nothing: these are definitions.
-use Rattle.std.specs.Prelude.{ℕ, ◌+◌, ◌-◌, ◌*◌, Bool, List, eqb, length, get_or}
+use Rattle.std.specs.Prelude.{ℕ, ◌+◌, ◌-◌, ◌*◌, Bool, List, eqb, length, get_or, Result, Ok, Err}
 use Rattle.laws.specs.Call.{unless}
 use Rattle.laws.specs.Index.{pick}
 use Rattle.laws.specs.Plane.{with_row}
 use Rattle.decoder.specs.Face.{after_checks, number_of, Answer, Format, Refusal}
-use Rattle.decoder.specs.Face.answers.{Done, Refused}
 use Rattle.decoder.specs.Face.refusals.{Sample}
 use Rattle.ward_check.specs.Checks as checks
 use Rattle.ward_check.specs.Sizes.{in_plane, columns_of}
@@ -14,8 +13,7 @@ use Rattle.ward_check.specs.declared.Window.{Window}
 use Rattle.ward_rows.specs.Rows.{made_ok}
 use Rattle.ward.specs.Screen.{shown}
 use Rattle.ward.specs.Turns.{next_turn}
-use Rattle.ward.specs.declared.Rowed as rowed
-use Rattle.ward.specs.declared.Rowed.TheVariants as answers
+use Rattle.ward.specs.declared.Rowed.{Rowed}
 use Rattle.ward.specs.declared.Turn.{Turn}
 
 pub record Input : Type 0 where
@@ -37,9 +35,16 @@ pub record Reading : Type 0 where
   pub turn : Turn
   pub written : ℕ
 
-abbrev pub reading_of : rowed.Rowed → Reading
-reading_of (answers.Given t n) = record { number = 0; turn = t; written = n }
-reading_of (answers.Refused r t) = record { number = number_of r; turn = t; written = 0 }
+abbrev pub reading_by : Turn → Result ℕ Refusal → Reading
+reading_by t (Ok n) = record { number = 0; turn = t; written = n }
+reading_by t (Err r) = record { number = number_of r; turn = t; written = 0 }
+
+abbrev pub reading_of : Rowed → Reading
+reading_of o = reading_by o.next o.written
+
+-- a refusal leaves the turn as it was
+abbrev pub refusal : Turn → Refusal → Rowed
+refusal t r = record { written = Err r; next = t }
 
 pub record Outcome : Type 0 where
   pub reading : Reading
@@ -77,14 +82,14 @@ row_into t w c p out =
     with_row 0 0 (columns_of t.run c t.plane) (λ (j : ℕ). get_or (shown_of t w c p) (t.row * columns_of t.run c t.plane + j) 0) out
 
 abbrev pub refused : Turn → List ℕ → Refusal → Outcome
-refused t out r = record { reading = reading_of (answers.Refused r t); out = out }
+refused t out r = record { reading = reading_of (refusal t r); out = out }
 
 abbrev pub done : Turn → (w : ℕ) → Window → List ℕ → List ℕ → Outcome
-done t w c p out = record { reading = reading_of (answers.Given (next_turn c t) (columns_of t.run c t.plane)); out = row_into t w c p out }
+done t w c p out = record { reading = reading_of (record { written = Ok (columns_of t.run c t.plane); next = next_turn c t }); out = row_into t w c p out }
 
 -- what is done of plane p where nothing but its samples can be refused
 abbrev pub given : Turn → (w : ℕ) → Window → List ℕ → List ℕ → Outcome
-given t w c p out = after_checks (refused t out) (done t w c p out) (unless (row_ok t w c p) (Refused Sample) Done)
+given t w c p out = after_checks (refused t out) (done t w c p out) (unless (row_ok t w c p) (Err Sample) (Ok tt))
 
 -- ---- the call
 
@@ -94,7 +99,7 @@ lent_plane i = plane_of i.turn.plane i.y i.u i.v
 abbrev pub check : Input → Answer
 check i =
     asked i.turn i.plane i.row i.format i.w i.h (length i.y) (length i.u) (length i.v) i.window (length i.out)
-    (unless (row_ok i.turn i.w i.window (lent_plane i)) (Refused Sample) Done)
+    (unless (row_ok i.turn i.w i.window (lent_plane i)) (Err Sample) (Ok tt))
 
 unfoldable pub outcome : Input → Outcome
 outcome i = after_checks (refused i.turn i.out) (done i.turn i.w i.window (lent_plane i) i.out) (check i)

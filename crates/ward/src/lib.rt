@@ -10,7 +10,7 @@ ghost use Rattle.ward.specs.Turns.{first_turn, next_turn};
 ghost use Rattle.ward.specs.RowCall as call;
 ghost use Rattle.ward.specs.Fits.{Fits};
 
-use decoder::{Answer, Format, Refusal};
+use decoder::{Format, Refusal};
 use ward_check::{across_run, in_plane};
 use ward_rows::put_row;
 
@@ -25,11 +25,11 @@ pub struct Turn {
     pub row: usize,
 }
 
-// The next turn, and how many samples the row has; or why it is refused, and the turn as it was.
-#[derive(Drop)]
-pub enum Rowed {
-    Given(Turn, usize),
-    Refused(Refusal, Turn),
+// How many samples the row has, or why it is refused; and the turn that comes next, where it is refused the turn as it was.
+#[derive(Clone, Copy)]
+pub struct Rowed {
+    pub written: Result<usize, Refusal>,
+    pub next: Turn,
 }
 
 // ---- the turn
@@ -82,9 +82,15 @@ impl Turn {
         let x = in_plane(plane, c.left);
         let y = in_plane(plane, c.top);
         if !put_row(run, p, stride, x, y, n, row, out) {
-            return Rowed::Refused(Refusal::Sample, self);
+            return Rowed {
+                written: Err(Refusal::Sample),
+                next: self,
+            };
         }
-        Rowed::Given(self.after(c), across_run(run, n))
+        Rowed {
+            written: Ok(across_run(run, n)),
+            next: self.after(c),
+        }
     }
 
     // The row of a plane whose turn it is: its samples stand first in a buffer of w bytes.
@@ -134,8 +140,11 @@ impl Turn {
             out.len(),
         );
         match found {
-            Answer::Refused(r) => Rowed::Refused(r, self),
-            Answer::Done => match plane {
+            Err(r) => Rowed {
+                written: Err(r),
+                next: self,
+            },
+            Ok(()) => match plane {
                 0 => self.given(w, y, window, out),
                 1 => self.given(w, u, window, out),
                 _ => self.given(w, v, window, out),

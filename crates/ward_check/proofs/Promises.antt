@@ -3,12 +3,12 @@
 --     across_run_once, in_plane_once, checked_row_once
 --     checked_row_refusals, checked_row_accepted
 -- Assumes nothing.
+use Rattle.std.specs.Prelude.{Ok}
 use mathlib.Core.List.{[], ◌∷◌}
 use mathlib.Core.Path.{◌≡◌, refl, sym, ◌∙◌}
 use Prim.Native.Nat.{ℕ}
 use Rattle.decoder.proofs.Refusing.{last, rung, by_checks}
 use Rattle.decoder.specs.Face.{after_checks, number_of, size_ok, Answer, Format}
-use Rattle.decoder.specs.Face.answers.{Done}
 use Rattle.decoder.specs.Face.formats.{Colour}
 use Rattle.decoder.specs.Face.refusals.{Size, Length, Window as OffWindow, Turn as OutOfTurn}
 use Rattle.decoder.specs.Promise.{Sole, Refuses}
@@ -52,7 +52,7 @@ record Asking : Type 0 where
   out : ℕ
 
 abbrev checking : Asking → Answer
-checking i = asked i.run i.k i.nth i.plane i.row i.format i.w i.h i.y i.u i.v i.c i.out Done
+checking i = asked i.run i.k i.nth i.plane i.row i.format i.w i.h i.y i.u i.v i.c i.out (Ok tt)
 
 -- the first row of Y, asked for as one of a plane, of a picture of w by 4 in colour, with a window up to a column and a buffer of so many bytes
 abbrev first : (w plane right out : ℕ) → Asking
@@ -88,6 +88,6 @@ checked_row_refusals =
     }
 
 -- and it does not refuse always
-pub checked_row_accepted : checking (first 4 0 4 4) ≡ Done
+pub checked_row_accepted : checking (first 4 0 4 4) ≡ Ok tt
 unfolding asked lengths_ok window_ok turn_ok plane_length size_ok
 checked_row_accepted = refl

@@ -1,9 +1,8 @@
 -- What a row's call refuses before it looks at a sample, in its order: 1, 2, 21 for the window, 22 for a row out of turn.
 -- Assumes nothing: these are definitions.
-use Rattle.std.specs.Prelude.{ℕ, ◌%◌, Bool, List, [], ◌∷◌, leb, ltb, eqb}
+use Rattle.std.specs.Prelude.{ℕ, ◌%◌, Bool, List, [], ◌∷◌, leb, ltb, eqb, Err}
 use Rattle.laws.specs.Call.{unless, all_of}
 use Rattle.decoder.specs.Face.{size_ok, Answer, Format}
-use Rattle.decoder.specs.Face.answers.{Refused}
 use Rattle.decoder.specs.Face.refusals.{Size, Length, Window as OffWindow, Turn as OutOfTurn}
 use Rattle.ward_check.specs.Sizes.{planes_of, plane_length, rows_of}
 use Rattle.ward_check.specs.declared.Run.{Run}
@@ -30,7 +29,7 @@ turn_ok run k nth plane row f c = all_of (eqb plane k ∷ eqb row nth ∷ ltb k 
 -- the ladder down to 22, and what comes after it
 unfoldable pub asked : Run → (k nth plane row : ℕ) → Format → (w h y u v : ℕ) → Window → (out : ℕ) → Answer → Answer
 asked run k nth plane row f w h y u v c out after =
-    unless (size_ok w h) (Refused Size)
-    (unless (lengths_ok f w h y u v out) (Refused Length)
-    (unless (window_ok c w h) (Refused OffWindow)
-    (unless (turn_ok run k nth plane row f c) (Refused OutOfTurn) after)))
+    unless (size_ok w h) (Err Size)
+    (unless (lengths_ok f w h y u v out) (Err Length)
+    (unless (window_ok c w h) (Err OffWindow)
+    (unless (turn_ok run k nth plane row f c) (Err OutOfTurn) after)))

@@ -2,12 +2,11 @@
 // There is no Rust beside it. It stands above the face and goes by the latter's statements.
 #![tactic(auto)]
 
-ghost use Rattle.std.specs.Prelude.{◌≡◌, ◌≤◌, ◌<◌};
-ghost use Rattle.decoder.specs.Face.answers.{Done};
+ghost use Rattle.std.specs.Prelude.{◌≡◌, ◌≤◌, ◌<◌, Ok};
 ghost use Rattle.ward_check.specs.Sizes.{across, planes_of, in_plane, plane_length};
 ghost use Rattle.ward_check.specs.Checks.{lengths_ok, window_ok, turn_ok, asked};
 
-use decoder::{Answer, Format, Refusal};
+use decoder::{Format, Refusal};
 
 // The two runs over a window.
 #[derive(Clone, Copy)]
@@ -127,20 +126,20 @@ pub fn checked_row(
     v: usize,
     c: Window,
     out: usize,
-) -> Answer
-    ensures { result ≡ asked run k nth plane row format w h y u v c out Done }
+) -> Result<(), Refusal>
+    ensures { result ≡ asked run k nth plane row format w h y u v c out (Ok tt) }
 {
     if !decoder::size_ok(w, h) {
-        return Answer::Refused(Refusal::Size);
+        return Err(Refusal::Size);
     }
     if !lengths_ok(format, w, h, y, u, v, out) {
-        return Answer::Refused(Refusal::Length);
+        return Err(Refusal::Length);
     }
     if !window_ok(c, w, h) {
-        return Answer::Refused(Refusal::Window);
+        return Err(Refusal::Window);
     }
     if !turn_ok(run, k, nth, plane, row, format, c) {
-        return Answer::Refused(Refusal::Turn);
+        return Err(Refusal::Turn);
     }
-    Answer::Done
+    Ok(())
 }

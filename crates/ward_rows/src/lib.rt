@@ -61,10 +61,8 @@ fn put_full(p: &[u16], from: usize, n: usize, out: &mut [u8])
     requires { Small p.now from n × (from + n ≤ length p.now) × (n ≤ length out.old) }
     ensures { out.new ≡ with_row 0 0 n (full_at p.now from) out.old }
 {
-    let mut i = 0;
-    while i < n {
+    for i in 0..n {
         out[i] = screen(p[from + i]) as u8;
-        i += 1;
     }
 }
 
@@ -74,10 +72,8 @@ fn column_sums(p: &[u16], upper: usize, lower: usize) -> [u16; 32]
     ensures { result ≡ tabulate 32 (column_at p.now upper lower) }
 {
     let mut sums = [0u16; 32];
-    let mut i = 0;
-    while i < 32 {
+    for i in 0..32 {
         sums[i] = screen(p[upper + i]) + screen(p[lower + i]);
-        i += 1;
     }
     sums
 }
@@ -87,10 +83,8 @@ fn put_sums(sums: [u16; 32], at: usize, out: &mut [u8])
     requires { ((i : ℕ) → slice_index sums i ≤ 510) × (at + 16 ≤ length out.old) }
     ensures { out.new ≡ with_row 0 at 16 (pair_of sums) out.old }
 {
-    let mut i = 0;
-    while i < 16 {
+    for i in 0..16 {
         out[at + i] = ((sums[2 * i] + sums[2 * i + 1] + 2) / 4) as u8;
-        i += 1;
     }
 }
 
@@ -100,15 +94,14 @@ fn put_singly(p: &[u16], upper: usize, lower: usize, n: usize, at: usize, out: &
         × (upper + 2 * n ≤ length p.now) × (lower + 2 * n ≤ length p.now) × (at + n ≤ length out.old) }
     ensures { out.new ≡ with_row 0 at n (half_at p.now upper lower) out.old }
 {
-    let mut i = 0;
-    while i < n {
+    for i in 0..n {
         out[at + i] = preview_sample(p, upper + 2 * i, lower + 2 * i);
-        i += 1;
     }
 }
 
 // n samples of the preview, from twice as many at each of two places, put first into a row. Sixteen at a time, as long as there are so many: of the columns,
 // which lie side by side, a compiler takes eight at once.
+// kept: a `while`, as the last turn's place is where the rest starts.
 fn put_preview(p: &[u16], from: usize, below: usize, n: usize, out: &mut [u8])
     requires { Small p.now from (2 * n) × Small p.now below (2 * n)
         × (from + 2 * n ≤ length p.now) × (below + 2 * n ≤ length p.now) × (n ≤ length out.old) }

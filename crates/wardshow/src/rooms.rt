@@ -1,93 +1,64 @@
-// The stream's frames, in a room for their bytes and planes that y4m_file has the arrays of.
+// The stream's frames, in a room for their bytes and planes.
 ghost use Rattle.std.specs.Prelude.{◌≤◌};
 
 use crate::{Job, every};
 use files::Source;
+use say::Stop;
+use y4m_file::{
+    LARGE_BYTES, LARGE_CHROMA, LARGE_LUMA, Lengths, Picture, SMALL_BYTES, SMALL_CHROMA, SMALL_LUMA,
+};
 
-fn in_small(
-    rt: &HostRuntime,
-    file: &mut Source,
-    job: Job,
-    w: usize,
-    luma: usize,
-    chroma: usize,
-) -> u8
-    requires { (luma ≤ 262144) × (chroma ≤ 65536) × (w ≤ 4096) }
-{
-    let mut bytes = y4m_file::small_bytes();
-    let mut y = y4m_file::small_luma();
-    let mut u = y4m_file::small_chroma();
-    let mut v = y4m_file::small_chroma();
-    let mut out = [0u8; 4096];
-    let size = 6 + 2 * luma + 4 * chroma;
-    every(
-        rt,
-        file,
-        job,
-        &mut bytes[..size],
-        &mut y[..luma],
-        &mut u[..chroma],
-        &mut v[..chroma],
-        &mut out[..w],
-    )
-}
-
-// The large arrays stay in a frame of their own: a function that took them into its own would need the room at each call.
+// The arrays stay in a frame of their own: a function that took the large ones into its own would need the room at each call.
 #[inline(never)]
-fn in_large(
+fn in_room<const BYTES: usize, const LUMA: usize, const CHROMA: usize>(
     rt: &HostRuntime,
     file: &mut Source,
     job: Job,
+    n: Lengths,
     w: usize,
-    luma: usize,
-    chroma: usize,
-) -> u8
-    requires { (luma ≤ 16777216) × (chroma ≤ 4194304) × (w ≤ 4096) }
+) -> Result<(), Stop>
+    requires holds { (n.size ≤ BYTES) × (n.luma ≤ LUMA) × (n.chroma ≤ CHROMA) × (w ≤ 4096) }
+    requires in_memory { (BYTES ≤ 50331654) × (LUMA ≤ 16777216) × (CHROMA ≤ 4194304) }
 {
-    let mut bytes = y4m_file::large_bytes();
-    let mut y = y4m_file::large_luma();
-    let mut u = y4m_file::large_chroma();
-    let mut v = y4m_file::large_chroma();
+    let mut bytes = [0u8; BYTES];
+    let mut y = [0u16; LUMA];
+    let mut u = [0u16; CHROMA];
+    let mut v = [0u16; CHROMA];
     let mut out = [0u8; 4096];
-    let size = 6 + 2 * luma + 4 * chroma;
+    let size = n.size;
+    let luma = n.luma;
+    let chroma = n.chroma;
+    let mut picture = Picture {
+        w,
+        h: job.header.h,
+        y: &mut y[..luma],
+        u: &mut u[..chroma],
+        v: &mut v[..chroma],
+    };
     every(
         rt,
         file,
         job,
+        &mut picture,
         &mut bytes[..size],
-        &mut y[..luma],
-        &mut u[..chroma],
-        &mut v[..chroma],
         &mut out[..w],
     )
 }
 
-// All frames. A picture that the small room does not hold is gone to by a call of itself.
-pub(crate) fn frames(rt: &HostRuntime, file: &mut Source, job: Job, large: bool) -> u8 {
-    let w = job.w;
-    let h = job.h;
+// All frames.
+pub(crate) fn frames(rt: &HostRuntime, file: &mut Source, job: Job) -> Result<(), Stop> {
+    let w = job.header.w;
+    let n = y4m_file::lengths_of(w, job.header.h).ok_or(Stop::Failed)?;
     if 4096 < w {
-        return 2;
+        return Err(Stop::Failed);
     }
-    if 4096 < h {
-        return 2;
+    if n.is_small() {
+        return in_room::<SMALL_BYTES, SMALL_LUMA, SMALL_CHROMA>(rt, file, job, n, w);
     }
-    let luma = w * h;
-    let chroma = (w / 2) * (h / 2);
-    if large {
-        return in_large(rt, file, job, w, luma, chroma);
-    }
-    if luma <= 262144 {
-        if chroma <= 65536 {
-            return in_small(rt, file, job, w, luma, chroma);
-        }
-    }
-    let status = frames(rt, file, job, true);
-    if status == 2 {
-        say::line(
-            rt,
-            b"(the picture is large: its frames are kept in a room of 100 megabytes)",
-        );
-    }
-    status
+    let came = in_room::<LARGE_BYTES, LARGE_LUMA, LARGE_CHROMA>(rt, file, job, n, w);
+    y4m_file::with_note(
+        rt,
+        came,
+        b"(the picture is large: its frames are kept in a room of 100 megabytes)",
+    )
 }

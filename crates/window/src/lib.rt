@@ -33,12 +33,6 @@ fn wide(x: u32) -> usize
     x as usize
 }
 
-fn least(x: usize, y: usize) -> usize
-    ensures { result ≡ min x y }
-{
-    if x < y { x } else { y }
-}
-
 // Lines of luma in a unit's edge, and of chroma.
 fn lines_in(component: Component) -> usize
     ensures { (result ≡ unit_side component) × (1 ≤ result) × (result ≤ 4) }
@@ -363,7 +357,7 @@ pub fn window_chroma(u: &mut [u16], v: &mut [u16], p: Place, su: u16, sv: u16)
     ensures { (u.new ≡ window_of (lies p 2 (min (length u.old) (length v.old))) (mask_of Chroma false false) (λ k. su) p 2 u.old)
         × (v.new ≡ window_of (lies p 2 (min (length u.old) (length v.old))) (mask_of Chroma false false) (λ k. sv) p 2 v.old) }
 {
-    let long = least(u.len(), v.len());
+    let long = u.len().min(v.len());
     if by_rows(p, 2, long) {
         chroma_rows(u, v, p, su, sv);
         return;
@@ -421,7 +415,7 @@ pub fn window_chroma_two(
         × (u.new ≡ window_of result (mask_of Chroma false false) (twice 2 u0 u1) p 4 u.old)
         × (v.new ≡ window_of result (mask_of Chroma false false) (twice 2 v0 v1) p 4 v.old) }
 {
-    let long = least(u.len(), v.len());
+    let long = u.len().min(v.len());
     if by_rows(p, 4, long) {
         chroma_two_rows(u, v, p, u0, u1, v0, v1);
         return true;

@@ -3,40 +3,35 @@
 --     header_again   the header
 --     again          both
 -- Assumes nothing.
-use mathlib.Core.Bool.{Bool, true, false}
+use Rattle.std.specs.Prelude.{Ok, Err}
+use mathlib.Core.Bool.{true}
 use mathlib.Core.List.{List, [], ◌∷◌, ◌++◌, append_assoc}
-use mathlib.Core.Path.{◌≡◌, refl, sym, ap, ap₂, ◌∙◌, subst}
-use Prim.Native.Nat.{ℕ, ◌+◌, ◌*◌, ◌≤◌}
+use mathlib.Core.Path.{◌≡◌, refl, sym, ap, ◌∙◌, subst}
+use Prim.Native.Nat.{ℕ, ◌+◌, ◌≤◌}
 use native.Mathlib.Omega.{arith}
 use borrow.Author.Tests.{eqb-true, eq-eqb, le-leb}
 use lib.Dec.{eqb}
 use lib.ListN.{length, take, drop, length-append}
 use lib.Seq.{sets, sets-eq, take-append_seam}
-use Rattle.laws.specs.Call.{unless}
 use Rattle.laws.proofs.Calls.{all_at}
 use Rattle.def.specs.Answers.{after_checks}
 use Rattle.def.specs.Formats.{colour_length}
 use Rattle.def.specs.Picture.{size_ok, luma_length, chroma_length}
-use Rattle.def.specs.declared.Answer.{Answer}
-use Rattle.def.specs.declared.Answer.TheVariants.{Done, Refused}
+use Rattle.def.specs.Answers.{Answer}
 use Rattle.def.specs.declared.Format.{Format}
 use Rattle.def.specs.declared.Format.TheVariants.{Grey, Colour}
-use Rattle.def.specs.declared.Refusal.{Refusal}
 use Rattle.def.proofs.Answers.{number_some}
 use Rattle.def.proofs.Ladders.{passes}
 use Rattle.samples.specs.Samples.{samples_ok}
 use Rattle.y4m_rules.specs.Words.{frame_line}
 use Rattle.y4m_rules.specs.Frames.{colour_ok, frame_length, bytes_of, frame_text, line_ok, frame_end, y_at, u_at, v_at, planes_ok}
-use Rattle.y4m_rules.specs.Header.{header_text, said, header_in}
 use Rattle.y4m_rules.proofs.Frames.{bytes_long, plane_back_lem, line_back}
 use Rattle.y4m_rules.proofs.Header.{header_back, header_short}
 use Rattle.y4m_header.specs.ReadCall as reading
-use Rattle.y4m_header.specs.declared.HeaderRead.TheVariants.{Read}
+use Rattle.y4m_header.specs.declared.Header.{Header}
 use Rattle.y4m_header_out.specs.WriteCall as header
 use Rattle.y4m_header_out.proofs.Answers.{writable}
 use Rattle.y4m_frame.specs.ReadCall as framed
-use Rattle.y4m_frame.specs.declared.FrameRead.{FrameRead}
-use Rattle.y4m_frame.specs.declared.FrameRead.TheVariants.{Read as ReadFrame}
 use Rattle.y4m_frame_out.specs.WriteCall as frame
 use Rattle.y4m.specs.Import as import
 use Rattle.y4m.specs.Again.{Exported, stream, Again}
@@ -96,7 +91,7 @@ module _ (text y u v rest : List ℕ) (w h : ℕ) (yl : length y ≡ luma_length
     unfolding planes_ok
     planes = rw (ap samples_ok y_back ∙ oy, ap samples_ok u_back ∙ ou, ap samples_ok v_back ∙ ov)
 
-    frame_again : framed.frame_of bytes at luma chroma ≡ ReadFrame (frame_end at luma chroma)
+    frame_again : framed.frame_of bytes at luma chroma ≡ Ok (frame_end at luma chroma)
     unfolding framed.frame_of
     frame_again =
         let l : line_ok bytes at ≡ true = ap (λ (s : List ℕ). line_ok s at) from_line ∙ line_back text _ at refl in
@@ -104,19 +99,19 @@ module _ (text y u v rest : List ℕ) (w h : ℕ) (yl : length y ≡ luma_length
 
 -- ---- what was written without a refusal
 
-header_checked : (i : header.Input) → (header.outcome i).reading.number ≡ 0 → header.check i ≡ Done
+header_checked : (i : header.Input) → (header.outcome i).reading.number ≡ 0 → header.check i ≡ Ok tt
 unfolding header.outcome
 header_checked i e = go (header.check i) e where
-  go : (k : Answer) → (after_checks (header.refused i) (header.done i) k).reading.number ≡ 0 → k ≡ Done
-  go Done z = refl
-  go (Refused r) z = absurd (omega (arith, number_some r))
+  go : (k : Answer) → (after_checks (header.refused i) (header.done i) k).reading.number ≡ 0 → k ≡ Ok tt
+  go (Ok _) z = refl
+  go (Err r) z = absurd (omega (arith, number_some r))
 
-frame_checked : (j : frame.Input) → (frame.outcome j).number ≡ 0 → frame.check j ≡ Done
+frame_checked : (j : frame.Input) → (frame.outcome j).number ≡ 0 → frame.check j ≡ Ok tt
 unfolding frame.outcome
 frame_checked j e = go (frame.check j) e where
-  go : (k : Answer) → (after_checks (frame.refused j) (frame.done j) k).number ≡ 0 → k ≡ Done
-  go Done z = refl
-  go (Refused r) z = absurd (omega (arith, number_some r))
+  go : (k : Answer) → (after_checks (frame.refused j) (frame.done j) k).number ≡ 0 → k ≡ Ok tt
+  go (Ok _) z = refl
+  go (Err r) z = absurd (omega (arith, number_some r))
 
 -- the picture of an accepted frame
 record Picture (w h : ℕ) (y u v : List ℕ) : Type 0 where
@@ -132,7 +127,7 @@ colour : (c : Format) → colour_ok c ≡ true → c ≡ Colour
 colour Grey e = absurd (let z : ◌≡◌ {A = ℕ} 0 1 = cc in omega arith)
 colour Colour e = refl
 
-picture : (c : Format) (w h : ℕ) (y u v : List ℕ) (n : ℕ) → frame.check_of c w h y u v n ≡ Done → Picture w h y u v
+picture : (c : Format) (w h : ℕ) (y u v : List ℕ) (n : ℕ) → frame.check_of c w h y u v n ≡ Ok tt → Picture w h y u v
 unfolding frame.check_of frame.lengths_ok frame.planes_ok
 picture c w h y u v n e =
     let first = passes (size_ok w h) _ _ e in
@@ -162,7 +157,7 @@ module _ (i : header.Input) (j : frame.Input) (rest : List ℕ) (e : Exported i 
   abbrev text : List ℕ
   text = header.text_of i
 
-  header_check : header.check i ≡ Done
+  header_check : header.check i ≡ Ok tt
   header_check = header_checked i e.header_done
 
   drawn : Picture j.w j.h j.y j.u j.v
@@ -175,7 +170,11 @@ module _ (i : header.Input) (j : frame.Input) (rest : List ℕ) (e : Exported i 
       let s = header_short i.w i.h i.f i.g i.a i.b in
       rw (header_check, frame_checked j e.frame_done) (ap (λ (l : List ℕ). l ++ (frame_text j.y j.u j.v ++ rest)) (written_text text i.out (omega (arith, w.long))))
 
-  header_again : reading.read_of (stream i j rest) ≡ Read j.w j.h i.f i.g i.a i.b (length text)
+  -- what the header says, with the place after it or after the frame
+  abbrev says : ℕ → Header
+  says n = record { w = j.w; h = j.h; f = i.f; g = i.g; a = i.a; b = i.b; next = n }
+
+  header_again : reading.read_of (stream i j rest) ≡ Ok (says (length text))
   header_again =
       let w = writable i.format i.w i.h i.f i.g i.a i.b (length i.out) header_check in
       let b = header_back i.w i.h i.f i.g i.a i.b w.numbers (frame_text j.y j.u j.v ++ rest) in
@@ -190,7 +189,7 @@ module _ (i : header.Input) (j : frame.Input) (rest : List ℕ) (e : Exported i 
     abbrev end : ℕ
     end = frame_end (length text) (luma_length j.w j.h) (chroma_length j.w j.h)
 
-    check_again : framed.check (import.frame_at lent (length text) j.w j.h) ≡ ReadFrame end
+    check_again : framed.check (import.frame_at lent (length text) j.w j.h) ≡ Ok end
     unfolding framed.check_of framed.lengths_ok
     check_again =
         let d = drawn in
@@ -203,11 +202,11 @@ module _ (i : header.Input) (j : frame.Input) (rest : List ℕ) (e : Exported i 
         )
         (frame_again text j.y j.u j.v rest j.w j.h d.y_long d.u_long d.v_long d.y_good d.u_good d.v_good)
 
-    read_again : import.outcome lent ≡ import.with (Read j.w j.h i.f i.g i.a i.b end) (framed.after (import.frame_at lent (length text) j.w j.h) (ReadFrame end))
+    read_again : import.outcome lent ≡ import.with (Ok (says end)) (framed.after (import.frame_at lent (length text) j.w j.h) (Ok end))
     unfolding import.outcome
     read_again =
         ap (import.after_header lent) header_again
-        ∙ ap (import.after_frame lent j.w j.h i.f i.g i.a i.b (length text)) check_again
+        ∙ ap (import.after_frame lent (says (length text))) check_again
 
     pub again : Again i j rest (import.outcome lent)
     again =

@@ -1,7 +1,6 @@
 -- Export and import: what follows where a picture's header and frame are written, one after the other. The proof is `again`, in proofs/.
 -- Assumes nothing: these are definitions.
 use Rattle.std.specs.Prelude.{ℕ, ◌+◌, List, ◌++◌, ◌≡◌, length, take}
-use Rattle.y4m_header.specs.ReadCall as reading
 use Rattle.y4m_header_out.specs.WriteCall as header
 use Rattle.y4m_frame_out.specs.WriteCall as frame
 use Rattle.y4m.specs.Import as import

@@ -9,8 +9,7 @@ ghost use Rattle.y4m_rules.specs.Frames.{plane_at, matches, line_ok, line_place}
 fn agree(s: &[u8], at: usize, key: &[u8], short: bool) -> bool
     ensures { result ≡ matches short key.now (drop at s.now) }
 {
-    let mut i = 0;
-    while i < key.len() {
+    for i in 0..key.len() {
         if s.len() <= at {
             return short;
         }
@@ -20,7 +19,6 @@ fn agree(s: &[u8], at: usize, key: &[u8], short: bool) -> bool
         if key[i] != s[at + i] {
             return false;
         }
-        i += 1;
     }
     true
 }
@@ -58,10 +56,8 @@ pub(crate) fn plane_ok(s: &[u8], from: usize, n: usize) -> bool
     ensures { result ≡ samples_ok (plane_at s.now from n) }
 {
     let mut all: u16 = 0;
-    let mut i = 0;
-    while i < n {
-        all = all | sample(s[from + 2 * i], s[from + 2 * i + 1]);
-        i += 1;
+    for i in 0..n {
+        all |= sample(s[from + 2 * i], s[from + 2 * i + 1]);
     }
     all <= 1023
 }
@@ -71,9 +67,7 @@ pub(crate) fn read_plane(s: &[u8], from: usize, plane: &mut [u16])
     requires { from + 2 * length plane.old ≤ length s.now }
     ensures { plane.new ≡ plane_at s.now from (length plane.old) }
 {
-    let mut i = 0;
-    while i < plane.len() {
+    for i in 0..plane.len() {
         plane[i] = sample(s[from + 2 * i], s[from + 2 * i + 1]);
-        i += 1;
     }
 }

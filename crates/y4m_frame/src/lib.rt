@@ -6,18 +6,11 @@ ghost use Rattle.laws.specs.Call.{Gives};
 ghost use Rattle.y4m_rules.specs.Frames.{frame_end, planes_ok};
 ghost use Rattle.y4m_frame.specs.ReadCall as reading;
 
-use def::Refusal;
-
 mod bytes;
 
 use bytes::{line_ok, line_place, plane_ok, read_plane};
-
-// The place after the frame; or why it is refused, and for 17 the place.
-#[derive(Drop)]
-pub enum FrameRead {
-    Read(usize),
-    Refused(Refusal, usize),
-}
+use def::Refusal;
+use y4m_rules::Misread;
 
 // Whether the samples of the frame at `at` are all at most 1023.
 fn planes_ok(s: &[u8], at: usize, luma: usize, chroma: usize) -> bool
@@ -30,41 +23,52 @@ fn planes_ok(s: &[u8], at: usize, luma: usize, chroma: usize) -> bool
 }
 
 // The frame at `at`, its line and its samples, of planes that have these lengths.
-fn checked_frame(s: &[u8], at: usize, luma: usize, chroma: usize) -> FrameRead
+fn checked_frame(s: &[u8], at: usize, luma: usize, chroma: usize) -> Result<usize, Misread>
     requires { (luma ≤ 16777216) × (chroma ≤ 4194304) }
     ensures { result ≡ reading.frame_of s.now at luma chroma }
 {
     if !line_ok(s, at) {
-        return FrameRead::Refused(Refusal::Stream, line_place(s, at));
+        return Err(Misread {
+            refusal: Refusal::Stream,
+            at: line_place(s, at),
+        });
     }
     if s.len() < at {
-        return FrameRead::Refused(Refusal::Short, 0);
+        return Err(Misread::from(Refusal::Short));
     }
     let size = 6 + 2 * luma + 4 * chroma;
     if s.len() - at < size {
-        return FrameRead::Refused(Refusal::Short, 0);
+        return Err(Misread::from(Refusal::Short));
     }
     if !planes_ok(s, at, luma, chroma) {
-        return FrameRead::Refused(Refusal::Sample, 0);
+        return Err(Misread::from(Refusal::Sample));
     }
-    FrameRead::Read(at + size)
+    Ok(at + size)
 }
 
-fn checked(s: &[u8], at: usize, w: usize, h: usize, y: usize, u: usize, v: usize) -> FrameRead
+fn checked(
+    s: &[u8],
+    at: usize,
+    w: usize,
+    h: usize,
+    y: usize,
+    u: usize,
+    v: usize,
+) -> Result<usize, Misread>
     ensures { result ≡ reading.check_of s.now at w h y u v }
 {
     if !def::size_ok(w, h) {
-        return FrameRead::Refused(Refusal::Size, 0);
+        return Err(Misread::from(Refusal::Size));
     }
     let luma = w * h;
     let chroma = w / 2 * (h / 2);
     if !((y == luma) & (u == chroma) & (v == chroma)) {
-        return FrameRead::Refused(Refusal::Length, 0);
+        return Err(Misread::from(Refusal::Length));
     }
     checked_frame(s, at, luma, chroma)
 }
 
-// The frame at a place of a stream, into the planes of a picture of w by h.
+// The frame at a place of a stream, into the planes of a picture of w by h: the place after it.
 pub fn read_frame(
     s: &[u8],
     at: usize,
@@ -73,21 +77,17 @@ pub fn read_frame(
     y: &mut [u16],
     u: &mut [u16],
     v: &mut [u16],
-) -> FrameRead
+) -> Result<usize, Misread>
     ensures { Gives reading.outcome
         (record { input = s.now; at = at; w = w; h = h; y = y.old; u = u.old; v = v.old })
         (record { reading = reading.reading_of result; y = y.new; u = u.new; v = v.new }) }
 {
-    match checked(s, at, w, h, y.len(), u.len(), v.len()) {
-        FrameRead::Refused(r, place) => FrameRead::Refused(r, place),
-        FrameRead::Read(next) => {
-            let luma = at + 6;
-            let first = luma + 2 * y.len();
-            let second = first + 2 * u.len();
-            read_plane(s, luma, y);
-            read_plane(s, first, u);
-            read_plane(s, second, v);
-            FrameRead::Read(next)
-        }
-    }
+    let next = checked(s, at, w, h, y.len(), u.len(), v.len())?;
+    let luma = at + 6;
+    let first = luma + 2 * y.len();
+    let second = first + 2 * u.len();
+    read_plane(s, luma, y);
+    read_plane(s, first, u);
+    read_plane(s, second, v);
+    Ok(next)
 }

@@ -2,6 +2,7 @@
 --     Writable, writable    the length of its bytes
 --     write_refused, write_done    the outcome
 -- Assumes nothing.
+use Rattle.std.specs.Prelude.{Ok, Err}
 use mathlib.Core.List.{List, [], ◌∷◌, ◌++◌, append-nil}
 use mathlib.Core.Path.{◌≡◌, sym, ap, ◌∙◌}
 use Prim.Native.Nat.{ℕ, ◌+◌, ◌*◌}
@@ -14,8 +15,7 @@ use Rattle.laws.specs.Call.{Gives}
 use Rattle.laws.proofs.Calls.{all_at}
 use Rattle.def.specs.Formats.{colour_length}
 use Rattle.def.specs.Picture.{size_ok, luma_length}
-use Rattle.def.specs.declared.Answer.{Answer}
-use Rattle.def.specs.declared.Answer.TheVariants.{Done, Refused as No}
+use Rattle.def.specs.Answers.{Answer}
 use Rattle.def.specs.declared.Format.{Format}
 use Rattle.def.specs.declared.Refusal.{Refusal}
 use Rattle.def.proofs.Answers.{on_refusal, on_done}
@@ -30,7 +30,7 @@ use Rattle.y4m_frame_out.specs.WriteCall as writing
 pub record Writable (w h y u v out : ℕ) : Type 0 where
   pub out_long : out ≡ 6 + 2 * y + 2 * u + 2 * v
 
-pub writable : (c : Format) (w h : ℕ) (y u v : List ℕ) (out : ℕ) → writing.check_of c w h y u v out ≡ Done → Writable w h (length y) (length u) (length v) out
+pub writable : (c : Format) (w h : ℕ) (y u v : List ℕ) (out : ℕ) → writing.check_of c w h y u v out ≡ Ok tt → Writable w h (length y) (length u) (length v) out
 unfolding writing.check_of writing.lengths_ok
 writable c w h y u v out e =
     let a = passes (size_ok w h) _ _ e in
@@ -54,11 +54,11 @@ whole_put text out out' n p e =
     ∙ ap (λ (l : List ℕ). text ++ l) (drop_of_length-le out {i = 0 + length text} (omega arith)) ∙ append-nil text
 
 module _ (i : writing.Input) (k : Answer) (e : k ≡ writing.check i) where
-  pub write_refused : (r : Refusal) → k ≡ No r → Gives writing.outcome i (writing.refused i r)
+  pub write_refused : (r : Refusal) → k ≡ Err r → Gives writing.outcome i (writing.refused i r)
   unfolding writing.outcome
   write_refused r q = on_refusal (writing.refused i) (writing.done i) k (writing.check i) r e q
 
-  pub write_done : {o₁ o₂ o₃ o₄ : List ℕ} {n₁ n₂ n₃ n₄ : ℕ} → k ≡ Done → Put frame_line i.out 0 o₁ n₁ → Put (bytes_of i.y) o₁ n₁ o₂ n₂
+  pub write_done : {o₁ o₂ o₃ o₄ : List ℕ} {n₁ n₂ n₃ n₄ : ℕ} → k ≡ Ok tt → Put frame_line i.out 0 o₁ n₁ → Put (bytes_of i.y) o₁ n₁ o₂ n₂
       → Put (bytes_of i.u) o₂ n₂ o₃ n₃ → Put (bytes_of i.v) o₃ n₃ o₄ n₄ → Gives writing.outcome i (record { number = 0; out = o₄ })
   unfolding writing.outcome frame_text
   write_done q a b c d =

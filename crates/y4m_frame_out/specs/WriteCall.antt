@@ -1,13 +1,12 @@
 -- The call `write_frame`: a picture's frame, into exactly its bytes. Its refusals: 1, 2, 3 for a grey picture, 7.
 -- Assumes nothing: these are definitions.
-use Rattle.std.specs.Prelude.{ℕ, ◌+◌, ◌*◌, Bool, List, [], ◌∷◌, eqb, length}
+use Rattle.std.specs.Prelude.{ℕ, Bool, List, [], ◌∷◌, eqb, length, Ok, Err}
 use Rattle.laws.specs.Call.{unless, all_of}
 use Rattle.def.specs.Answers.{after_checks}
 use Rattle.def.specs.Formats.{colour_length}
 use Rattle.def.specs.Picture.{size_ok, luma_length}
 use Rattle.def.specs.Refusals.{number_of}
-use Rattle.def.specs.declared.Answer.{Answer}
-use Rattle.def.specs.declared.Answer.TheVariants.{Done, Refused}
+use Rattle.def.specs.Answers.{Answer}
 use Rattle.def.specs.declared.Format.{Format}
 use Rattle.def.specs.declared.Refusal.{Refusal}
 use Rattle.def.specs.declared.Refusal.TheVariants.{Size, Length, Setting, Sample}
@@ -36,11 +35,11 @@ planes_ok y u v = all_of (samples_ok y ∷ samples_ok u ∷ samples_ok v ∷ [])
 
 unfoldable pub check_of : (c : Format) (w h : ℕ) (y u v : List ℕ) (out : ℕ) → Answer
 check_of c w h y u v out =
-    unless (size_ok w h) (Refused Size)
-    (unless (lengths_ok c w h (length y) (length u) (length v) out) (Refused Length)
-    (unless (colour_ok c) (Refused Setting)
-    (unless (planes_ok y u v) (Refused Sample)
-    Done)))
+    unless (size_ok w h) (Err Size)
+    (unless (lengths_ok c w h (length y) (length u) (length v) out) (Err Length)
+    (unless (colour_ok c) (Err Setting)
+    (unless (planes_ok y u v) (Err Sample)
+    (Ok tt))))
 
 abbrev pub check : Input → Answer
 check i = check_of i.format i.w i.h i.y i.u i.v (length i.out)

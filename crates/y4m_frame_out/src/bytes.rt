@@ -22,11 +22,9 @@ pub(crate) fn put_plane(out: &mut [u8], at: usize, plane: &[u16]) -> usize
     requires { at + 2 * length plane.now ≤ length out.old }
     ensures { Put (bytes_of plane.now) out.old at out.new result }
 {
-    let mut i = 0;
-    while i < plane.len() {
+    for i in 0..plane.len() {
         out[at + 2 * i] = (plane[i] % 256) as u8;
         out[at + 2 * i + 1] = (plane[i] / 256) as u8;
-        i += 1;
     }
-    at + 2 * i
+    at + 2 * plane.len()
 }

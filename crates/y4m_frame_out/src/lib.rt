@@ -8,7 +8,7 @@ ghost use Rattle.def.specs.Formats.{colour_length};
 ghost use Rattle.y4m_rules.specs.Frames.{colour_ok};
 ghost use Rattle.y4m_frame_out.specs.WriteCall as writing;
 
-use def::{Answer, Format, Refusal};
+use def::{Format, Refusal};
 
 mod bytes;
 
@@ -50,22 +50,22 @@ fn checked_picture(
     u: &[u16],
     v: &[u16],
     out: usize,
-) -> Answer
+) -> Result<(), Refusal>
     ensures { result ≡ writing.check_of format w h y.now u.now v.now out }
 {
     if !def::size_ok(w, h) {
-        return Answer::Refused(Refusal::Size);
+        return Err(Refusal::Size);
     }
     if !lengths_ok(format, w, h, y.len(), u.len(), v.len(), out) {
-        return Answer::Refused(Refusal::Length);
+        return Err(Refusal::Length);
     }
     if !colour_ok(format) {
-        return Answer::Refused(Refusal::Setting);
+        return Err(Refusal::Setting);
     }
     if !(samples::samples_ok(y) & samples::samples_ok(u) & samples::samples_ok(v)) {
-        return Answer::Refused(Refusal::Sample);
+        return Err(Refusal::Sample);
     }
-    Answer::Done
+    Ok(())
 }
 
 // A picture's frame, into exactly its bytes.
@@ -77,19 +77,19 @@ pub fn write_frame(
     u: &[u16],
     v: &[u16],
     out: &mut [u8],
-) -> Answer
+) -> Result<(), Refusal>
     ensures { Gives writing.outcome
         (record { format = format; w = w; h = h; y = y.now; u = u.now; v = v.now; out = out.old })
         (record { number = answer_number result; out = out.new }) }
 {
     match checked_picture(format, w, h, y, u, v, out.len()) {
-        Answer::Refused(r) => Answer::Refused(r),
-        Answer::Done => {
+        Err(r) => Err(r),
+        Ok(()) => {
             let luma = put_line(out);
             let first = put_plane(out, luma, y);
             let second = put_plane(out, first, u);
             put_plane(out, second, v);
-            Answer::Done
+            Ok(())
         }
     }
 }

@@ -3,8 +3,9 @@
 --     at_newline, at_word, at_end    the answers
 --     head_is, head_fits, magic_long    the bytes that a header may have, and the magic word
 -- Assumes nothing.
-use mathlib.Core.Bool.{Bool, true, false, ◌&&◌}
-use mathlib.Core.List.{List, [], ◌∷◌}
+use Rattle.std.specs.Prelude.{Option, Some, None, unwrap_or, Result, Ok, Err}
+use mathlib.Core.Bool.{Bool, true, false}
+use mathlib.Core.List.{List}
 use mathlib.Core.Path.{◌≡◌, refl, sym, ap, ◌∙◌, subst}
 use Prim.Native.Nat.{ℕ, zero, suc, ◌+◌, ◌-◌, ◌≤◌, ◌<◌}
 use native.Mathlib.Omega.{arith}
@@ -16,15 +17,28 @@ use Rattle.laws.specs.Call.{unless}
 use Rattle.laws.specs.Index.{pick}
 use Rattle.laws.proofs.Bools.{both_right}
 use Rattle.sheet_lines.specs.Lines.{starts_with, same_line}
+use Rattle.sheet_lines.proofs.Forms.{rest_of}
 use Rattle.y4m_rules.specs.Words.{magic, word_of}
-use Rattle.y4m_rules.specs.Header.{nothing, word_ok, tell, Header, malformed, said, needed, ending, words, head_of, header_in}
+use Rattle.y4m_rules.specs.Header.{nothing, word_ok, tell, Header, malformed, needed, ending, words, head_of, header_in}
+use Rattle.y4m_rules.specs.Misreads.{misread}
+use Rattle.y4m_rules.specs.declared.Misread.{Misread}
 use Rattle.y4m_rules.specs.declared.Said.{Said}
 use Rattle.y4m_rules.proofs.Reading.{here, before_take, before_fits}
+use Rattle.def.specs.declared.Refusal.TheVariants.{Stream}
 use Rattle.y4m_header.specs.Values.{told_by, words_of, head_length}
-use Rattle.y4m_header.specs.declared.words.Told.{Told}
-use Rattle.y4m_header.specs.declared.words.Told.TheVariants.{Said as TellsSo, Malformed as NotTold}
-use Rattle.y4m_header.specs.declared.words.Words.{Words}
-use Rattle.y4m_header.specs.declared.words.Words.TheVariants.{Whole, Malformed as Broken}
+use Rattle.y4m_header.specs.declared.Header.{Header as Read}
+
+-- ---- the newline
+
+pub ending_whole : (p : Said) (at w h : ℕ) → p.w ≡ Some w → p.h ≡ Some h → p.c ≡ true
+    → Ok (record { w = w; h = h; f = (unwrap_or p.f (0, 0)).0; g = (unwrap_or p.f (0, 0)).1; a = (unwrap_or p.a (0, 0)).0; b = (unwrap_or p.a (0, 0)).1; next = at + 1 })
+    ≡ words_of (ending p at)
+unfolding ending
+ending_whole p at w h e f g = rw (e, f, g)
+
+pub ending_missing : (p : Said) (at : ℕ) → needed p ≡ false → Err (misread Stream at) ≡ words_of (ending p at)
+unfolding ending
+ending_missing p at e = rw e
 
 -- ---- where the loop stands
 
@@ -67,6 +81,10 @@ unfolding words
 on_end head p zero at h = refl
 on_end head p (suc n) at h = rw (drop_of_length-le head h)
 
+-- what was counted
+pub word_is : (head : List ℕ) (from n : ℕ) → n ≡ length (word_of (take (length head - from) (drop from head))) → n ≡ length (word_of (drop from head))
+word_is head from n e = e ∙ ap (λ (l : List ℕ). length (word_of l)) (rest_of from head)
+
 -- the slice of the word
 word_part : (head : List ℕ) (from len : ℕ) → len ≡ length (word_of (drop from head)) → take (from + len - from) (drop from head) ≡ word_of (drop from head)
 word_part head from len e =
@@ -78,16 +96,8 @@ module _ (head : List ℕ) (p : Said) (at : ℕ) (g : Going head p at) where
     pub at_newline : get_or head at 0 ≡ 10 → words_of (ending p at) ≡ words_of (header_from head)
     at_newline e = ap words_of (sym (on_newline head p g.n at h e g.enough) ∙ sym g.same)
 
-    pub at_whole : get_or head at 0 ≡ 10 → needed p ≡ true → Whole p (at + 1) ≡ words_of (header_from head)
-    unfolding ending
-    at_whole e q = rw q at (at_newline e)
-
-    pub at_missing : get_or head at 0 ≡ 10 → needed p ≡ false → Broken at ≡ words_of (header_from head)
-    unfolding ending
-    at_missing e q = rw q at (at_newline e)
-
     -- a word of len bytes, and what telling it came to
-    module _ (e : get_or head at 0 ≡ 10 → ⊥) (len : ℕ) (l : len ≡ length (word_of (drop (at + 1) head))) (t : Told)
+    module _ (e : get_or head at 0 ≡ 10 → ⊥) (len : ℕ) (l : len ≡ length (word_of (drop (at + 1) head))) (t : Option Said)
         (d : t ≡ told_by (word_ok (take (at + 1 + len - (at + 1)) (drop (at + 1) head)) p) (tell (take (at + 1 + len - (at + 1)) (drop (at + 1) head)) p)) where
       told : t ≡ told_by (word_ok (word_at head at) p) (tell (word_at head at) p)
       told = d ∙ ap (λ (w : List ℕ). told_by (word_ok w p) (tell w p)) (word_part head (at + 1) len l)
@@ -95,17 +105,17 @@ module _ (head : List ℕ) (p : Said) (at : ℕ) (g : Going head p at) where
       on : Onward head p at g.n
       on = on_word head p g.n at h e g.enough
 
-      pub at_word : t ≡ NotTold → Broken (at + 1) ≡ words_of (header_from head)
+      pub at_word : t ≡ None → Err (misread Stream (at + 1)) ≡ words_of (header_from head)
       at_word q = go (word_ok (word_at head at) p) refl (sym told ∙ q) ∙ ap words_of (sym on.next ∙ sym g.same) where
-        go : (k : Bool) → word_ok (word_at head at) p ≡ k → told_by k (tell (word_at head at) p) ≡ NotTold
-            → Broken (at + 1) ≡ words_of (unless (word_ok (word_at head at) p) (malformed (at + 1))
+        go : (k : Bool) → word_ok (word_at head at) p ≡ k → told_by k (tell (word_at head at) p) ≡ None
+            → Err (misread Stream (at + 1)) ≡ words_of (unless (word_ok (word_at head at) p) (malformed (at + 1))
             (words on.m (at + 1 + length (word_at head at)) (drop (at + 1 + length (word_at head at)) head) (tell (word_at head at) p)))
         go true o z = absurd (let y : ◌≡◌ {A = ℕ} 0 1 = cc in omega arith)
         go false o z = rw o
 
-      pub step : (q : Said) → t ≡ TellsSo q → Going head q (at + 1 + len)
+      pub step : (q : Said) → t ≡ Some q → Going head q (at + 1 + len)
       step q r = go (word_ok (word_at head at) p) refl (sym told ∙ r) where
-        go : (k : Bool) → word_ok (word_at head at) p ≡ k → told_by k (tell (word_at head at) p) ≡ TellsSo q → Going head q (at + 1 + len)
+        go : (k : Bool) → word_ok (word_at head at) p ≡ k → told_by k (tell (word_at head at) p) ≡ Some q → Going head q (at + 1 + len)
         go false o z = absurd (let y : ◌≡◌ {A = ℕ} 0 1 = cc in omega arith)
         go true o z =
             let s : tell (word_at head at) p ≡ q = cc in
@@ -117,7 +127,7 @@ module _ (head : List ℕ) (p : Said) (at : ℕ) (g : Going head p at) where
               same = g.same ∙ on.next ∙ rw (o, s) (ap (λ (k : ℕ). words on.m (at + 1 + k) (drop (at + 1 + k) head) q) (sym l));
             }
 
-  pub at_end : length head ≤ at → Broken at ≡ words_of (header_from head)
+  pub at_end : length head ≤ at → Err (misread Stream at) ≡ words_of (header_from head)
   at_end h = sym (ap words_of (g.same ∙ on_end head p g.n at h))
 
 -- ---- the bytes that a header may have, and the magic word
@@ -140,10 +150,10 @@ magic_long l e = eqb-true (length l) 9 (both_right (starts_with magic l) (eqb (l
 
 -- the answer, by the magic word
 module _ (s head : List ℕ) (e : head ≡ head_of s) where
-  pub no_magic : same_line magic (word_of head) ≡ false → Broken 0 ≡ words_of (header_in s)
+  pub no_magic : same_line magic (word_of head) ≡ false → Err (misread Stream 0) ≡ words_of (header_in s)
   unfolding header_in
   no_magic q = rw (sym e, q)
 
-  pub with_magic : (v : Words) → same_line magic (word_of head) ≡ true → v ≡ words_of (header_from head) → v ≡ words_of (header_in s)
+  pub with_magic : (v : Result Read Misread) → same_line magic (word_of head) ≡ true → v ≡ words_of (header_from head) → v ≡ words_of (header_in s)
   unfolding header_in
   with_magic v q p = rw (sym e, q) p

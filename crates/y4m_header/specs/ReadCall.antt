@@ -1,13 +1,15 @@
 -- The call `read_header`: what the header of a stream says, or why it is refused: 17 with its place, then 1.
 -- Assumes nothing: these are definitions.
-use Rattle.std.specs.Prelude.{ℕ, List}
+use Rattle.std.specs.Prelude.{ℕ, List, Result, Ok, Err}
 use Rattle.laws.specs.Call.{unless}
 use Rattle.def.specs.Picture.{size_ok}
 use Rattle.def.specs.Refusals.{number_of}
 use Rattle.def.specs.declared.Refusal.TheVariants.{Size, Stream}
-use Rattle.y4m_rules.specs.Header.{Header, malformed, said, header_in}
-use Rattle.y4m_header.specs.declared.HeaderRead.{HeaderRead}
-use Rattle.y4m_header.specs.declared.HeaderRead.TheVariants.{Read, Refused}
+use Rattle.y4m_rules.specs.Misreads.{misread}
+use Rattle.y4m_rules.specs.Header.{Header as Line, malformed, said, header_in}
+use Rattle.y4m_rules.specs.declared.Misread.{Misread}
+use Rattle.y4m_header.specs.Values.{header_of}
+use Rattle.y4m_header.specs.declared.Header.{Header}
 
 pub record Input : Type 0 where
   pub input : List ℕ
@@ -24,21 +26,25 @@ pub record Reading : Type 0 where
   pub b : ℕ
   pub next : ℕ
 
-abbrev pub reading_of : HeaderRead → Reading
-reading_of (Read w h f g a b next) = record { number = 0; at = 0; w = w; h = h; f = f; g = g; a = a; b = b; next = next }
-reading_of (Refused r at) = record { number = number_of r; at = at; w = 0; h = 0; f = 0; g = 0; a = 0; b = 0; next = 0 }
+abbrev pub reading_of : Result Header Misread → Reading
+reading_of (Ok p) = record { number = 0; at = 0; w = p.w; h = p.h; f = p.f; g = p.g; a = p.a; b = p.b; next = p.next }
+reading_of (Err m) = record { number = number_of m.refusal; at = m.at; w = 0; h = 0; f = 0; g = 0; a = 0; b = 0; next = 0 }
 
 pub record Outcome : Type 0 where
   pub reading : Reading
 
-abbrev pub after : HeaderRead → Outcome
+abbrev pub after : Result Header Misread → Outcome
 after r = record { reading = reading_of r }
 
-abbrev pub read_by : Header → HeaderRead
-read_by (malformed at) = Refused Stream at
-read_by (said p next) = unless (size_ok p.w p.h) (Refused Size 0) (Read p.w p.h p.f p.g p.a p.b next)
+-- a header whose size passes
+abbrev pub sized : Header → Result Header Misread
+sized p = unless (size_ok p.w p.h) (Err (misread Size 0)) (Ok p)
 
-abbrev pub read_of : List ℕ → HeaderRead
+abbrev pub read_by : Line → Result Header Misread
+read_by (malformed at) = Err (misread Stream at)
+read_by (said p next) = sized (header_of p next)
+
+abbrev pub read_of : List ℕ → Result Header Misread
 read_of s = read_by (header_in s)
 
 unfoldable pub outcome : Input → Outcome

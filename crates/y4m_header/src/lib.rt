@@ -4,48 +4,31 @@
 ghost use Rattle.laws.specs.Call.{Gives};
 ghost use Rattle.y4m_header.specs.ReadCall as reading;
 
-use def::Refusal;
-
 mod numbers;
 mod words;
 
-use words::Words;
+use def::Refusal;
+use y4m_rules::Misread;
 
-// What a header says, each of F and A 0 and 0 where it has none, and the place after it; or why it is refused, and for 17 the place.
-#[derive(Drop)]
-pub enum HeaderRead {
-    Read {
-        w: usize,
-        h: usize,
-        f: usize,
-        g: usize,
-        a: usize,
-        b: usize,
-        next: usize,
-    },
-    Refused(Refusal, usize),
+// What a header says, each of F and A 0 and 0 where it has none, and the place after it.
+#[derive(Clone, Copy)]
+pub struct Header {
+    pub w: usize,
+    pub h: usize,
+    pub f: usize,
+    pub g: usize,
+    pub a: usize,
+    pub b: usize,
+    pub next: usize,
 }
 
 // The header at the start of a stream, of which at most 256 bytes are read.
-pub fn read_header(s: &[u8]) -> HeaderRead
+pub fn read_header(s: &[u8]) -> Result<Header, Misread>
     ensures { Gives reading.outcome (record { input = s.now }) (record { reading = reading.reading_of result }) }
 {
-    match words::header_in(s) {
-        Words::Malformed(at) => HeaderRead::Refused(Refusal::Stream, at),
-        Words::Whole(said, next) => {
-            if def::size_ok(said.w, said.h) {
-                HeaderRead::Read {
-                    w: said.w,
-                    h: said.h,
-                    f: said.f,
-                    g: said.g,
-                    a: said.a,
-                    b: said.b,
-                    next,
-                }
-            } else {
-                HeaderRead::Refused(Refusal::Size, 0)
-            }
-        }
+    let header = words::header_in(s)?;
+    if !def::size_ok(header.w, header.h) {
+        return Err(Misread::from(Refusal::Size));
     }
+    Ok(header)
 }

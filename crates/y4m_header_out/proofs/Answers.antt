@@ -2,6 +2,7 @@
 --     write_refused, write_done, writable    by its checks
 --     written_apart    an answer's reading tells it apart from every other
 -- Assumes nothing.
+use Rattle.std.specs.Prelude.{Ok, Err, Result}
 use mathlib.Core.Bool.{true}
 use mathlib.Core.List.{List, [], ◌∷◌}
 use mathlib.Core.Path.{◌≡◌, ap, ap₂, ◌∙◌}
@@ -15,8 +16,7 @@ use Rattle.laws.specs.Call.{Gives}
 use Rattle.laws.proofs.Bools.{both_left, both_right}
 use Rattle.laws.proofs.Calls.{all_at}
 use Rattle.def.specs.Picture.{size_ok}
-use Rattle.def.specs.declared.Answer.{Answer}
-use Rattle.def.specs.declared.Answer.TheVariants.{Done, Refused as No}
+use Rattle.def.specs.Answers.{Answer}
 use Rattle.def.specs.declared.Format.{Format}
 use Rattle.def.specs.declared.Refusal.{Refusal}
 use Rattle.def.proofs.Answers.{number_apart, number_some, on_refusal, on_done}
@@ -27,8 +27,6 @@ use Rattle.y4m_rules.specs.Frames.{colour_ok}
 use Rattle.y4m_rules.specs.Numbers.{in_range}
 use Rattle.y4m_rules.proofs.Header.{Numbers}
 use Rattle.y4m_header_out.specs.WriteCall as writing
-use Rattle.y4m_header_out.specs.declared.HeaderWritten.{HeaderWritten}
-use Rattle.y4m_header_out.specs.declared.HeaderWritten.TheVariants.{Written, Refused as NotWritten}
 
 -- a number in its range
 ranged : (n : ℕ) → in_range n ≡ true → (1 ≤ n) × (n ≤ 65535)
@@ -38,7 +36,7 @@ pub record Writable (w h f g a b n : ℕ) : Type 0 where
   pub numbers : Numbers w h f g a b
   pub long : n ≡ 256
 
-pub writable : (c : Format) (w h f g a b n : ℕ) → writing.check_of c w h f g a b n ≡ Done → Writable w h f g a b n
+pub writable : (c : Format) (w h f g a b n : ℕ) → writing.check_of c w h f g a b n ≡ Ok tt → Writable w h f g a b n
 unfolding writing.numbers_ok
 writable c w h f g a b n e =
     let first = passes (size_ok w h) _ _ e in
@@ -67,18 +65,18 @@ writable c w h f g a b n e =
     }
 
 module _ (i : writing.Input) (k : Answer) (e : k ≡ writing.check i) where
-  pub write_refused : (r : Refusal) → k ≡ No r → Gives writing.outcome i (writing.refused i r)
+  pub write_refused : (r : Refusal) → k ≡ Err r → Gives writing.outcome i (writing.refused i r)
   unfolding writing.outcome
   write_refused r q = on_refusal (writing.refused i) (writing.done i) k (writing.check i) r e q
 
-  pub write_done : (out : List ℕ) (n : ℕ) → k ≡ Done → Put (writing.text_of i) i.out 0 out n → Gives writing.outcome i (record { reading = record { number = 0; count = n }; out = out })
+  pub write_done : (out : List ℕ) (n : ℕ) → k ≡ Ok tt → Put (writing.text_of i) i.out 0 out n → Gives writing.outcome i (record { reading = record { number = 0; count = n }; out = out })
   unfolding writing.outcome
   write_done out n q p =
       on_done (writing.refused i) (writing.done i) k (writing.check i) _ e q
       (ap₂ (λ (m : ℕ) (l : List ℕ). record { reading = record { number = 0; count = m }; out = l }) (p.count ∙ zero-add (length (writing.text_of i))) p.put)
 
-pub written_apart : (a b : HeaderWritten) → writing.reading_of a ≡ writing.reading_of b → a ≡ b
-written_apart (Written n) (Written m) e = ap Written (ap (λ (o : writing.Reading). o.count) e)
-written_apart (Written n) (NotWritten r) e = absurd (let z = ap (λ (o : writing.Reading). o.number) e in omega (arith, number_some r))
-written_apart (NotWritten r) (Written n) e = absurd (let z = ap (λ (o : writing.Reading). o.number) e in omega (arith, number_some r))
-written_apart (NotWritten r) (NotWritten r') e = ap NotWritten (number_apart r r' (ap (λ (o : writing.Reading). o.number) e))
+pub written_apart : (a b : Result ℕ Refusal) → writing.reading_of a ≡ writing.reading_of b → a ≡ b
+written_apart (Ok n) (Ok m) e = ap Ok (ap (λ (o : writing.Reading). o.count) e)
+written_apart (Ok n) (Err r) e = absurd (let z = ap (λ (o : writing.Reading). o.number) e in omega (arith, number_some r))
+written_apart (Err r) (Ok n) e = absurd (let z = ap (λ (o : writing.Reading). o.number) e in omega (arith, number_some r))
+written_apart (Err r) (Err r') e = ap Err (number_apart r r' (ap (λ (o : writing.Reading). o.number) e))

@@ -6,18 +6,11 @@ ghost use Rattle.laws.specs.Call.{Gives};
 ghost use Rattle.y4m_rules.specs.Numbers.{in_range};
 ghost use Rattle.y4m_header_out.specs.WriteCall as writing;
 
-use def::{Answer, Format, Refusal};
+use def::{Format, Refusal};
 
 mod print;
 
 use print::put_header;
-
-// How many bytes the header has that was written; or why none was.
-#[derive(Drop)]
-pub enum HeaderWritten {
-    Written(usize),
-    Refused(Refusal),
-}
 
 // Whether a number of F or A is in its range.
 fn in_range(n: usize) -> bool
@@ -45,19 +38,19 @@ fn checked(
     a: usize,
     b: usize,
     out: usize,
-) -> Answer
+) -> Result<(), Refusal>
     ensures { result ≡ writing.check_of format w h f g a b out }
 {
     if !def::size_ok(w, h) {
-        return Answer::Refused(Refusal::Size);
+        return Err(Refusal::Size);
     }
     if out != 256 {
-        return Answer::Refused(Refusal::Length);
+        return Err(Refusal::Length);
     }
     if !numbers_ok(format, f, g, a, b) {
-        return Answer::Refused(Refusal::Setting);
+        return Err(Refusal::Setting);
     }
-    Answer::Done
+    Ok(())
 }
 
 // The header of a picture's stream, at the start of a buffer of 256 bytes.
@@ -70,13 +63,13 @@ pub fn write_header(
     a: usize,
     b: usize,
     out: &mut [u8],
-) -> HeaderWritten
+) -> Result<usize, Refusal>
     ensures { Gives writing.outcome
         (record { format = format; w = w; h = h; f = f; g = g; a = a; b = b; out = out.old })
         (record { reading = writing.reading_of result; out = out.new }) }
 {
     match checked(format, w, h, f, g, a, b, out.len()) {
-        Answer::Refused(r) => HeaderWritten::Refused(r),
-        Answer::Done => HeaderWritten::Written(put_header(out, w, h, f, g, a, b)),
+        Err(r) => Err(r),
+        Ok(()) => Ok(put_header(out, w, h, f, g, a, b)),
     }
 }

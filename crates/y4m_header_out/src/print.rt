@@ -4,16 +4,14 @@ ghost use Rattle.edges.specs.Put.{Put};
 ghost use Rattle.y4m_rules.specs.Numbers.{number, ratio};
 ghost use Rattle.y4m_rules.specs.Header.{sides_text, header_text};
 
+// kept: a function like sheet's, as a public function has no `requires`.
 fn put_bytes(out: &mut [u8], at: usize, text: &[u8]) -> usize
     requires { at + length text.now ≤ length out.old }
     ensures { Put text.now out.old at out.new result }
 {
-    let mut i = 0;
-    while i < text.len() {
-        out[at + i] = text[i];
-        i += 1;
-    }
-    at + i
+    let end = at + text.len();
+    out[at..end].copy_from_slice(text);
+    end
 }
 
 // A number below 100,000 in decimal: what its tenth has, and the last digit.

@@ -5,15 +5,15 @@
 -- Assumes nothing.
 use mathlib.Core.Bool.{true}
 use mathlib.Core.List.{List, [], ◌∷◌, ◌++◌}
-use mathlib.Core.Path.{◌≡◌, refl, sym, ap, ap₂, ◌∙◌}
-use Prim.Native.Nat.{ℕ, zero, suc, ◌+◌, ◌*◌, ◌/◌, ◌%◌, ◌<◌}
+use mathlib.Core.Path.{◌≡◌, refl, sym, ap, ◌∙◌}
+use Prim.Native.Nat.{ℕ, zero, suc, ◌+◌, ◌*◌, ◌<◌}
 use native.Mathlib.Nat.{not-suc-le-zero}
 use native.Mathlib.Omega.{arith}
-use lib.ListN.{length, get_or, drop, length-append}
+use lib.ListN.{length, get_or}
 use lib.Seq.{drop_at, get_or-append-add}
 use Rattle.laws.proofs.Tabulate.{is_tabulate}
 use Rattle.y4m_rules.specs.Words.{frame_line}
-use Rattle.y4m_rules.specs.Frames.{bytes_of, frame_text, sample_at, plane_at, matches, line_ok}
+use Rattle.y4m_rules.specs.Frames.{bytes_of, sample_at, plane_at, matches, line_ok}
 
 pub bytes_long : (p : List ℕ) → length (bytes_of p) ≡ 2 * length p
 unfolding bytes_of

@@ -2,24 +2,24 @@
 --     header_back    with any bytes after it
 --     header_short   it has at most 256 bytes
 -- Assumes nothing.
-use mathlib.Core.Bool.{Bool, true, false, not, ◌&&◌, ◌||◌}
+use Rattle.std.specs.Prelude.{Some, is_some}
+use mathlib.Core.Bool.{true, ◌||◌}
 use mathlib.Core.List.{List, [], ◌∷◌, ◌++◌, append_assoc}
 use mathlib.Core.Path.{◌≡◌, refl, sym, ap, ◌∙◌}
 use Prim.Native.Nat.{ℕ, zero, suc, ◌+◌, ◌-◌, ◌≤◌, ◌<◌}
 use native.Mathlib.Nat.{not-suc-le-zero}
 use native.Mathlib.Omega.{arith}
 use lib.Dec.{eqb}
-use lib.ListN.{length, take, drop, get_or, length-append}
+use lib.ListN.{length, take, drop, length-append}
 use lib.Seq.{drop_at, take-append-add}
 use Rattle.laws.specs.Call.{unless}
-use Rattle.laws.specs.Index.{pick}
 use Rattle.sheet_lines.specs.Lines.{same_line, starts_with}
 use Rattle.y4m_rules.specs.Words.{magic, progressive, format, before, word_of}
-use Rattle.y4m_rules.specs.Numbers.{number, ratio, is_number, is_ratio, value_of, upper, lower}
-use Rattle.y4m_rules.specs.Header.{param, header_text, nothing, with_w, with_h, with_f, with_i, with_a, with_c, value_ok, said_with, word_ok, tell, Header, malformed, said}
+use Rattle.y4m_rules.specs.Numbers.{number, ratio, value_of, upper, lower}
+use Rattle.y4m_rules.specs.Header.{param, header_text, nothing, with_w, with_h, with_f, with_i, with_a, with_c, value_ok, said_with, word_ok, tell, malformed, said}
 use Rattle.y4m_rules.specs.Header.{ending, words, head_of, header_in}
 use Rattle.y4m_rules.specs.declared.Said.{Said}
-use Rattle.y4m_rules.proofs.Numbers.{Digits, Free, number_digits, number_short, number_value, number_form, ratio_upper, ratio_lower, ratio_form, before_at}
+use Rattle.y4m_rules.proofs.Numbers.{Free, number_digits, number_short, number_value, number_form, ratio_upper, ratio_lower, ratio_form, before_at}
 
 -- ---- texts without spaces and newlines
 
@@ -66,7 +66,7 @@ module _ (n at : ℕ) (letter : ℕ) (v : List ℕ) (c : ℕ) (r : List ℕ) (p 
       ∙ rw (g, rest_back)
 
 -- the newline, where W, H and C have come
-at_end : (n at : ℕ) (r : List ℕ) (p : Said) → p.sw ≡ true → p.sh ≡ true → p.sc ≡ true → words (suc n) at (10 ∷ r) p ≡ said p (at + 1)
+at_end : (n at : ℕ) (r : List ℕ) (p : Said) → is_some p.w ≡ true → is_some p.h ≡ true → p.c ≡ true → words (suc n) at (10 ∷ r) p ≡ said p (at + 1)
 unfolding words ending
 at_end n at r p e f g = rw (e, f, g)
 
@@ -74,7 +74,7 @@ at_end n at r p e f g = rw (e, f, g)
 
 -- what it says
 abbrev pub written : (w h f g a b : ℕ) → Said
-written w h f g a b = record { w = w; h = h; f = f; g = g; a = a; b = b; sw = true; sh = true; sf = true; si = true; sa = true; sc = true }
+written w h f g a b = record { w = Some w; h = Some h; f = Some (f, g); a = Some (a, b); i = true; c = true }
 
 -- what a header may be written of
 pub record Numbers (w h f g a b : ℕ) : Type 0 where

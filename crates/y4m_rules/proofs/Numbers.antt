@@ -4,17 +4,16 @@
 --     ratio-upper, ratio-lower, ratio-form two of them
 --     before-all, before_at                bytes up to the first of two
 -- Assumes nothing.
-use mathlib.Core.Bool.{Bool, true, false, not, ◌&&◌, ◌||◌}
+use mathlib.Core.Bool.{Bool, true, false, not, ◌||◌}
 use mathlib.Core.List.{List, [], ◌∷◌, ◌++◌, append_assoc}
-use mathlib.Core.Path.{◌≡◌, refl, sym, ap, ◌∙◌, subst}
+use mathlib.Core.Path.{◌≡◌, refl, sym, ap, ◌∙◌}
 use Prim.Native.Nat.{ℕ, zero, suc, ◌+◌, ◌-◌, ◌*◌, ◌/◌, ◌%◌, ◌^◌, ◌≤◌, ◌<◌}
 use native.Mathlib.Nat.{not-suc-le-zero, pow-suc}
 use native.Mathlib.Omega.{arith}
-use borrow.Author.Tests.{ltb-true, ltb-false, le-leb, ne_eqb, eq-eqb}
-use lib.Dec.{leb, ltb, eqb}
+use borrow.Author.Tests.{ltb-true, ltb-false, le-leb, ne_eqb}
+use lib.Dec.{ltb, eqb}
 use lib.ListN.{length, get_or, drop, length-append}
 use lib.Seq.{drop_at}
-use Rattle.laws.specs.Call.{all_of}
 use Rattle.laws.specs.Index.{pick}
 use Rattle.laws.specs.Scan.{all_in}
 use Rattle.laws.proofs.Bools.{or_true}

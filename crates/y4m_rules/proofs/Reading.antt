@@ -1,24 +1,18 @@
--- Laws of reading: bytes up to the first of two, and digits.
+-- Laws of reading: bytes up to the first of two.
 --     here    a text from a place on, by its first byte
---     before_stop, before_on, before_end, before_short, before_take, before_found, before_fits    bytes up to the first of two, from a place on
---     five_digits, digit_at, value_small    a number of at most five digits
+--     before_none, before_hit, before_miss, before_short, before_take, before_found, before_fits    bytes up to the first of two
 -- Assumes nothing.
 use mathlib.Core.Bool.{Bool, true, false, ◌||◌}
 use mathlib.Core.List.{List, [], ◌∷◌}
 use mathlib.Core.Path.{◌≡◌, refl, sym, ap, ◌∙◌}
-use Prim.Native.Nat.{ℕ, suc, ◌+◌, ◌^◌, ◌≤◌, ◌<◌}
-use native.Mathlib.Nat.{pow-le-pow_right}
+use Prim.Native.Nat.{ℕ, suc, ◌+◌, ◌≤◌, ◌<◌}
 use native.Mathlib.Numerals.{add-one}
 use native.Mathlib.Omega.{arith}
-use borrow.Author.Tests.{leb-true}
 use lib.Dec.{eqb}
-use lib.ListN.{length, take, drop, get_or, drop_of_length-le, length-drop}
+use lib.ListN.{length, take, drop, get_or, length-drop}
 use lib.Seq.{drop-cons}
 use Rattle.laws.specs.Index.{pick}
-use Rattle.laws.proofs.Calls.{all_at}
-use Rattle.sheet_lines.proofs.Reading.{Between, byte_at}
 use Rattle.y4m_rules.specs.Words.{before}
-use Rattle.y4m_rules.specs.Numbers.{is_number, number_tests}
 
 -- ---- bytes up to the first of two
 
@@ -26,18 +20,17 @@ pub here : (s : List ℕ) (i : ℕ) → i < length s → drop i s ≡ get_or s i
 here s i h = drop-cons s i 0 h ∙ ap (λ (k : ℕ). get_or s i 0 ∷ drop k s) (sym (add-one i))
 
 module _ (p q : ℕ) where
-  module _ (s : List ℕ) (i : ℕ) where
-    pub before_stop : i < length s → (eqb (get_or s i 0) p || eqb (get_or s i 0) q) ≡ true → before p q (drop i s) ≡ []
-    unfolding before
-    before_stop h e = ap (before p q) (here s i h) ∙ rw e
+  pub before_none : length (before p q []) ≡ 0
+  unfolding before
+  before_none = refl
 
-    pub before_on : i < length s → (eqb (get_or s i 0) p || eqb (get_or s i 0) q) ≡ false → before p q (drop i s) ≡ get_or s i 0 ∷ before p q (drop (i + 1) s)
-    unfolding before
-    before_on h e = ap (before p q) (here s i h) ∙ rw e
+  pub before_hit : (b : ℕ) (s : List ℕ) → (eqb b p || eqb b q) ≡ true → length (before p q (b ∷ s)) ≡ 0
+  unfolding before
+  before_hit b s e = rw e
 
-    pub before_end : length s ≤ i → before p q (drop i s) ≡ []
-    unfolding before
-    before_end h = ap (before p q) (drop_of_length-le s h)
+  pub before_miss : (b : ℕ) (s : List ℕ) → (eqb b p || eqb b q) ≡ false → length (before p q (b ∷ s)) ≡ length (before p q s) + 1
+  unfolding before
+  before_miss b s e = rw e (omega arith)
 
   pub before_short : (s : List ℕ) → length (before p q s) ≤ length s
   unfolding before
@@ -69,16 +62,3 @@ module _ (p q : ℕ) where
   -- within the text, from a place on
   pub before_fits : (s : List ℕ) (at : ℕ) → at ≤ length s → at + length (before p q (drop at s)) ≤ length s
   before_fits s at h = omega (arith, before_short (drop at s), length-drop at s)
-
--- ---- a number of at most five digits
-
-pub five_digits : (l : List ℕ) → is_number l ≡ true → length l ≤ 5
-unfolding is_number
-five_digits l e = leb-true _ _ (all_at (number_tests l) 1 e)
-
-pub digit_at_lem : (l : List ℕ) (i : ℕ) → i < length l → is_number l ≡ true → Between 48 57 (get_or l i 0)
-unfolding is_number
-digit_at_lem l i h e = byte_at 48 57 l i h (all_at (number_tests l) 3 e)
-
-pub value_small : (i v : ℕ) → i ≤ 5 → v < 10 ^ i → v < 100000
-value_small i v h p = let e : 10 ^ i ≤ 10 ^ 5 = pow-le-pow_right (omega arith) h in omega arith

@@ -1,6 +1,6 @@
 -- The frames of a stream: a bare `FRAME` line, and Y, U and V, two bytes a sample, the low byte first.
 -- Assumes nothing: these are definitions.
-use Rattle.std.specs.Prelude.{ℕ, ◌+◌, ◌*◌, ◌/◌, ◌%◌, Bool, true, false, ◌&&◌, List, [], ◌∷◌, ◌++◌, eqb, length, drop, get_or}
+use Rattle.std.specs.Prelude.{ℕ, ◌+◌, ◌*◌, ◌/◌, ◌%◌, Bool, true, false, ◌&&◌, List, [], ◌∷◌, ◌++◌, eqb, drop, get_or}
 use Rattle.laws.specs.Call.{all_of}
 use Rattle.laws.specs.Index.{pick, tabulate}
 use Rattle.def.specs.Formats.{colour_length}

@@ -1,6 +1,6 @@
 -- The header line of a stream: what is written, and what is read, word by word. A place counts bytes from the stream's first, from 0.
 -- Assumes nothing: these are definitions.
-use Rattle.std.specs.Prelude.{ℕ, zero, suc, ◌+◌, Bool, true, false, not, ◌&&◌, List, [], ◌∷◌, ◌++◌, eqb, length, take, drop}
+use Rattle.std.specs.Prelude.{ℕ, zero, suc, ◌+◌, Bool, true, false, not, Some, None, is_some, ◌&&◌, List, [], ◌∷◌, ◌++◌, eqb, length, take, drop}
 use Rattle.laws.specs.Call.{unless, all_of}
 use Rattle.laws.specs.Index.{pick}
 use Rattle.sheet_lines.specs.Lines.{same_line}
@@ -26,43 +26,36 @@ sides_text w h = magic ++ param 87 (number w) (32 ∷ 72 ∷ number h)
 
 -- nothing was said
 abbrev pub nothing : Said
-nothing =
-    record { w = 0; h = 0; f = 0; g = 0; a = 0; b = 0; sw = false; sh = false; sf = false; si = false; sa = false; sc = false }
+nothing = record { w = None; h = None; f = None; a = None; i = false; c = false }
 
 abbrev pub with_w : ℕ → Said → Said
-with_w n p =
-    record { w = n; h = p.h; f = p.f; g = p.g; a = p.a; b = p.b; sw = true; sh = p.sh; sf = p.sf; si = p.si; sa = p.sa; sc = p.sc }
+with_w n p = record { w = Some n; h = p.h; f = p.f; a = p.a; i = p.i; c = p.c }
 
 abbrev pub with_h : ℕ → Said → Said
-with_h n p =
-    record { w = p.w; h = n; f = p.f; g = p.g; a = p.a; b = p.b; sw = p.sw; sh = true; sf = p.sf; si = p.si; sa = p.sa; sc = p.sc }
+with_h n p = record { w = p.w; h = Some n; f = p.f; a = p.a; i = p.i; c = p.c }
 
 abbrev pub with_f : ℕ → ℕ → Said → Said
-with_f n m p =
-    record { w = p.w; h = p.h; f = n; g = m; a = p.a; b = p.b; sw = p.sw; sh = p.sh; sf = true; si = p.si; sa = p.sa; sc = p.sc }
+with_f n m p = record { w = p.w; h = p.h; f = Some (n, m); a = p.a; i = p.i; c = p.c }
 
 abbrev pub with_i : Said → Said
-with_i p =
-    record { w = p.w; h = p.h; f = p.f; g = p.g; a = p.a; b = p.b; sw = p.sw; sh = p.sh; sf = p.sf; si = true; sa = p.sa; sc = p.sc }
+with_i p = record { w = p.w; h = p.h; f = p.f; a = p.a; i = true; c = p.c }
 
 abbrev pub with_a : ℕ → ℕ → Said → Said
-with_a n m p =
-    record { w = p.w; h = p.h; f = p.f; g = p.g; a = n; b = m; sw = p.sw; sh = p.sh; sf = p.sf; si = p.si; sa = true; sc = p.sc }
+with_a n m p = record { w = p.w; h = p.h; f = p.f; a = Some (n, m); i = p.i; c = p.c }
 
 abbrev pub with_c : Said → Said
-with_c p =
-    record { w = p.w; h = p.h; f = p.f; g = p.g; a = p.a; b = p.b; sw = p.sw; sh = p.sh; sf = p.sf; si = p.si; sa = p.sa; sc = true }
+with_c p = record { w = p.w; h = p.h; f = p.f; a = p.a; i = p.i; c = true }
 
 -- a letter's value may stand: X with any; W, H, F, I, A and C, each once, with its form; and no other letter
 unfoldable pub value_ok : ℕ → List ℕ → Said → Bool
 value_ok letter v p =
     pick (eqb letter 88) true
-    (pick (eqb letter 87) (not p.sw && is_number v)
-    (pick (eqb letter 72) (not p.sh && is_number v)
-    (pick (eqb letter 70) (not p.sf && is_ratio v)
-    (pick (eqb letter 73) (not p.si && same_line progressive v)
-    (pick (eqb letter 65) (not p.sa && is_ratio v)
-    (pick (eqb letter 67) (not p.sc && same_line format v)
+    (pick (eqb letter 87) (not (is_some p.w) && is_number v)
+    (pick (eqb letter 72) (not (is_some p.h) && is_number v)
+    (pick (eqb letter 70) (not (is_some p.f) && is_ratio v)
+    (pick (eqb letter 73) (not p.i && same_line progressive v)
+    (pick (eqb letter 65) (not (is_some p.a) && is_ratio v)
+    (pick (eqb letter 67) (not p.c && same_line format v)
     false))))))
 
 -- what has been said with it
@@ -94,7 +87,7 @@ pub data Header : Type 0 where
 
 -- where a header ends, W, H and C have come
 abbrev pub needed : Said → Bool
-needed p = all_of (p.sw ∷ p.sh ∷ p.sc ∷ [])
+needed p = all_of (is_some p.w ∷ is_some p.h ∷ p.c ∷ [])
 
 unfoldable pub ending : Said → ℕ → Header
 ending p at = unless (needed p) (malformed at) (said p (at + 1))

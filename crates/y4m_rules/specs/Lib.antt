@@ -1,4 +1,5 @@
 pub mod Frames
 pub mod Header
+pub mod Misreads
 pub mod Numbers
 pub mod Words

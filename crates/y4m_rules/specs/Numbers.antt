@@ -1,10 +1,9 @@
 -- The numbers of a header: in decimal, without leading zeros, and two of them with a colon between.
 -- `decimal_by` is the listing's, `value_from` and `between` are the sheet's.
 -- Assumes nothing: these are definitions.
-use Rattle.std.specs.Prelude.{ℕ, ◌+◌, Bool, not, ◌&&◌, ◌||◌, List, [], ◌∷◌, ◌++◌, leb, eqb, length, drop, get_or}
+use Rattle.std.specs.Prelude.{ℕ, ◌+◌, Bool, ◌&&◌, List, ◌∷◌, ◌++◌, leb, eqb, length, drop, get_or}
 use Rattle.laws.specs.Call.{all_of}
-use Rattle.laws.specs.Scan.{all_in}
-use Rattle.sheet_lines.specs.Lines.{between, value_from}
+use Rattle.sheet_lines.specs.Lines.{digit_tests, value_from}
 use Rattle.sheet.specs.Text.{decimal_by}
 use Rattle.y4m_rules.specs.Words.{colon_of}
 
@@ -22,7 +21,7 @@ ratio n m = number n ++ (58 ∷ number m)
 
 -- one to five digits, without leading zeros
 abbrev pub number_tests : List ℕ → List Bool
-number_tests l = leb 1 (length l) ∷ leb (length l) 5 ∷ (eqb (length l) 1 || not (eqb (get_or l 0 0) 48)) ∷ all_in 0 (between 48 57) l ∷ []
+number_tests l = digit_tests 5 l
 
 unfoldable pub is_number : List ℕ → Bool
 is_number l = all_of (number_tests l)

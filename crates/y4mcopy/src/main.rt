@@ -3,59 +3,35 @@
 #![tactic(auto)]
 
 use files::Source;
+use say::Stop;
 use std::process::ExitCode;
-use y4m_header::HeaderRead;
+use y4m_file::Task;
 
-fn copied(rt: &HostRuntime, file: &mut Source) -> u8 {
-    let mut head = [0u8; 256];
-    let n = y4m_file::first_line(&mut *file, &mut head);
-    if y4m_file::unreadable(rt, 1, &mut *file, n) {
-        return 2;
-    }
-    match y4m_header::read_header(&head[..n]) {
-        HeaderRead::Refused(r, at) => {
-            y4m_file::refused_in(rt, 1, def::refusal_number(r), at);
-            1
-        }
-        HeaderRead::Read {
-            w,
-            h,
-            f,
-            g,
-            a,
-            b,
-            next,
-        } => {
-            if let Err(error) = y4m_file::put_header(rt, w, h, f, g, a, b) {
-                return say::unwritten(rt, error);
-            }
-            y4m_file::frames(rt, file, w, h, next, true, false)
-        }
-    }
+fn copied(rt: &HostRuntime, file: &mut Source) -> Result<(), Stop> {
+    let header = y4m_file::read_header(rt, 1, file)?;
+    say::told(rt, y4m_file::put_header(rt, header))?;
+    y4m_file::frames(rt, file, Task::Copy, header)
 }
 
-// The file that argument 1 names. Answers the exit status.
-fn run(rt: &HostRuntime) -> u8 {
-    match words::open(rt, 1) {
-        None => 2,
-        Some(mut file) => copied(rt, &mut file),
-    }
+// The file that argument 1 names.
+fn run(rt: &HostRuntime) -> Result<(), Stop> {
+    let mut file = y4m_file::open(rt, 1)?;
+    copied(rt, &mut file)
 }
 
 fn help(rt: &HostRuntime) {
-    say::words(
-        rt,
-        b"usage: y4mcopy FILE > COPY\n\
+    let _ = eprint!(rt;
+        "usage: y4mcopy FILE > COPY\n\
         Writes a YUV4MPEG2 file again, read and checked; at a refusal it tells the byte and stops.\n\
-        status: 0 done, 1 refused, 2 bad usage or a failure of input or output\n",
+        status: 0 done, 1 refused, 2 bad usage or a failure of input or output\n"
     );
 }
 
 fn main(rt: HostRuntime) -> ExitCode {
     let asked = words::asked(&rt, 1, b"--help");
     if (files::arg_count(&rt) == 2) & !asked {
-        return say::status(run(&rt));
+        return y4m_file::exit_code(run(&rt));
     }
     help(&rt);
-    say::status(if asked { 0 } else { 2 })
+    y4m_file::exit_code(if asked { Ok(()) } else { Err(Stop::Failed) })
 }

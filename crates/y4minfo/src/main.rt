@@ -3,74 +3,52 @@
 #![tactic(auto)]
 
 use files::Source;
-use say::{end_line, field};
+use say::Stop;
 use std::process::ExitCode;
-use y4m_header::HeaderRead;
+use y4m_file::{Header, Task};
 
-// A fraction after its name.
-fn fraction(rt: &HostRuntime, name: &[u8], n: usize, m: usize) {
-    field(rt, name, n);
-    field(rt, b":", m);
-    let _ = end_line(rt);
+// What the header says. What is full or closed stays so: the count of frames tells that it was not written.
+fn tell(rt: &HostRuntime, header: Header) {
+    let w = header.w;
+    let h = header.h;
+    let f = header.f;
+    let g = header.g;
+    let a = header.a;
+    let b = header.b;
+    let _ = print!(rt; "w={w}\nh={h}\nf={f}:{g}\na={a}:{b}\n");
 }
 
-fn info(rt: &HostRuntime, file: &mut Source) -> u8 {
+fn info(rt: &HostRuntime, file: &mut Source) -> Result<(), Stop> {
     let mut head = [0u8; 256];
-    let n = y4m_file::first_line(&mut *file, &mut head);
-    if y4m_file::unreadable(rt, 1, &mut *file, n) {
-        return 2;
-    }
+    let n = y4m_file::header_line(rt, 1, file, &mut head)?;
     match y4m_header::read_header(&head[..n]) {
-        HeaderRead::Refused(r, at) => {
-            let number = def::refusal_number(r);
-            field(rt, b"refused=", number as usize);
-            field(rt, b" place=", at);
-            let written = end_line(rt);
-            y4m_file::refused_in(rt, 1, number, at);
-            say::shown(rt, written, 1)
-        }
-        HeaderRead::Read {
-            w,
-            h,
-            f,
-            g,
-            a,
-            b,
-            next,
-        } => {
-            field(rt, b"w=", w);
-            let _ = end_line(rt);
-            field(rt, b"h=", h);
-            let _ = end_line(rt);
-            fraction(rt, b"f=", f, g);
-            fraction(rt, b"a=", a, b);
-            y4m_file::frames(rt, file, w, h, next, false, false)
+        Err(misread) => Err(y4m_file::refused_out(rt, misread)),
+        Ok(header) => {
+            tell(rt, header);
+            y4m_file::frames(rt, file, Task::Count, header)
         }
     }
 }
 
-// The file that argument 1 names. Answers the exit status.
-fn run(rt: &HostRuntime) -> u8 {
-    match words::open(rt, 1) {
-        None => 2,
-        Some(mut file) => info(rt, &mut file),
-    }
+// The file that argument 1 names.
+fn run(rt: &HostRuntime) -> Result<(), Stop> {
+    let mut file = y4m_file::open(rt, 1)?;
+    info(rt, &mut file)
 }
 
 fn help(rt: &HostRuntime) {
-    say::words(
-        rt,
-        b"usage: y4minfo FILE\n\
+    let _ = eprint!(rt;
+        "usage: y4minfo FILE\n\
         Tells a YUV4MPEG2 file's size, F, A and how many frames it has; or what it is refused for, and at which byte.\n\
-        status: 0 done, 1 refused, 2 bad usage or a failure of input or output\n",
+        status: 0 done, 1 refused, 2 bad usage or a failure of input or output\n"
     );
 }
 
 fn main(rt: HostRuntime) -> ExitCode {
     let asked = words::asked(&rt, 1, b"--help");
     if (files::arg_count(&rt) == 2) & !asked {
-        return say::status(run(&rt));
+        return y4m_file::exit_code(run(&rt));
     }
     help(&rt);
-    say::status(if asked { 0 } else { 2 })
+    y4m_file::exit_code(if asked { Ok(()) } else { Err(Stop::Failed) })
 }

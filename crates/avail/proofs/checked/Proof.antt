@@ -1,4 +1,5 @@
 -- `avail::checked` meets its contract: a row of checks. `past1` and `past2` are what a check, passed, leaves of the row. Assumes nothing.
+use Rattle.std.specs.Prelude.{Ok, Err}
 use mathlib.Core.Path.{◌≡◌, refl, sym, ◌∙◌}
 use native.Mathlib.Nat.{lt_of_le_of_lt, mul-le-mul}
 use native.Mathlib.Omega.{arith}
@@ -10,20 +11,19 @@ use Rattle.laws.proofs.Calls.{stops, goes_on, at_refusal, past_refusal}
 use Rattle.def.specs.Blocks.{block_ok}
 use Rattle.def.specs.Picture.{unit_count}
 use Rattle.def.specs.declared.Refusal.TheVariants.{Length, Block}
-use Rattle.def.specs.declared.Answer.{Answer}
-use Rattle.def.specs.declared.Answer.TheVariants.{Done, Refused}
+use Rattle.def.specs.Answers.{Answer}
 use Rattle.def.proofs.Sizes.{sized}
 use Rattle.avail.specs.Calls.{check_of}
 use Rattle.avail.proofs.checked.Statement.{statement}
 use Rattle.avail.proofs.checked.Tie as tie
 
-past1 : (c : tie.Else-not-size_ok) (r : Answer) → let a = c.args in r ≡ unless (eqb a.words (unit_count a.w a.h)) (Refused Length)
-    (unless (block_ok a.w a.h a.x.0 a.y.0 a.side) (Refused Block) Done) → r ≡ check_of a.w a.h a.words a.x.0 a.y.0 a.side
+past1 : (c : tie.Else-not-size_ok) (r : Answer) → let a = c.args in r ≡ unless (eqb a.words (unit_count a.w a.h)) (Err Length)
+    (unless (block_ok a.w a.h a.x.0 a.y.0 a.side) (Err Block) (Ok tt)) → r ≡ check_of a.w a.h a.words a.x.0 a.y.0 a.side
 unfolding check_of
 past1 c r p = goes_on _ _ _ _ r c.size_ok.ensures c.if-not-size_ok.false-raw p
 
 past2 : (c : tie.Else-words-w) (r : Answer) → let a = c.args in
-    r ≡ unless (block_ok a.w a.h a.x.0 a.y.0 a.side) (Refused Block) Done → r ≡ check_of a.w a.h a.words a.x.0 a.y.0 a.side
+    r ≡ unless (block_ok a.w a.h a.x.0 a.y.0 a.side) (Err Block) (Ok tt) → r ≡ check_of a.w a.h a.words a.x.0 a.y.0 a.side
 past2 c r p = past1 c.before r (past_refusal _ _ _ r (eq-eqb _ _ c.if-words-w.false) p)
 
 returns : tie.Need-returns-then-not-size_ok

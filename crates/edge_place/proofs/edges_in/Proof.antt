@@ -15,7 +15,7 @@ returns-2 : tie.Need-returns
 unfolding edges_in
 returns-2 c =
     rw (le-leb _ 65535 c.if-columns-gt65535.false)
-    (c.lesser-3.ensures ∙ (λ i. min (c.lesser.ensures i) (c.lesser-2.ensures i)))
+    (c.min-3.ensures ∙ (λ i. min (c.min.ensures i) (c.min-2.ensures i)))
 
 pub edges_in_spec : {M : Type 1} → statement M
 edges_in_spec = tie.close (tie.spec returns (λ c κs. search rules) (λ c κs. search rules) (λ c κs. search rules) returns-2)

@@ -8,7 +8,7 @@ use Rattle.edge_place.proofs.units_in.Tie as tie
 
 returns : tie.Need-returns
 unfolding units_in
-returns c = c.lesser-3.ensures ∙ (λ i. min (c.lesser.ensures i) (c.lesser-2.ensures i))
+returns c = c.min-3.ensures ∙ (λ i. min (c.min.ensures i) (c.min-2.ensures i))
 
 pub units_in_spec : {M : Type 1} → statement M
 units_in_spec = tie.close (tie.spec (λ c κs. search rules) (λ c κs. search rules) (λ c κs. search rules) returns)

@@ -25,7 +25,7 @@ leaves_edges_requires : tie.Need-leaves_edges-requires
 leaves_edges_requires c κs =
     let p = c.requires.0 in
     let a = c.args in
-    let t = root_told _ _ _ p.size p.long p.walked a.i c.requires.1 _ _ _ refl c.root_leaves.ensures _ c.in-Done.is in (
+    let t = root_told _ _ _ p.size p.long p.walked a.i c.requires.1 _ _ _ refl c.root_leaves.ensures _ c.in-Ok.is in (
       ready_zero (record { long = omega (arith, t.long, t.few); leaves = λ j h. (t.leaves j h).numbers }),
       subst (λ (m : List Leaf). a.at + 2 * area m ≤ length a.out.now) (sym t.same) c.requires.2,
     )
@@ -34,7 +34,7 @@ returns-2 : tie.Need-returns
 returns-2 c =
     let p = c.requires.0 in
     let a = c.args in
-    let t = root_told _ _ _ p.size p.long p.walked a.i c.requires.1 _ _ _ refl c.root_leaves.ensures _ c.in-Done.is in
+    let t = root_told _ _ _ p.size p.long p.walked a.i c.requires.1 _ _ _ refl c.root_leaves.ensures _ c.in-Ok.is in
     put_as (ap (λ (m : List Leaf). each edge_numbers (edges_of (pass_of a.horizontal) a.halved m)) (down_zero _ ∙ t.same)) c.leaves_edges.ensures
 
 pub root_edges_spec : {M : Type 1} → statement M

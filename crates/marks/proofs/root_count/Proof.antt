@@ -1,8 +1,8 @@
 -- `marks::root_count` meets its contract. Assumes nothing.
 use mathlib.Core.Path.{sym, ap, ◌∙◌}
 use borrow.Author.Rules.{rules}
-use mathlib.Core.Bool.{Bool, true, false}
-use Rattle.def.specs.Picture.{size_ok, root_count}
+use mathlib.Core.Bool.{Bool}
+use Rattle.def.specs.Picture.{root_count}
 use Rattle.def.proofs.Sizes.{sized}
 use Rattle.laws.specs.Index.{pick}
 use Rattle.marks.proofs.root_count.Statement.{statement}

@@ -3,16 +3,10 @@ use mathlib.Core.Path.{◌≡◌}
 use Prim.Native.Nat.{◌-◌}
 use native.Mathlib.Omega.{arith}
 use Rattle.marks_rules.specs.Marks.{blocks_in}
-use Rattle.split.proofs.Roots.{few_roots}
 use Rattle.marks.proofs.Calls.{root_at, root_grown, grew_between}
 use Rattle.marks.proofs.Growing.{grew_as}
 use Rattle.marks.proofs.root_grown.Goals as goal
 use Rattle.marks.proofs.root_grown.Goals.{then-from-to, else-from-to}
-
-pub root_place-at-requires : goal.root_place-at-requires
-root_place-at-requires c =
-    let p = c.requires in
-    (omega (arith, p.0), p.0.wide, omega (arith, p.1, few_roots c.args.w c.args.h p.0.wide p.0.high))
 
 pub grow_sixty_four-requires : goal.grow_sixty_four-requires
 unfolding blocks_in

@@ -7,7 +7,7 @@ use Rattle.mend.proofs.put_change.Statement.{statement}
 use Rattle.mend.proofs.put_change.Tie as tie
 
 returns-2 : tie.Need-returns
-returns-2 c = listed_as (change_one _ _ _ _ (omega arith)) (rw (c.wide.ensures, c.wide-2.ensures) (listed_one _ _ _))
+returns-2 c = listed_as (change_one _ _ _ _ (omega arith)) (rw (c.from.ensures, c.from-2.ensures) (listed_one _ _ _))
 
 pub put_change_spec : {M : Type 1} → statement M
 put_change_spec =

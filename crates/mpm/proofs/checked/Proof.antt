@@ -1,4 +1,5 @@
 -- `mpm::checked` meets its contract: a row of checks. `past1` to `past3` are what a check, passed, leaves of the row. Assumes nothing.
+use Rattle.std.specs.Prelude.{Ok, Err}
 use mathlib.Core.Path.{◌≡◌, refl, sym, ◌∙◌}
 use borrow.Author.Rules.{rules}
 use lib.ListN.{length}
@@ -6,8 +7,7 @@ use Rattle.laws.specs.Call.{unless}
 use Rattle.laws.proofs.Calls.{stops, goes_on}
 use Rattle.def.specs.Blocks.{unit_ok}
 use Rattle.def.specs.declared.Refusal.TheVariants.{Length, Block, Mode}
-use Rattle.def.specs.declared.Answer.{Answer}
-use Rattle.def.specs.declared.Answer.TheVariants.{Done, Refused}
+use Rattle.def.specs.Answers.{Answer}
 use Rattle.def.proofs.Sizes.{sized}
 use Rattle.def.proofs.Blocks.{placed}
 use Rattle.mpm.specs.Ranks.{Input, lengths_ok, modes_ok, check}
@@ -21,13 +21,13 @@ of s = let a = s.args in record { w = a.w; h = a.h; words = a.words.now; modes =
 
 -- the row past its first check, its second and its third
 abbrev rest3 : Input → Answer
-rest3 i = unless (modes_ok i.w i.words i.modes i.x i.y) (Refused Mode) Done
+rest3 i = unless (modes_ok i.w i.words i.modes i.x i.y) (Err Mode) (Ok tt)
 
 abbrev rest2 : Input → Answer
-rest2 i = unless (unit_ok i.w i.h i.x i.y) (Refused Block) (rest3 i)
+rest2 i = unless (unit_ok i.w i.h i.x i.y) (Err Block) (rest3 i)
 
 abbrev rest1 : Input → Answer
-rest1 i = unless (lengths_ok i.w i.h (length i.words) (length i.modes) (length i.table)) (Refused Length) (rest2 i)
+rest1 i = unless (lengths_ok i.w i.h (length i.words) (length i.modes) (length i.table)) (Err Length) (rest2 i)
 
 past1 : (c : tie.Else-not-size_ok) (r : Answer) → let i = of c.before.before.before.before.before in r ≡ rest1 i → r ≡ check i
 unfolding check

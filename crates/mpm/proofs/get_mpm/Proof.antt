@@ -20,8 +20,8 @@ of s =
     }
 
 -- past the checks
-good : (c : tie.In-Done) → Accepted (of c.before.before.before.before.before).input
-good c = accepted _ (sym c.checked.ensures ∙ c.in-Done.is)
+good : (c : tie.In-Ok) → Accepted (of c.before.before.before.before.before).input
+good c = accepted _ (sym c.checked.ensures ∙ c.in-Ok.is)
 
 returns : tie.Need-returns-in_default
 unfolding part_outcome
@@ -36,7 +36,7 @@ part_result_end c = omega (arith, (good c.before).table_long)
 returns-2 : tie.Need-returns
 unfolding part_outcome
 returns-2 c =
-    on_done _ _ _ _ _ c.checked.ensures c.in-Done.is
+    on_done _ _ _ _ _ c.checked.ensures c.in-Ok.is
     (a_part (of c.before.before.before.before.before.before.before) _ _ c.row_start-at.ensures.0)
 
 pub get_mpm_spec : {M : Type 1} → statement M

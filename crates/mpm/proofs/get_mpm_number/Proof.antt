@@ -2,7 +2,7 @@
 use mathlib.Core.Path.{ap}
 use borrow.Author.Rules.{rules}
 use Rattle.def.specs.Answers.{answer_number}
-use Rattle.def.specs.declared.Answer.{Answer}
+use Rattle.def.specs.Answers.{Answer}
 use Rattle.mpm.specs.Ranks.{Outcome, number_outcome}
 use Rattle.mpm.proofs.get_mpm_number.Statement.{statement}
 use Rattle.mpm.proofs.get_mpm_number.Tie as tie

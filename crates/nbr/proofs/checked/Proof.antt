@@ -1,4 +1,5 @@
 -- `nbr::checked` meets its contract: a row of checks. `past1` to `past3` are what a check, passed, leaves of the row. Assumes nothing.
+use Rattle.std.specs.Prelude.{Ok, Err}
 use Prim.Native.Nat.{ℕ, ◌+◌, ◌*◌, ◌≤◌}
 use mathlib.Core.Path.{◌≡◌, refl, sym, ap, ◌∙◌}
 use native.Mathlib.Omega.{arith}
@@ -10,8 +11,7 @@ use Rattle.laws.proofs.Calls.{stops, goes_on, at_refusal, past_refusal}
 use Rattle.def.specs.Blocks.{block_ok}
 use Rattle.def.specs.declared.Refusal.TheVariants as refusal
 use Rattle.def.specs.declared.Refusal.TheVariants.{Length}
-use Rattle.def.specs.declared.Answer.{Answer}
-use Rattle.def.specs.declared.Answer.TheVariants.{Done, Refused}
+use Rattle.def.specs.Answers.{Answer}
 use Rattle.def.proofs.Sizes.{sized}
 use Rattle.def.proofs.Blocks.{blocked}
 use Rattle.nbr.specs.declared.Block.{Block}
@@ -29,13 +29,13 @@ found s =
 
 -- the row past its first check, its second and its third
 abbrev rest3 : Block → ℕ → Answer
-rest3 b run = unless (eqb run (run_length b.component b.side)) (Refused Length) Done
+rest3 b run = unless (eqb run (run_length b.component b.side)) (Err Length) (Ok tt)
 
 abbrev rest2 : Block → ℕ → Answer
-rest2 b run = unless (block_ok b.w b.h b.x.0 b.y.0 b.side) (Refused refusal.Block) (rest3 b run)
+rest2 b run = unless (block_ok b.w b.h b.x.0 b.y.0 b.side) (Err refusal.Block) (rest3 b run)
 
 abbrev rest1 : Block → (plane words run : ℕ) → Answer
-rest1 b plane words run = unless (lengths_ok b.component b.w b.h plane words) (Refused Length) (rest2 b run)
+rest1 b plane words run = unless (lengths_ok b.component b.w b.h plane words) (Err Length) (rest2 b run)
 
 past1 : (c : tie.Else-not-size_ok) (r : Answer) → r ≡ rest1 c.args.block c.args.plane c.args.words c.args.run → r ≡ found c.before.before
 unfolding form_of

@@ -1,11 +1,11 @@
 -- `recon::checked` meets its contract: a row of checks. `past-K` is what check K, passed, leaves of the row. Assumes nothing.
+use Rattle.std.specs.Prelude.{Ok, Err}
 use mathlib.Core.Path.{◌≡◌, refl, sym, ◌∙◌}
 use borrow.Author.Rules.{rules}
 use lib.ListN.{length}
 use Rattle.laws.specs.Call.{unless}
 use Rattle.laws.proofs.Calls.{stops, goes_on}
-use Rattle.def.specs.declared.Answer.{Answer}
-use Rattle.def.specs.declared.Answer.TheVariants.{Done, Refused}
+use Rattle.def.specs.Answers.{Answer}
 use Rattle.def.specs.declared.Refusal.TheVariants.{Length, Sample}
 use Rattle.def.proofs.Sides.{component_side}
 use Rattle.samples.specs.Samples.{samples_ok}
@@ -14,13 +14,13 @@ use Rattle.recon.proofs.checked.Statement.{statement}
 use Rattle.recon.proofs.checked.Tie as tie
 
 past1 : (c : tie.Else-not-component_side_ok) (x : Answer) → let a = c.args in
-    x ≡ unless (lengths_ok a.side (length a.pred.now) a.coef a.rec) (Refused Length)
-    (unless (samples_ok a.pred.now) (Refused Sample) Done) → x ≡ block_check a.side a.pred.now a.coef a.rec
+    x ≡ unless (lengths_ok a.side (length a.pred.now) a.coef a.rec) (Err Length)
+    (unless (samples_ok a.pred.now) (Err Sample) (Ok tt)) → x ≡ block_check a.side a.pred.now a.coef a.rec
 unfolding block_check
 past1 c x p = goes_on _ _ _ _ x c.component_side_ok.ensures c.if-not-component_side_ok.false-raw p
 
 past2 : (c : tie.Else-not-lengths_ok) (x : Answer) → let a = c.args in
-    x ≡ unless (samples_ok a.pred.now) (Refused Sample) Done → x ≡ block_check a.side a.pred.now a.coef a.rec
+    x ≡ unless (samples_ok a.pred.now) (Err Sample) (Ok tt) → x ≡ block_check a.side a.pred.now a.coef a.rec
 past2 c x p = past1 c.before.before x (goes_on _ _ _ _ x c.lengths_ok.ensures c.if-not-lengths_ok.false-raw p)
 
 returns : tie.Need-returns-then-not-component_side_ok

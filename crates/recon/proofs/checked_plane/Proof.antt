@@ -1,4 +1,5 @@
 -- `recon::checked_plane` meets its contract: a row of checks. `past-K` is what check K, passed, leaves of the row. Assumes nothing.
+use Rattle.std.specs.Prelude.{Ok, Err}
 use Prim.Native.Nat.{◌/◌}
 use mathlib.Core.Path.{◌≡◌, refl, sym, ◌∙◌}
 use borrow.Author.Rules.{rules}
@@ -8,8 +9,7 @@ use Rattle.laws.specs.Call.{unless}
 use Rattle.laws.proofs.Calls.{stops, goes_on}
 use Rattle.def.specs.Blocks.{block_ok}
 use Rattle.def.specs.Components.{scale_of, plane_length}
-use Rattle.def.specs.declared.Answer.{Answer}
-use Rattle.def.specs.declared.Answer.TheVariants.{Done, Refused}
+use Rattle.def.specs.Answers.{Answer}
 use Rattle.def.specs.declared.Refusal.TheVariants.{Length, Block, Sample}
 use Rattle.def.proofs.Blocks.{blocked}
 use Rattle.def.proofs.Sizes.{sized}
@@ -23,16 +23,16 @@ abbrev all : tie.Start → Answer
 all s = let a = s.args in plane_check a.component a.w a.h a.x.0 a.y.0 a.side a.pred.now a.coef a.rec
 
 abbrev after4 : tie.Start → Answer
-after4 s = unless (samples_ok s.args.pred.now) (Refused Sample) Done
+after4 s = unless (samples_ok s.args.pred.now) (Err Sample) (Ok tt)
 
 abbrev after3 : tie.Start → Answer
-after3 s = let a = s.args in unless (block_lengths_ok (a.side / scale_of a.component) (length a.pred.now) a.coef) (Refused Length) (after4 s)
+after3 s = let a = s.args in unless (block_lengths_ok (a.side / scale_of a.component) (length a.pred.now) a.coef) (Err Length) (after4 s)
 
 abbrev after2 : tie.Start → Answer
-after2 s = let a = s.args in unless (block_ok a.w a.h a.x.0 a.y.0 a.side) (Refused Block) (after3 s)
+after2 s = let a = s.args in unless (block_ok a.w a.h a.x.0 a.y.0 a.side) (Err Block) (after3 s)
 
 abbrev after1 : tie.Start → Answer
-after1 s = let a = s.args in unless (eqb a.rec (plane_length a.component a.w a.h)) (Refused Length) (after2 s)
+after1 s = let a = s.args in unless (eqb a.rec (plane_length a.component a.w a.h)) (Err Length) (after2 s)
 
 past1 : (c : tie.Else-not-size_ok) (x : Answer) → x ≡ after1 c.before.before.before → x ≡ all c.before.before.before
 unfolding plane_check

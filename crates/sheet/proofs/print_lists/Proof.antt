@@ -7,13 +7,13 @@ use Rattle.sheet.proofs.print_lists.Statement.{statement}
 use Rattle.sheet.proofs.print_lists.Tie as tie
 
 -- what the call lists
-told : (c : tie.In-Done) →
+told : (c : tie.In-Ok) →
     Printable c.args.w c.args.h c.args.limit c.args.map.now c.args.vertical.now c.args.horizontal.now c.requires.0 c.requires.1 c.requires.2
-    c.in-Done.m c.in-Done.n c.list_edges.new.vertical c.list_edges.new.horizontal
+    c.in-Ok.counts.vertical c.in-Ok.counts.horizontal c.list_edges.new.vertical c.list_edges.new.horizontal
 told c =
     let p = c.requires in
     printable _ _ _ _ _ _ p.0 p.1 p.2 _ _ _ _
-    (listed_both _ _ _ _ _ _ p.0 p.1 p.2 _ _ _ _ _ c.list_edges.ensures c.in-Done.is)
+    (listed_both _ _ _ _ _ _ p.0 p.1 p.2 _ _ _ _ c.list_edges.ensures c.in-Ok.is)
 
 cast_list_edges : tie.Need-overflow_cast-limit
 cast_list_edges c = omega (arith, limit_small c.args.limit c.requires.0.limited)
@@ -32,13 +32,13 @@ put_listing_requires c κs =
       t.few_second,
     )
 
-returns : tie.Need-returns-in-Refused
+returns : tie.Need-returns-in-Err
 returns c =
     let p = c.requires in
     absurd (not_refused _ _ _ _ _ _ p.0 p.1 p.2 _ _ _ _
-    c.list_edges.ensures c.in-Refused.is)
+    c.list_edges.ensures c.in-Err.is)
 
-returns-2 : tie.Need-returns-in-Done
+returns-2 : tie.Need-returns-in-Ok
 returns-2 c = starts_as (told c.before.before.before.before).text c.put_listing.ensures
 
 pub print_lists_spec : {M : Type 1} → statement M

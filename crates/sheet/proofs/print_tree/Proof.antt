@@ -10,12 +10,12 @@ use Rattle.sheet.proofs.print_tree.Statement.{statement}
 use Rattle.sheet.proofs.print_tree.Tie as tie
 
 -- where the digits were taken: the map is walked as they say
-met : (c : tie.In-Done) → let a = c.args in
-    Met (a.w / 4) (a.h / 4) a.digits.now c.take_picture.new.map c.in-Done.next
+met : (c : tie.In-Ok) → let a = c.args in
+    Met (a.w / 4) (a.h / 4) a.digits.now c.take_picture.new.map c.in-Ok.next
 met c =
     let a = c.args in
     subst (Pictured (a.w / 4) (a.h / 4) a.digits.now c.take_picture.new.map)
-    c.in-Done.is c.take_picture.ensures
+    c.in-Ok.is c.take_picture.ensures
 
 take_picture_requires : tie.Need-take_picture-requires
 take_picture_requires c κs = let p = c.requires in (sided _ _ p.0, p.2, p.3, p.4)
@@ -32,12 +32,12 @@ print_edges_requires c κs =
       p.5,
     )
 
-returns-2 : tie.Need-returns-in-Refused
+returns-2 : tie.Need-returns-in-Err
 returns-2 c =
     let t = c.take_picture in
     starts_as
     (walk_no _ _ _ _ c.requires.0 c.requires.1 _
-    (subst (Pictured (c.args.w / 4) (c.args.h / 4) c.args.digits.now t.new.map) c.in-Refused.is t.ensures))
+    (subst (Pictured (c.args.w / 4) (c.args.h / 4) c.args.digits.now t.new.map) c.in-Err.is t.ensures))
     c.put_refusal.ensures
 
 pub print_tree_spec : {M : Type 1} → statement M

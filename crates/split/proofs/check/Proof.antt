@@ -1,10 +1,10 @@
 -- `split::check` meets its contract: 1, 2, and then what the walk of the picture finds. Assumes nothing.
+use Rattle.std.specs.Prelude.{Err}
 use mathlib.Core.Path.{sym, ap, ◌∙◌}
 use Prim.Native.Nat.{ℕ, ◌*◌}
 use borrow.Author.Rules.{rules}
 use borrow.Author.Tests.{eq-eqb, ne_eqb}
 use Rattle.def.proofs.Sizes.{sized}
-use Rattle.def.specs.declared.Answer.TheVariants.{Refused}
 use Rattle.def.specs.declared.Refusal.TheVariants.{Size, Length}
 use Rattle.laws.proofs.Calls.{stops, goes_on, at_refusal, past_refusal}
 use Rattle.split.specs.CheckCall as check-call
@@ -14,7 +14,7 @@ use Rattle.split.proofs.check.Tie as tie
 
 returns : tie.Need-returns-then-not-size_ok
 unfolding check-call.check
-returns c = check_gives _ (Refused Size) (stops _ _ _ _ c.size_ok.ensures c.if-not-size_ok.true-raw)
+returns c = check_gives _ (Err Size) (stops _ _ _ _ c.size_ok.ensures c.if-not-size_ok.true-raw)
 
 root_count_requires : tie.Need-root_count-requires
 root_count_requires c κs = let z = sized _ _ (sym c.size_ok.ensures ∙ c.if-not-size_ok.false) in (z.wide, z.high)
@@ -22,7 +22,7 @@ root_count_requires c κs = let z = sized _ _ (sym c.size_ok.ensures ∙ c.if-no
 returns-2 : tie.Need-returns-then-splits-root_count
 unfolding check-call.check
 returns-2 c =
-    check_gives _ (Refused Length)
+    check_gives _ (Err Length)
     (goes_on _ _ _ _ _ c.size_ok.ensures c.if-not-size_ok.false-raw
     (at_refusal _ _ _ (ne_eqb _ _ (λ e. c.if-splits-root_count.true (e ∙ ap (λ (n : ℕ). 1024 * n) (sym c.root_count.ensures.0))))))
 

@@ -7,22 +7,22 @@ use Rattle.split.proofs.Stores.{stored_refused, stored_one, stored_as}
 use Rattle.split.proofs.put_leaf.Statement.{statement}
 use Rattle.split.proofs.put_leaf.Tie as tie
 
-returns : tie.Need-returns-then-w-x
-returns c = stored_as (past_x c.requires.0 c.if-w-x.true) (stored_refused _ _ _)
+returns : tie.Need-returns-then-w-at
+returns c = stored_as (past_x c.requires.0 c.if-w-at.true) (stored_refused _ _ _)
 
-returns-2 : tie.Need-returns-then-h-y
-returns-2 c = stored_as (past_y c.requires.0 c.if-w-x.false c.if-h-y.true) (stored_refused _ _ _)
+returns-2 : tie.Need-returns-then-h-at
+returns-2 c = stored_as (past_y c.requires.0 c.if-w-at.false c.if-h-at.true) (stored_refused _ _ _)
 
-slice_write_out_2 : tie.Need-bounds-out-at-2
+slice_write_out_2 : tie.Need-bounds-out-first-2
 slice_write_out_2 c = simp length-set (omega arith)
 
-slice_write_out_3 : tie.Need-bounds-out-at-3
+slice_write_out_3 : tie.Need-bounds-out-first-3
 slice_write_out_3 c = simp length-set (omega arith)
 
 returns-3 : tie.Need-returns
 returns-3 c =
     let b = c.requires.0 in
-    stored_as (inside b c.if-w-x.false c.if-h-y.false) (stored_one _ _ _ _ _ _ (column_back b) (row_back b) b.power)
+    stored_as (inside b c.if-w-at.false c.if-h-at.false) (stored_one _ _ _ _ _ _ (column_back b) (row_back b) b.power)
 
 pub put_leaf_spec : {M : Type 1} → statement M
 put_leaf_spec =

@@ -1,7 +1,7 @@
 -- `ward_check::checked_row` meets its contract: a row of checks. Assumes nothing.
+use Rattle.std.specs.Prelude.{Ok}
 use mathlib.Core.Path.{sym, ◌∙◌}
 use borrow.Author.Rules.{rules}
-use Rattle.decoder.specs.Face.answers.{Done}
 use Rattle.ward_check.proofs.Ladder.{sides, inside, at_size, at_length, at_window, at_turn, at_end}
 use Rattle.ward_check.proofs.checked_row.Statement.{statement}
 use Rattle.ward_check.proofs.checked_row.Tie as tie
@@ -9,7 +9,7 @@ use Rattle.ward_check.proofs.checked_row.Tie as tie
 returns : tie.Need-returns-then-not-size_ok
 returns c =
     let a = c.args in
-    at_size a.run a.k a.nth a.plane a.row a.format a.w a.h a.y a.u a.v a.c a.out Done _ c.size_ok.ensures c.if-not-size_ok.true-raw
+    at_size a.run a.k a.nth a.plane a.row a.format a.w a.h a.y a.u a.v a.c a.out (Ok tt) _ c.size_ok.ensures c.if-not-size_ok.true-raw
 
 lengths_ok_requires : tie.Need-lengths_ok-requires
 lengths_ok_requires c κs =
@@ -19,14 +19,14 @@ lengths_ok_requires c κs =
 returns-2 : tie.Need-returns-then-not-lengths_ok
 returns-2 c =
     let a = c.args in
-    at_length a.run a.k a.nth a.plane a.row a.format a.w a.h a.y a.u a.v a.c a.out Done _ c.size_ok.ensures
+    at_length a.run a.k a.nth a.plane a.row a.format a.w a.h a.y a.u a.v a.c a.out (Ok tt) _ c.size_ok.ensures
     c.if-not-size_ok.false-raw
     _ c.lengths_ok.ensures c.if-not-lengths_ok.true-raw
 
 returns-3 : tie.Need-returns-then-not-window_ok
 returns-3 c =
     let a = c.args in
-    at_window a.run a.k a.nth a.plane a.row a.format a.w a.h a.y a.u a.v a.c a.out Done _ c.size_ok.ensures
+    at_window a.run a.k a.nth a.plane a.row a.format a.w a.h a.y a.u a.v a.c a.out (Ok tt) _ c.size_ok.ensures
     c.if-not-size_ok.false-raw
     _ c.lengths_ok.ensures c.if-not-lengths_ok.false-raw _ c.window_ok.ensures c.if-not-window_ok.true-raw
 
@@ -38,7 +38,7 @@ turn_ok_requires c κs =
 returns-4 : tie.Need-returns-then-not-turn_ok
 returns-4 c =
     let a = c.args in
-    at_turn a.run a.k a.nth a.plane a.row a.format a.w a.h a.y a.u a.v a.c a.out Done
+    at_turn a.run a.k a.nth a.plane a.row a.format a.w a.h a.y a.u a.v a.c a.out (Ok tt)
     _ c.size_ok.ensures
     c.if-not-size_ok.false-raw
     _ c.lengths_ok.ensures c.if-not-lengths_ok.false-raw _ c.window_ok.ensures c.if-not-window_ok.false-raw
@@ -47,7 +47,7 @@ returns-4 c =
 returns-5 : tie.Need-returns
 returns-5 c =
     let a = c.args in
-    at_end a.run a.k a.nth a.plane a.row a.format a.w a.h a.y a.u a.v a.c a.out Done
+    at_end a.run a.k a.nth a.plane a.row a.format a.w a.h a.y a.u a.v a.c a.out (Ok tt)
     _ c.size_ok.ensures
     c.if-not-size_ok.false-raw
     _ c.lengths_ok.ensures c.if-not-lengths_ok.false-raw _ c.window_ok.ensures c.if-not-window_ok.false-raw

@@ -11,11 +11,11 @@ use Rattle.window.proofs.window_chroma.Tie as tie
 -- the two tests, by the lengths of the planes
 rows_test : (c : tie.After-by_rows) → let a = c.args in
     c.by_rows.result ≡ by_rows a.p 2 (min (length a.u.now) (length a.v.now))
-rows_test c = c.by_rows.ensures ∙ ap (by_rows c.args.p 2) c.least-long.ensures
+rows_test c = c.by_rows.ensures ∙ ap (by_rows c.args.p 2) c.min-long.ensures
 
 halves_test : (c : tie.After-by_halves) → let a = c.args in
     c.by_halves.result ≡ by_halves a.p 2 (min (length a.u.now) (length a.v.now))
-halves_test c = c.by_halves.ensures ∙ ap (by_halves c.args.p 2) c.least-long.ensures
+halves_test c = c.by_halves.ensures ∙ ap (by_halves c.args.p 2) c.min-long.ensures
 
 rows_requires : tie.Need-chroma_rows-requires
 rows_requires c κs = sym (rows_test c.before.before.before) ∙ c.if-by_rows.true

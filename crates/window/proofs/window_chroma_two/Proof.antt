@@ -14,13 +14,13 @@ use Rattle.window.proofs.window_chroma_two.Tie as tie
 -- the two tests, by the lengths of the planes
 rows_test : (c : tie.After-by_rows) → let a = c.args in
     c.by_rows.result ≡ by_rows a.p 4 (min (length a.u.now) (length a.v.now))
-rows_test c = c.by_rows.ensures ∙ ap (by_rows c.args.p 4) c.least-long.ensures
+rows_test c = c.by_rows.ensures ∙ ap (by_rows c.args.p 4) c.min-long.ensures
 
 halves_test : (c : tie.After-by_halves_apart) → let a = c.args in
     c.by_halves_apart.result ≡ (by_halves a.p 4 (min (length a.u.now) (length a.v.now)) && leb 4 a.p.next)
 halves_test c =
     let p = c.args.p in
-    c.by_halves_apart.ensures ∙ (λ i. by_halves p 4 (c.least-long.ensures i) && leb 4 p.next)
+    c.by_halves_apart.ensures ∙ (λ i. by_halves p 4 (c.min-long.ensures i) && leb 4 p.next)
 
 rows_requires : tie.Need-chroma_two_rows-requires
 rows_requires c κs = sym (rows_test c.before.before.before) ∙ c.if-by_rows.true

@@ -12,7 +12,7 @@ size : (c : tie.Else-not-size_ok) → Sized c.args.w c.args.h
 size c = sized _ _ (sym c.size_ok.ensures ∙ c.if-not-size_ok.false)
 
 returns : tie.Need-returns-then-not-size_ok
-returns c = let a = c.args in at_size a.s.now a.at a.w a.h a.y a.u a.v _ c.size_ok.ensures c.if-not-size_ok.true-raw
+returns c = let a = c.args in rw c.from.ensures (at_size a.s.now a.at a.w a.h a.y a.u a.v _ c.size_ok.ensures c.if-not-size_ok.true-raw)
 
 mul_luma : tie.Need-overflow_mul-luma
 mul_luma c = let z = size c in omega (arith, area c.args.w c.args.h z.wide z.high)
@@ -23,7 +23,8 @@ mul_chroma c = let z = size c in omega (arith, quarter c.args.w c.args.h z.wide 
 returns-2 : tie.Need-returns-then-not-y-luma
 returns-2 c =
     let a = c.args in
-    at_length a.s.now a.at a.w a.h a.y a.u a.v _ c.size_ok.ensures c.if-not-size_ok.false-raw c.if-not-y-luma.true-raw
+    rw c.from-then-not-y-luma.ensures
+    (at_length a.s.now a.at a.w a.h a.y a.u a.v _ c.size_ok.ensures c.if-not-size_ok.false-raw c.if-not-y-luma.true-raw)
 
 checked_frame_requires : tie.Need-checked_frame-requires
 checked_frame_requires c κs =
@@ -38,4 +39,4 @@ returns-3 c =
     c.if-not-y-luma.false-raw _ c.checked_frame.ensures
 
 pub checked_spec : {M : Type 1} → statement M
-checked_spec = tie.close (tie.spec (λ c κs. search rules) returns mul_luma mul_chroma returns-2 checked_frame_requires returns-3)
+checked_spec = tie.close (tie.spec (λ c κs. search rules) (λ c κs. search rules) returns mul_luma mul_chroma (λ c κs. search rules) returns-2 checked_frame_requires returns-3)

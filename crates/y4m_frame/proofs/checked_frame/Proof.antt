@@ -10,17 +10,18 @@ returns c = let a = c.args in
     at_line a.s.now a.at a.luma a.chroma _ c.line_ok.ensures c.if-not-line_ok.true-raw _ c.line_place.ensures
 
 returns-2 : tie.Need-returns-then-s-at
-returns-2 c = let a = c.args in at_short a.s.now a.at a.luma a.chroma _ c.line_ok.ensures c.if-not-line_ok.false-raw (omega arith)
+returns-2 c = let a = c.args in rw c.from.ensures (at_short a.s.now a.at a.luma a.chroma _ c.line_ok.ensures c.if-not-line_ok.false-raw (omega arith))
 
 returns-3 : tie.Need-returns-then-s-at-2
 returns-3 c = let a = c.args in
-    at_short a.s.now a.at a.luma a.chroma _ c.line_ok.ensures c.if-not-line_ok.false-raw (omega arith)
+    rw c.from-then-s-at-2.ensures (at_short a.s.now a.at a.luma a.chroma _ c.line_ok.ensures c.if-not-line_ok.false-raw (omega arith))
 
 returns-4 : tie.Need-returns-then-not-planes_ok
 returns-4 c =
     let a = c.args in
-    at_sample a.s.now a.at a.luma a.chroma _ c.line_ok.ensures
-    c.if-not-line_ok.false-raw (omega arith) _ c.planes_ok.ensures c.if-not-planes_ok.true-raw
+    rw c.from-then-not-planes_ok.ensures
+    (at_sample a.s.now a.at a.luma a.chroma _ c.line_ok.ensures
+    c.if-not-line_ok.false-raw (omega arith) _ c.planes_ok.ensures c.if-not-planes_ok.true-raw)
 
 returns-5 : tie.Need-returns
 returns-5 c =
@@ -35,13 +36,16 @@ checked_frame_spec =
     (λ c κs. search rules)
     (λ c κs. search rules)
     returns
+    (λ c κs. search rules)
     returns-2
     (λ c. search rules)
     (λ c. search rules)
     (λ c. search rules)
     (λ c. search rules)
     (λ c. search rules)
+    (λ c κs. search rules)
     returns-3
+    (λ c κs. search rules)
     (λ c κs. search rules)
     returns-4
     (λ c. search rules)

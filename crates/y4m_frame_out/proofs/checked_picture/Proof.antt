@@ -1,4 +1,5 @@
 -- `y4m_frame_out::checked_picture` meets its contract: a row of checks. Assumes nothing.
+use Rattle.std.specs.Prelude.{Ok, Err}
 use mathlib.Core.Path.{◌≡◌, refl, sym, ◌∙◌}
 use mathlib.Core.Bool.{Bool, not, true, false, ◌&&◌}
 use mathlib.Core.List.{List}
@@ -7,7 +8,6 @@ use borrow.Author.Rules.{rules}
 use lib.ListN.{length}
 use Rattle.laws.proofs.Calls.{stops, goes_on}
 use Rattle.def.specs.Picture.{size_ok}
-use Rattle.def.specs.declared.Answer.TheVariants.{Done, Refused}
 use Rattle.def.specs.declared.Format.{Format}
 use Rattle.def.specs.declared.Refusal.TheVariants.{Size, Length, Setting, Sample}
 use Rattle.def.proofs.Sizes.{sized}
@@ -19,17 +19,17 @@ use Rattle.y4m_frame_out.proofs.checked_picture.Tie as tie
 
 -- the rungs, one below the other
 module _ (c : Format) (w h : ℕ) (y u v : List ℕ) (out : ℕ) (s : Bool) (e : s ≡ size_ok w h) where
-  at_size : not s ≡ true → Refused Size ≡ check_of c w h y u v out
+  at_size : not s ≡ true → Err Size ≡ check_of c w h y u v out
   unfolding check_of
   at_size t = stops s (size_ok w h) _ _ e t
 
   module _ (ps : not s ≡ false) (l : Bool) (f : l ≡ lengths_ok c w h (length y) (length u) (length v) out) where
-    at_length : not l ≡ true → Refused Length ≡ check_of c w h y u v out
+    at_length : not l ≡ true → Err Length ≡ check_of c w h y u v out
     unfolding check_of
     at_length t = goes_on s (size_ok w h) _ _ _ e ps (stops l _ _ _ f t)
 
     module _ (pl : not l ≡ false) (k : Bool) (g : k ≡ colour_ok c) where
-      at_colour : not k ≡ true → Refused Setting ≡ check_of c w h y u v out
+      at_colour : not k ≡ true → Err Setting ≡ check_of c w h y u v out
       unfolding check_of
       at_colour t = goes_on s (size_ok w h) _ _ _ e ps (goes_on l _ _ _ _ f pl (stops k _ _ _ g t))
 
@@ -38,11 +38,11 @@ module _ (c : Format) (w h : ℕ) (y u v : List ℕ) (out : ℕ) (s : Bool) (e :
         unfolding planes_ok
         planes = rw (ey, eu, ev)
 
-        at_sample : not ((a && b) && d) ≡ true → Refused Sample ≡ check_of c w h y u v out
+        at_sample : not ((a && b) && d) ≡ true → Err Sample ≡ check_of c w h y u v out
         unfolding check_of
         at_sample t = goes_on s (size_ok w h) _ _ _ e ps (goes_on l _ _ _ _ f pl (goes_on k _ _ _ _ g pk (stops _ _ _ _ planes t)))
 
-        at_done : not ((a && b) && d) ≡ false → Done ≡ check_of c w h y u v out
+        at_done : not ((a && b) && d) ≡ false → (Ok tt) ≡ check_of c w h y u v out
         unfolding check_of
         at_done t = goes_on s (size_ok w h) _ _ _ e ps (goes_on l _ _ _ _ f pl (goes_on k _ _ _ _ g pk (goes_on _ _ _ _ _ planes t refl)))
 

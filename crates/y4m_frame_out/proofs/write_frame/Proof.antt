@@ -9,10 +9,10 @@ use Rattle.y4m_frame_out.proofs.write_frame.Statement.{statement}
 use Rattle.y4m_frame_out.proofs.write_frame.Tie as tie
 
 -- where the checks found nothing
-found : (c : tie.In-Done) → let a = c.args in
+found : (c : tie.In-Ok) → let a = c.args in
     Writable a.w a.h (length a.y.now) (length a.u.now) (length a.v.now) (length a.out.now)
 found c = let a = c.args in
-    writable a.format a.w a.h a.y.now a.u.now a.v.now _ (sym c.checked_picture.ensures ∙ c.in-Done.is)
+    writable a.format a.w a.h a.y.now a.u.now a.v.now _ (sym c.checked_picture.ensures ∙ c.in-Ok.is)
 
 put_line_requires : tie.Need-put_line-luma-requires
 put_line_requires c κs = omega (arith, (found c.before).out_long)
@@ -54,12 +54,12 @@ put_plane_requires_3 c κs =
       bytes_long a.u.now,
     )
 
-returns : tie.Need-returns-in-Refused
-returns c = write_refused _ _ c.checked_picture.ensures _ c.in-Refused.is
+returns : tie.Need-returns-in-Err
+returns c = write_refused _ _ c.checked_picture.ensures _ c.in-Err.is
 
-returns-2 : tie.Need-returns-in-Done
+returns-2 : tie.Need-returns-in-Ok
 returns-2 c =
-    write_done _ _ c.checked_picture.ensures c.in-Done.is
+    write_done _ _ c.checked_picture.ensures c.in-Ok.is
     c.put_line-luma.ensures c.put_plane-first.ensures c.put_plane-second.ensures c.put_plane.ensures
 
 pub write_frame_spec : {M : Type 1} → statement M

@@ -10,15 +10,15 @@ use Rattle.y4m_header_out.proofs.write_header.Tie as tie
 put_header_requires : tie.Need-put_header-requires
 put_header_requires c κs =
     let a = c.args in
-    let w = writable a.format a.w a.h a.f a.g a.a a.b (length a.out.now) (sym c.checked.ensures ∙ c.in-Done.is) in
+    let w = writable a.format a.w a.h a.f a.g a.a a.b (length a.out.now) (sym c.checked.ensures ∙ c.in-Ok.is) in
     let n = w.numbers in
     (n.w_small, n.h_small, omega arith, omega arith, omega arith, omega arith, omega arith)
 
-returns : tie.Need-returns-in-Refused
-returns c = write_refused _ _ c.checked.ensures _ c.in-Refused.is
+returns : tie.Need-returns-in-Err
+returns c = write_refused _ _ c.checked.ensures _ c.in-Err.is
 
-returns-2 : tie.Need-returns-in-Done
-returns-2 c = write_done _ _ c.checked.ensures _ _ c.in-Done.is c.put_header.ensures
+returns-2 : tie.Need-returns-in-Ok
+returns-2 c = write_done _ _ c.checked.ensures _ _ c.in-Ok.is c.put_header.ensures
 
 pub write_header_spec : {M : Type 1} → statement M
 write_header_spec =

@@ -4,11 +4,11 @@ use Rattle.decoder_c.proofs.Masks.{masked_done, masked_refused}
 use Rattle.decoder_c.proofs.neighbours.in_numbers.Statement.{statement}
 use Rattle.decoder_c.proofs.neighbours.in_numbers.Tie as tie
 
-returns : tie.Need-returns-in-Done
-returns c = masked_done _ _ _ c.in-Done.is c.byte_of.ensures
+returns : tie.Need-returns-in-Ok
+returns c = masked_done _ _ _ c.in-Ok.is c.byte_of.ensures
 
-returns-2 : tie.Need-returns-in-Refused
-returns-2 c = masked_refused _ _ _ c.in-Refused.is c.refusal_number.ensures
+returns-2 : tie.Need-returns-in-Err
+returns-2 c = masked_refused _ _ _ c.in-Err.is c.refusal_number.ensures
 
 pub in_numbers_spec : {M : Type 1} → statement M
 in_numbers_spec = tie.close (tie.spec (λ c. search rules) (λ c κs. search rules) (λ c. search rules) (λ c κs. search rules) returns returns-2)

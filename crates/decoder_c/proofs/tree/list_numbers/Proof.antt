@@ -4,8 +4,8 @@ use borrow.Author.Rules.{rules}
 use Rattle.decoder_c.proofs.tree.list_numbers.Statement.{statement}
 use Rattle.decoder_c.proofs.tree.list_numbers.Tie as tie
 
-returns-2 : tie.Need-returns-in-Refused
-returns-2 c = rw c.in-Refused.is (c.refusal_number.ensures, refl, refl)
+returns-2 : tie.Need-returns-in-Err
+returns-2 c = rw c.in-Err.is (c.refusal_number.ensures, refl, refl)
 
 pub list_numbers_spec : {M : Type 1} → statement M
 list_numbers_spec = tie.close (tie.spec (λ c. search rules) (λ c. search rules) (λ c κs. search rules) (λ c. search rules) returns-2)

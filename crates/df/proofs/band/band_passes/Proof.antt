@@ -87,7 +87,7 @@ module _ (f : Format) (w n k : ℕ) (e : k ≡ in_format f (4 * n)) (y u v words
       }
 
 abbrev start : tie.After-passes_by → tie.Start
-start d = d.before.before.before.before.before.before.before.before.before.before.before.before.before.before.before
+start d = d.before.before.before.before.before.before.before.before.before.before.before.before.before.before.before.before
 
 -- no map of edge rows is lent
 no_rows : (w : ℕ) (words : List ℕ) (motion refs : List ℤ) → RowsLent w words motion refs []
@@ -97,8 +97,8 @@ passes_by_requires : tie.Need-passes_by-requires
 passes_by_requires c κs =
     let a = c.args in
     let k = c.in_format-chroma in (
-      lent_picture a.format (a.w / 4) (a.skip * (a.w / 4)) k.result k.ensures a.y.now a.u.now a.v.now a.words.now
-          a.motion.now a.refs.now a.keep.now a.entries.now (a.top + a.h / 4) c.requires.0.0,
+      lent_picture a.shape.format (a.shape.w / 4) (a.skip * (a.shape.w / 4)) k.result k.ensures a.y.now a.u.now a.v.now a.words.now
+          a.motion.now a.refs.now a.keep.now a.entries.now (a.shape.top + a.shape.h / 4) c.requires.0.0,
       c.requires.0.1,
       no_rows _ _ _ _,
     )
@@ -107,7 +107,7 @@ returns : tie.Need-returns
 returns c =
     let s = start c.before.before.before.before.before.before.before.before in
     let a = s.args in
-    let n = a.skip * (a.w / 4) in
+    let n = a.skip * (a.shape.w / 4) in
     let k = c.in_format-chroma in
     let b = c.passes_by in
     let r = s.requires.1 in (
@@ -115,8 +115,8 @@ returns c =
       front_at k.ensures a.u.now b.new.u r.1,
       front_at k.ensures a.v.now b.new.v r.2,
       take_put n (length a.words.now - n) a.words.now b.new.words r.3,
-      passed a.format (a.w / 4) n k.result k.ensures a.y.now a.u.now a.v.now a.words.now a.motion.now a.refs.now a.keep.now a.entries.now a.top
-          (list_from vertical a.halved a.top a.splits.now (a.w / 4) (a.h / 4)) (list_from horizontal a.halved a.top a.splits.now (a.w / 4) (a.h / 4))
+      passed a.shape.format (a.shape.w / 4) n k.result k.ensures a.y.now a.u.now a.v.now a.words.now a.motion.now a.refs.now a.keep.now a.entries.now a.shape.top
+          (list_from vertical a.shape.halved a.shape.top a.splits.now (a.shape.w / 4) (a.shape.h / 4)) (list_from horizontal a.shape.halved a.shape.top a.splits.now (a.shape.w / 4) (a.shape.h / 4))
           b.new.y b.new.u b.new.v b.new.words b.result.vertical b.result.horizontal
           r.0 r.1 r.2 r.3 b.ensures,
     )
@@ -158,36 +158,36 @@ kept_long k xs ys e = same_len_mid k (length xs - k) xs ys e
 before_end : {k m n : ℕ} → k ≡ m → m ≤ n → k ≤ n
 before_end e l = omega arith
 
-few : (s : tie.Start) → s.args.skip * (s.args.w / 4) ≤ 16384
+few : (s : tie.Start) → s.args.skip * (s.args.shape.w / 4) ≤ 16384
 few s = s.requires.1.7
 
 pub band_passes_spec : {M : Type 1} → statement M
 band_passes_spec =
     tie.close
     (tie.spec
-    (λ c. fits (few c.before.before.before.before.before.before))
-    (λ c. fits_16 (few c.before.before.before.before.before.before))
-    (λ c. fits_4 (few c.before.before.before.before.before.before))
-    (λ c κs. tt)
+    (λ c. fits (few c.before.before.before.before.before.before.before))
+    (λ c. fits_16 (few c.before.before.before.before.before.before.before))
     (λ c. fits_4 (few c.before.before.before.before.before.before.before))
-    (λ c. fits_2 (few c.before.before.before.before.before.before.before))
-    (λ c. bytes_2 (few c.before.before.before.before.before.before.before))
+    (λ c κs. tt)
+    (λ c. fits_4 (few c.before.before.before.before.before.before.before.before))
+    (λ c. fits_2 (few c.before.before.before.before.before.before.before.before))
+    (λ c. bytes_2 (few c.before.before.before.before.before.before.before.before))
     (λ c. c.requires.1.0)
     (λ c. c.requires.1.0)
     (λ c. le_refl _)
-    (λ c. colour_2 (few c.before.before.before.before.before.before.before.before) c.args.format c.in_format-chroma.ensures)
+    (λ c. colour_2 (few c.before.before.before.before.before.before.before.before.before) c.args.shape.format c.in_format-chroma.ensures)
     (λ c. before_end c.in_format-chroma.ensures c.requires.1.1)
     (λ c. before_end c.in_format-chroma.ensures c.requires.1.1)
     (λ c. le_refl _)
-    (λ c. colour_2 (few c.before.before.before.before.before.before.before.before.before) c.args.format c.in_format-chroma.ensures)
+    (λ c. colour_2 (few c.before.before.before.before.before.before.before.before.before.before) c.args.shape.format c.in_format-chroma.ensures)
     (λ c. before_end c.in_format-chroma.ensures c.requires.1.2)
     (λ c. before_end c.in_format-chroma.ensures c.requires.1.2)
     (λ c. le_refl _)
-    (λ c. bytes_4 (few c.before.before.before.before.before.before.before.before.before.before))
+    (λ c. bytes_4 (few c.before.before.before.before.before.before.before.before.before.before.before))
     (λ c. c.requires.1.3)
     (λ c. c.requires.1.3)
     (λ c. le_refl _)
-    (λ c. motion_2 (few c.before.before.before.before.before.before.before.before.before.before.before))
+    (λ c. motion_2 (few c.before.before.before.before.before.before.before.before.before.before.before.before))
     (λ c. c.requires.1.4)
     (λ c. c.requires.1.4)
     (λ c. le_refl _)

@@ -19,19 +19,19 @@ use Rattle.df.proofs.pass.deblock_pass.Statement.{statement}
 use Rattle.df.proofs.pass.deblock_pass.Tie as tie
 
 abbrev invariant-loop : tie.invariant-loop-i
-invariant-loop format pass halved w h top y₀ u₀ v₀ words splits motion refs keep rows entries columns horizontal roots list₀ places₀ marks₀ count₀ i₀ y u v list places marks count i =
+invariant-loop pass shape y₀ u₀ v₀ words splits motion refs keep rows entries columns horizontal roots list₀ places₀ marks₀ count₀ i₀ y u v list places marks count i =
     (i ≤ roots) × (length y ≡ length y₀) × (length u ≡ length u₀) × (length v ≡ length v₀) × (length list ≡ 512) × (length places ≡ 256) × (length marks ≡ 256)
-    × Roots (record { words = words; over = record { motion = motion; refs = refs; keep = keep } }) entries (pass_of pass) halved top splits (w / 4) (h / 4) i
+    × Roots (record { words = words; over = record { motion = motion; refs = refs; keep = keep } }) entries (pass_of pass) shape.halved shape.top splits (shape.w / 4) (shape.h / 4) i
     (record { y = y₀; u = u₀; v = v₀ }) (record { y = y; u = u; v = v }) count
 
 abbrev decreases-loop : tie.decreases-loop-i
-decreases-loop format pass halved w h top y₀ u₀ v₀ words splits motion refs keep rows entries columns horizontal roots list₀ places₀ marks₀ count₀ i₀ y u v list places marks count i = roots - i
+decreases-loop pass shape y₀ u₀ v₀ words splits motion refs keep rows entries columns horizontal roots list₀ places₀ marks₀ count₀ i₀ y u v list places marks count i = roots - i
 
 -- what decides
 abbrev maps : tie.Start invariant-loop decreases-loop → Maps
 maps s = record { words = s.args.words.now; over = record { motion = s.args.motion.now; refs = s.args.refs.now; keep = s.args.keep.now } }
 
-size : (s : tie.Start invariant-loop decreases-loop) → Sized s.args.w s.args.h
+size : (s : tie.Start invariant-loop decreases-loop) → Sized s.args.shape.w s.args.shape.h
 size s = sized _ _ s.requires.1.size
 
 -- numbers of a turn, away from the states: there are few roots, and a root has few edges
@@ -54,7 +54,7 @@ all_fit : {n k : ℕ} → n ≤ 256 → k ≡ 256 → n ≤ k
 all_fit l e = omega arith
 
 root_count_requires : tie.Need-root_count-roots-requires invariant-loop decreases-loop
-root_count_requires c κs = let z = size c.before.before.before.before.before.before.before.before in (z.wide, z.high)
+root_count_requires c κs = let z = size c.before.before.before.before.before.before.before.before.before in (z.wide, z.high)
 
 loop_holds : tie.Need-loop-i-init invariant-loop decreases-loop
 loop_holds c =
@@ -71,7 +71,7 @@ root_edges_requires c κs = (
 -- the units of a root's edges lie in the maps
 knowns : (c : tie.After-plan_edges invariant-loop decreases-loop) → let a = c.args in
     let l = c.loop-i in
-    Knowns (pass_of a.pass) (a.w / 4) a.words.now (record { motion = a.motion.now; refs = a.refs.now; keep = a.keep.now }) a.rows.now
+    Knowns (pass_of a.pass) (a.shape.w / 4) a.words.now (record { motion = a.motion.now; refs = a.refs.now; keep = a.keep.now }) a.rows.now
     c.root_edges-n.new.out c.root_edges-n.result l.places l.marks
 knowns c =
     let r = c.root_edges-n.ensures in
@@ -86,15 +86,15 @@ knowns c =
     }
 
 -- so its plan is the one by the maps
-plan_of : (c : tie.After-plan_edges invariant-loop decreases-loop) → Planned (maps c.before.before.before.before.before.before.before.before.before.before.before.before.before.before.before.before.before.before) (pass_of c.args.pass) (c.args.w / 4) c.root_edges-n.new.out c.root_edges-n.result
+plan_of : (c : tie.After-plan_edges invariant-loop decreases-loop) → Planned (maps c.before.before.before.before.before.before.before.before.before.before.before.before.before.before.before.before.before.before.before) (pass_of c.args.pass) (c.args.shape.w / 4) c.root_edges-n.new.out c.root_edges-n.result
     c.plan_edges.new.places c.plan_edges.new.marks
 plan_of c = plan_known _ _ _ _ _ (knowns c) c.is_horizontal-horizontal.ensures c.plan_edges.ensures
 
 -- the picture, at a turn
 current : (c : tie.At-loop-i invariant-loop decreases-loop) → let a = c.args in
-    LentPlanes a.format (a.w / 4) (a.top + a.h / 4) (record { motion = a.motion.now; refs = a.refs.now; keep = a.keep.now }) a.entries.now
+    LentPlanes a.shape.format (a.shape.w / 4) (a.shape.top + a.shape.h / 4) (record { motion = a.motion.now; refs = a.refs.now; keep = a.keep.now }) a.entries.now
     (record { y = c.loop-i.y; u = c.loop-i.u; v = c.loop-i.v }) a.words.now
-current c = roots_frame (maps c.before.before.before.before.before.before.before.before.before.before) _ (pass_of c.args.pass) _ _ _ _ _ c.loop-i.i _ _ _ c.loop-i.invariant.7 c.requires.0
+current c = roots_frame (maps c.before.before.before.before.before.before.before.before.before.before.before) _ (pass_of c.args.pass) _ _ _ _ _ c.loop-i.i _ _ _ c.loop-i.invariant.7 c.requires.0
 
 -- a root's plan has the room that it had before the turn
 places_long : (c : tie.After-plan_edges invariant-loop decreases-loop) → length c.plan_edges.new.places ≡ 256
@@ -125,7 +125,7 @@ loop_again c =
     let p = plan_of c.before.before.before.before.before.before.before.before.before.before.before.before.before.before.before.before.before.before.before in
     let f = c.filter_chroma.ensures in
     let d = pass_of c.args.pass in
-    let high = c.args.top + c.args.h / 4 in
+    let high = c.args.shape.top + c.args.shape.h / 4 in
     let now = current c.before.before.before.before.before.before.before.before.before.before.before.before.before.before.before.before.before.before.before.before.before.before.before.before.before.before.before in
     let alike = (u_plane now).long ∙ sym (v_plane now).long in (
       one_more c.loop-i-test.true,
@@ -144,7 +144,7 @@ loop_again c =
 returns : tie.Need-returns invariant-loop decreases-loop
 returns c =
     let l = c.loop-i in
-    roots_all _ _ (pass_of c.args.pass) _ _ _ _ _ l.i _ _ _ (omega (arith, l.invariant.0, c.loop-i-test.false, roots_units (size c.before.before.before.before.before.before.before.before.before.before.before), c.root_count-roots.ensures.0)) l.invariant.7
+    roots_all _ _ (pass_of c.args.pass) _ _ _ _ _ l.i _ _ _ (omega (arith, l.invariant.0, c.loop-i-test.false, roots_units (size c.before.before.before.before.before.before.before.before.before.before.before.before), c.root_count-roots.ensures.0)) l.invariant.7
 
 pub deblock_pass_spec : {M : Type 1} → statement M
 deblock_pass_spec =

@@ -14,26 +14,26 @@ module _ (c : tie.After-roots_along-across) where
   abbrev s : tie.Start
   s = c.before.before.before
 
-  size : Sized s.args.w s.args.h
+  size : Sized s.args.shape.w s.args.shape.h
   size = sized _ _ s.requires.0.size
 
-  column : 64 * (s.args.i % c.roots_along-across.result) < s.args.w
-  column = subst (λ (m : ℕ). 64 * (s.args.i % m) < s.args.w) (sym c.roots_along-across.ensures) (root_column size s.args.i s.requires.1)
+  column : 64 * (s.args.i % c.roots_along-across.result) < s.args.shape.w
+  column = subst (λ (m : ℕ). 64 * (s.args.i % m) < s.args.shape.w) (sym c.roots_along-across.ensures) (root_column size s.args.i s.requires.1)
 
-  row : 64 * (s.args.i / c.roots_along-across.result) < s.args.h
-  row = subst (λ (m : ℕ). 64 * (s.args.i / m) < s.args.h) (sym c.roots_along-across.ensures) (root_row size s.args.i s.requires.1)
+  row : 64 * (s.args.i / c.roots_along-across.result) < s.args.shape.h
+  row = subst (λ (m : ℕ). 64 * (s.args.i / m) < s.args.shape.h) (sym c.roots_along-across.ensures) (root_row size s.args.i s.requires.1)
 
-returns : tie.Need-returns-in-Done
+returns : tie.Need-returns-in-Ok
 returns c =
     let k = c.is_horizontal in
-    listed_root c.requires.0 c.args.i c.requires.1 k.result c.args.halved c.args.top c.requires.3 _ c.requires.2 _ _
-    (rw c.roots_along-across.ensures at c.root_list.ensures) (pass_of c.args.pass) _ k.ensures c.in-Done.is
+    listed_root c.requires.0 c.args.i c.requires.1 k.result c.args.shape.halved c.args.shape.top c.requires.3 _ c.requires.2 _ _
+    (rw c.roots_along-across.ensures at c.root_list.ensures) (pass_of c.args.pass) _ k.ensures c.in-Ok.is
 
-returns-2 : tie.Need-returns-in-Refused
+returns-2 : tie.Need-returns-in-Err
 returns-2 c =
     let k = c.is_horizontal in
-    absurd (list_met c.requires.0 c.args.i c.requires.1 k.result c.args.halved c.args.top c.requires.3 _ c.requires.2 _ _
-    (rw c.roots_along-across.ensures at c.root_list.ensures) _ c.in-Refused.is)
+    absurd (list_met c.requires.0 c.args.i c.requires.1 k.result c.args.shape.halved c.args.shape.top c.requires.3 _ c.requires.2 _ _
+    (rw c.roots_along-across.ensures at c.root_list.ensures) _ c.in-Err.is)
 
 pub root_edges_spec : {M : Type 1} → statement M
 root_edges_spec =

@@ -13,10 +13,10 @@ use Rattle.df_check.proofs.check.keep_ok.Statement.{statement}
 use Rattle.df_check.proofs.check.keep_ok.Tie as tie
 
 abbrev invariant-loop : tie.invariant-loop-i
-invariant-loop keep ok₀ i₀ ok i = (i ≤ length keep) × (ok ≡ all_below (λ (k : ℕ). leb (get_or keep k 0) 1) i)
+invariant-loop keep ok₀ i₀ n ok i = (i ≤ length keep) × (ok ≡ all_below (λ (k : ℕ). leb (get_or keep k 0) 1) i)
 
 abbrev decreases-loop : tie.decreases-loop-i
-decreases-loop keep ok₀ i₀ ok i = length keep - i
+decreases-loop keep ok₀ i₀ n ok i = length keep - i
 
 loop_holds : tie.Need-loop-i-init invariant-loop decreases-loop
 loop_holds c = (omega arith, sym (scan_none _))

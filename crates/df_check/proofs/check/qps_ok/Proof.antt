@@ -14,10 +14,10 @@ use Rattle.df_check.proofs.check.qps_ok.Statement.{statement}
 use Rattle.df_check.proofs.check.qps_ok.Tie as tie
 
 abbrev invariant-loop : tie.invariant-loop-i
-invariant-loop words ok₀ i₀ ok i = (i ≤ length words) × (ok ≡ all_below (λ (k : ℕ). leb (qp_of (get_or words k 0)) 51) i)
+invariant-loop words ok₀ i₀ n ok i = (i ≤ length words) × (ok ≡ all_below (λ (k : ℕ). leb (qp_of (get_or words k 0)) 51) i)
 
 abbrev decreases-loop : tie.decreases-loop-i
-decreases-loop words ok₀ i₀ ok i = length words - i
+decreases-loop words ok₀ i₀ n ok i = length words - i
 
 loop_holds : tie.Need-loop-i-init invariant-loop decreases-loop
 loop_holds c = (omega arith, sym (scan_none _))

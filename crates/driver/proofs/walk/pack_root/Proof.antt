@@ -10,7 +10,7 @@ use Rattle.driver.proofs.walk.pack_root.Statement.{statement}
 use Rattle.driver.proofs.walk.pack_root.Tie as tie
 
 -- the states after the root's leaves were listed, and the call's start
-abbrev listed_at : tie.In-Done → tie.After-root_leaves
+abbrev listed_at : tie.In-Ok → tie.After-root_leaves
 listed_at c = c.before.before.before
 
 abbrev start : tie.After-root_leaves → tie.Start
@@ -21,7 +21,7 @@ pack_requires c κs =
     let e = listed_at c.before in
     let s = start e in
     let a = s.requires.0 in
-    let r = listed (root_told _ _ _ a.size a.long a.walked s.args.i s.requires.1 _ _ _ (simp length-take (omega (arith, s.requires.2))) e.root_leaves.ensures _ c.in-Done.is) in
+    let r = listed (root_told _ _ _ a.size a.long a.walked s.args.i s.requires.1 _ _ _ (simp length-take (omega (arith, s.requires.2))) e.root_leaves.ensures _ c.in-Ok.is) in
     (sides r.blocks, s.requires.3)
 
 -- the walk was accepted, so the root is not refused
@@ -38,7 +38,7 @@ returns-2 c =
     let e = listed_at c.before.before.before.before.before.before in
     let s = start e in
     let a = s.requires.0 in
-    let r = listed (root_told _ _ _ a.size a.long a.walked s.args.i s.requires.1 _ _ _ (simp length-take (omega (arith, s.requires.2))) e.root_leaves.ensures _ c.in-Done.is) in
+    let r = listed (root_told _ _ _ a.size a.long a.walked s.args.i s.requires.1 _ _ _ (simp length-take (omega (arith, s.requires.2))) e.root_leaves.ensures _ c.in-Ok.is) in
     (listed_packed a s.requires.1 r p, p.long)
 
 fits : tie.Need-slice_bounds-list-end

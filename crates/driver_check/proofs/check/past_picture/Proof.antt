@@ -42,7 +42,7 @@ loop_holds c = let s = start c in (omega arith, refl, passed_no_root s.args.leav
 
 -- ---- a turn: where its root's leaves are counted, and its start
 
-abbrev turn_at_lem : tie.In-Done invariant-loop decreases-loop → tie.In-loop-i invariant-loop decreases-loop
+abbrev turn_at_lem : tie.In-Ok invariant-loop decreases-loop → tie.In-loop-i invariant-loop decreases-loop
 turn_at_lem c = c.before.before.before.before
 
 early : (c : tie.In-loop-i invariant-loop decreases-loop) → let a = (start c.before.before).args in c.loop-i.i < root_count a.w a.h
@@ -53,7 +53,7 @@ past_leaves_requires c κs =
     let turn = turn_at_lem c.before in
     let a = (start turn.before.before).requires in
     let l = turn.loop-i in
-    let r = listed (root_told _ _ _ a.size a.long a.walked l.i (early turn) _ _ _ l.invariant.1 c.root_leaves.ensures _ c.in-Done.is) in
+    let r = listed (root_told _ _ _ a.size a.long a.walked l.i (early turn) _ _ _ l.invariant.1 c.root_leaves.ensures _ c.in-Ok.is) in
     (sides r.blocks, omega (arith, l.invariant.3, few turn.before.before, turn.loop-i-test.true), l.invariant.4)
 
 loop_again : tie.Need-loop-i-preserved invariant-loop decreases-loop
@@ -62,7 +62,7 @@ loop_again c =
     let s = start turn.before.before in
     let l = turn.loop-i in
     let a = s.requires in
-    let r = listed (root_told _ _ _ a.size a.long a.walked l.i (early turn) _ _ _ l.invariant.1 c.root_leaves.ensures _ c.in-Done.is) in
+    let r = listed (root_told _ _ _ a.size a.long a.walked l.i (early turn) _ _ _ l.invariant.1 c.root_leaves.ensures _ c.in-Ok.is) in
     let p = c.past_leaves-place.ensures in (
       omega (arith, turn.loop-i-test.true),
       r.blocks.long,

@@ -1,5 +1,4 @@
 -- `rows::run::as_above` meets its contract: the units of the run and the one left of it, compared with those above. Assumes nothing.
-use Prim.Native.Nat.{◌-◌}
 use native.Mathlib.Omega.{arith}
 use borrow.Author.Rules.{rules}
 use Rattle.rows_rules.proofs.Runs.{above_column, above_byte}

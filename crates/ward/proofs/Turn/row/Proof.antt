@@ -26,7 +26,7 @@ input s =
       out = a.out.now;
     }
 
-abbrev start : tie.In-Done → tie.Start
+abbrev start : tie.In-Ok → tie.Start
 start c = c.before.before.before.before.before.before
 
 -- ---- where the checks found nothing
@@ -34,9 +34,9 @@ start c = c.before.before.before.before.before.before
 AskedOf : Input → Type 0
 AskedOf i = Asked i.turn i.plane i.row i.format i.w i.h (length i.y) (length i.u) (length i.v) i.window (length i.out)
 
-asked : (c : tie.In-Done) → AskedOf (input (start c))
+asked : (c : tie.In-Ok) → AskedOf (input (start c))
 unfolding AskedOf
-asked c = all_passed (input (start c)) _ c.checked_row-found.ensures c.in-Done.is
+asked c = all_passed (input (start c)) _ c.checked_row-found.ensures c.in-Ok.is
 
 -- the turn's plane is the one that is asked for
 same : (i : Input) → AskedOf i → i.turn.plane ≡ i.plane
@@ -71,19 +71,19 @@ given_requires_3 c κs =
 
 -- ---- the outcome
 
-returns : tie.Need-returns-in-Refused
-returns c = row_refused (input c.before.before.before.before.before.before) _ c.checked_row-found.ensures _ c.in-Refused.is
+returns : tie.Need-returns-in-Err
+returns c = row_refused (input c.before.before.before.before.before.before) _ c.checked_row-found.ensures _ c.in-Err.is
 
 returns-2 : tie.Need-returns-in-0
 returns-2 c =
     let i = input c.before.before.before.before.before.before.before.before.before.before.before in
-    row_given i _ c.checked_row-found.ensures c.in-Done.is _
+    row_given i _ c.checked_row-found.ensures c.in-Ok.is _
     (lent_0 i.y i.u i.v i.turn.plane (same i (asked c.before.before.before.before.before) ∙ c.in-0.is)) _ c.given.ensures
 
 returns-3 : tie.Need-returns-in-1
 returns-3 c =
     let i = input c.before.before.before.before.before.before.before.before.before.before.before in
-    row_given i _ c.checked_row-found.ensures c.in-Done.is _
+    row_given i _ c.checked_row-found.ensures c.in-Ok.is _
     (lent_1 i.y i.u i.v i.turn.plane (same i (asked c.before.before.before.before.before) ∙ c.in-1.is)) _
     c.given-in-1.ensures
 
@@ -92,7 +92,7 @@ returns-4 c =
     let i = input c.before.before.before.before.before.before.before.before.before.before.before in
     let s = same i (asked c.before.before.before.before.before) in
     let r = c.in_default.in_default-own.rest in
-    row_given i _ c.checked_row-found.ensures c.in-Done.is _
+    row_given i _ c.checked_row-found.ensures c.in-Ok.is _
     (lent_2 i.y i.u i.v i.turn.plane (λ e. r.0.1 (sym s ∙ e)) (λ e. r.1 (sym s ∙ e))) _ c.given-in_default.ensures
 
 pub row_spec : {M : Type 1} → statement M

@@ -28,10 +28,10 @@ input_of s =
       settings = a.settings;
     }
 
-returns : tie.Need-returns-in-Refused
+returns : tie.Need-returns-in-Err
 unfolding input_of
 returns c = band_refused (input_of c.before.before.before.before.before.before.before.before.before) _
-    c.checked_band.ensures _ c.in-Refused.is
+    c.checked_band.ensures _ c.in-Err.is
 
 deblock_checked_requires : tie.Need-deblock_checked-requires
 deblock_checked_requires c κs = sym c.checked_band.ensures ∙ c.in_default.is

@@ -1,12 +1,12 @@
 -- `df::band::Bands::deblock_checked` meets its contract: the checks found nothing, and both passes over the band follow.
 -- Assumes nothing.
+use Rattle.std.specs.Prelude.{Ok}
 use Prim.Native.Nat.{ℕ, zero, suc, ◌+◌, ◌-◌, ◌*◌, ◌/◌, ◌≤◌}
 use mathlib.Core.Path.{◌≡◌, refl, ap, ◌∙◌}
 use native.Mathlib.Omega.{arith}
 use mir.Syntax.{w64}
 use mir.Val.{Fits}
 use lib.ListN.{length}
-use Rattle.def.specs.declared.Answer.TheVariants.{Done}
 use Rattle.def.proofs.Sizes.{sized}
 use Rattle.band_rows.specs.Rows.{band_rows, rows_above}
 use Rattle.band_rows.proofs.Bands.{few_rows}
@@ -41,7 +41,7 @@ input_of s =
     }
 
 -- the checks found nothing
-fine : (s : tie.Start) → check (input_of s) ≡ Done
+fine : (s : tie.Start) → check (input_of s) ≡ Ok tt
 unfolding input_of
 fine s = s.requires
 
@@ -82,7 +82,7 @@ sixteenth n = omega arith
 long : (c : tie.After-entries_by-table) → length c.entries_by-table.result ≡ 624
 long c = ap length c.entries_by-table.ensures ∙ entries_long _ _ _ _ _ _
 
-band_passes_requires : tie.Need-band_passes-n-requires
+band_passes_requires : tie.Need-band_passes-counts-requires
 unfolding input_of
 band_passes_requires c κs =
     let s = start c.before.before.before.before.before.before in
@@ -97,7 +97,7 @@ returns : tie.Need-returns
 unfolding input_of
 returns c =
     let s = start c.before.before.before.before.before.before.before.before.before.before.before.before.before.before.before.before in
-    let b = c.band_passes-n in
+    let b = c.band_passes-counts in
     done_by (input_of s) (fine s) (some s) (skip_is c.before.before.before.before.before.before.before.before.before.before.before.before.before.before.before.before) (top_is c.before.before.before.before.before.before.before.before.before.before.before.before.before.before.before.before) (own_is c.before.before.before.before.before.before.before.before.before.before.before.before.before.before.before.before) c.entries_by-table.ensures
     b.new.y b.new.u b.new.v b.new.words
     b.result.vertical b.result.horizontal b.ensures
@@ -113,8 +113,8 @@ deblock_checked_spec =
     (λ c. own_fits _ _ c.band_rows-rows.ensures)
     band_passes_requires
     add_after
-    (λ c. c.band_passes-n.auto.y)
-    (λ c. c.band_passes-n.auto.u)
-    (λ c. c.band_passes-n.auto.v)
-    (λ c. c.band_passes-n.auto.words)
+    (λ c. c.band_passes-counts.auto.y)
+    (λ c. c.band_passes-counts.auto.u)
+    (λ c. c.band_passes-counts.auto.v)
+    (λ c. c.band_passes-counts.auto.words)
     returns)

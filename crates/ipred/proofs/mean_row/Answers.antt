@@ -1,0 +1,21 @@
+-- `ipred::mean_row`: a turn stores one sample more of the row.
+use Rattle.std.proofs.Common.{arith, ◌+◌, refl}
+use Rattle.laws.proofs.Planes.{rowed_none, rowed_more, rowed_all}
+use Rattle.samples.proofs.Samples.{sample_at_lem}
+use Rattle.ipred.proofs.mean_row.Goals as goal
+
+pub loop-j-init : goal.loop-j-init
+loop-j-init c = rowed_none _ _ _ _
+
+pub overflow_add-block-in-loop-j-2 : goal.overflow_add-block-in-loop-j-2
+overflow_add-block-in-loop-j-2 c =
+    let a = c.args in
+    let j = c.loop-j.j in
+    let ok = c.requires.3 in
+    omega (arith, sample_at_lem _ (a.a + j) ok (omega arith), sample_at_lem _ (a.b + j) ok (omega arith))
+
+pub loop-j-preserved : goal.loop-j-preserved
+loop-j-preserved c = rowed_more _ _ _ _ _ c.loop-j.j _ (omega arith) refl c.loop-j.invariant
+
+pub returns : goal.returns
+returns c = rowed_all _ _ _ _ _ _ c.loop-j.j (omega arith) c.loop-j.invariant

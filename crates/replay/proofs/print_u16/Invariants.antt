@@ -1,9 +1,0 @@
--- `replay::print_u16` has printed the numbers that it has passed.
-use Rattle.std.proofs.Common.{◌∷◌, take}
-use Rattle.std.specs.Fmt.{decimal}
-use Rattle.std.specs.Io.KnownBytes.{Appends}
-use Rattle.std.specs.List.{flat_map}
-use Rattle.replay.proofs.print_u16.Given as goal
-
-abbrev pub invariant-loop-n : goal.invariant-loop-n
-invariant-loop-n g l = Appends (g.W.Write.contents l.initial.out) (g.W.Write.contents l.out) (flat_map (λ n. 32 ∷ decimal n) (take l.n-index l.values))

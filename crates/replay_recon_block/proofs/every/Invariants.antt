@@ -1,6 +1,0 @@
--- `replay_recon_block::every` ends: each case starts past the one before.
-use Rattle.std.proofs.Common.{length, ◌-◌}
-use Rattle.replay_recon_block.proofs.every.Given as goal
-
-abbrev pub decreases-loop-at : goal.decreases-loop-at
-decreases-loop-at l = length l.s - l.at
