@@ -11,10 +11,10 @@
  * slices may run on different threads at the same time; a slice that is only read may be lent to several.
  *
  * Bytes of stack that each call was measured to need, its arguments and its return address among them (tools/stack/run):
- * derived_chroma_qp_mapping_tables 448, get_avail_intra 80, get_avail_inter 85, get_mpm 105, get_nbr 480, ipred_b 136, recon 72, recon_plane 241,
- * check 2,064, leaves 2,152, put_map 488, get_map 992, mend 472, visiting_rank 8, list_edges 3,880, reconstruct 11,968, deblock 7,120, deblock_band
- * 6,832, fill_rows 728, set_motion 312, set_flag 280, deblock_by_rows 7,152, listing 53,056, read_header 408, write_header 232, read_frame 240,
- * write_frame 112, import_frame 536, ward_row 457.
+ * derived_chroma_qp_mapping_tables 448, get_avail_intra 80, get_avail_inter 85, get_mpm 120, get_nbr 480, ipred_b 144, recon 72, recon_plane 241,
+ * check 2,064, leaves 2,136, put_map 472, get_map 992, mend 504, visiting_rank 8, list_edges 3,848, reconstruct 11,952, deblock 7,120, deblock_band
+ * 6,848, fill_rows 712, set_motion 312, set_flag 280, deblock_by_rows 7,152, listing 53,024, read_header 440, write_header 232, read_frame 248,
+ * write_frame 112, import_frame 584, ward_row 473.
  *
  * Sizes, lengths and their order are in specs/ of the crate that each call names; w and h are the picture's sides in luma samples. */
 #ifndef LOMSAKEUN_DECODER_H

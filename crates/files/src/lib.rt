@@ -78,6 +78,7 @@ pub fn read_some(file: &mut Source, room: &mut [u8]) -> io::Result<usize>
 }
 
 // Reads until the room is full, the file ends or a read fails: how many bytes there are at the start of the room.
+// kept: a `while`, as a read says how far it went, and no range counts the turns.
 pub fn read_full(file: &mut Source, room: &mut [u8]) -> usize
     ensures { IsPrefixLen result room.new }
 {

@@ -16,6 +16,7 @@ pub fn decimal(n: u64, out: &mut [u8; 20]) -> usize
     k
 }
 
+// kept: a `while`, as the number that is left says when it ends, and no range counts the turns.
 fn digit_count(n: u64) -> usize
     ensures { IsDigitCount n result }
 {

@@ -126,6 +126,7 @@ fn ipred_ur(side: usize, run: &[u16], block: &mut [u16])
 
 // The prediction is chosen by the mode's number. 9 comes before 7, so samples are tested for a mode that there is.
 // A side of 4 is a literal at each mode, so that the compiler lays its loops out flat.
+// kept: a byte, as lomsakeun_ipred_b is lent it, and one of 5 to 255 is to be refused.
 fn predict(mode: u8, side: usize, run: &[u16], block: &mut [u16]) -> Result<(), Refusal>
     requires { (Lent side run.now block.old) × (component_side_ok side ≡ true) }
     ensures { Gives chosen

@@ -64,6 +64,7 @@ pub fn told(rt: &HostRuntime, written: io::Result<()>) -> Result<(), Stop> {
 // ---- refusals
 
 // What a refusal's number means, as it is printed behind `refused=`.
+// kept: the number, as a sheet's listing, which is text, says no more.
 fn words_of(number: u8) -> &'static str {
     match number {
         1 => "a side of the picture that is not a multiple of 4 from 4 to 4096",

@@ -33,7 +33,7 @@ use Rattle.ward_check.proofs.Sizes.{part_le, part_sum, part_small, across_small,
 use Rattle.ward_rows.specs.Rows.{sample_at, last_row, made_ok, put_ok, put_row}
 use Rattle.ward_rows.proofs.Runs.{Within, lies_within}
 use Rattle.ward.specs.Fits.{Fits}
-use Rattle.ward.specs.RowCall.{Input, Outcome, reading_of, refusal, turn_ok, asked, plane_of, row_ok, row_into, given, lent_plane, outcome}
+use Rattle.ward.specs.RowCall.{Input, Outcome, reading_of, refusal, asked, plane_of, row_ok, row_into, given, lent_plane, outcome}
 use Rattle.ward.specs.Turns.{next_turn}
 use Rattle.ward.specs.declared.Turn.{Turn}
 use Rattle.ward.proofs.Ladder.{Asked, stopped, told, gone}

@@ -82,14 +82,10 @@ pub fn write_frame(
         (record { format = format; w = w; h = h; y = y.now; u = u.now; v = v.now; out = out.old })
         (record { number = answer_number result; out = out.new }) }
 {
-    match checked_picture(format, w, h, y, u, v, out.len()) {
-        Err(r) => Err(r),
-        Ok(()) => {
-            let luma = put_line(out);
-            let first = put_plane(out, luma, y);
-            let second = put_plane(out, first, u);
-            put_plane(out, second, v);
-            Ok(())
-        }
-    }
+    checked_picture(format, w, h, y, u, v, out.len())?;
+    let luma = put_line(out);
+    let first = put_plane(out, luma, y);
+    let second = put_plane(out, first, u);
+    put_plane(out, second, v);
+    Ok(())
 }

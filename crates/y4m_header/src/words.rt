@@ -114,6 +114,7 @@ fn ending(said: Said, at: usize) -> Result<Header, Misread>
 }
 
 // The words after the magic one, in the bytes that a header may have.
+// kept: a `while`, as a turn takes a word, whose length says where the next one starts.
 fn words_in(head: &[u8]) -> Result<Header, Misread>
     requires { (9 ≤ length head.now) × (length head.now ≤ 256) }
     ensures { result ≡ words_of (words 256 9 (drop 9 head.now) nothing) }

@@ -68,8 +68,6 @@ pub fn write_header(
         (record { format = format; w = w; h = h; f = f; g = g; a = a; b = b; out = out.old })
         (record { reading = writing.reading_of result; out = out.new }) }
 {
-    match checked(format, w, h, f, g, a, b, out.len()) {
-        Err(r) => Err(r),
-        Ok(()) => Ok(put_header(out, w, h, f, g, a, b)),
-    }
+    checked(format, w, h, f, g, a, b, out.len())?;
+    Ok(put_header(out, w, h, f, g, a, b))
 }
