@@ -7,8 +7,8 @@
  * a pointer is not NULL, also where the length is 0, and that many elements lie behind it; a slice that is written overlaps no other
  * argument; a bool is true or false.
  *
- * No call allocates or keeps anything from one call to the next: what it works on is lent to it or lies on its stack. So calls on different
- * slices may run on different threads at the same time; a slice that is only read may be lent to several.
+ * No call allocates or keeps anything from one call to the next: it works on the caller's buffers and on its stack. So calls on different
+ * slices may run on different threads at the same time; a slice that is only read may be passed to several.
  *
  * Bytes of stack that each call was measured to need, its arguments and its return address among them (tools/stack/run):
  * derived_chroma_qp_mapping_tables 448, get_avail_intra 80, get_avail_inter 85, get_mpm 120, get_nbr 480, ipred_b 144, recon 72, recon_plane 241,
@@ -26,7 +26,7 @@
 
 /* What is lent, and how many elements it has. w and h are the sides of the picture, or of what a call says it is lent of one.
  *
- * By format. A call that has a bool colour is told it: reconstruct, deblock, deblock_by_rows, deblock_band, write_header, write_frame and ward_row.
+ * By format. These calls take a bool colour: reconstruct, deblock, deblock_by_rows, deblock_band, write_header, write_frame and ward_row.
  * A grey picture has no chroma, and what belongs to chroma has length 0.
  *
  *                           colour                        grey
