@@ -61,7 +61,7 @@ pub fn checked_by_rows(
     if !rows_length_ok(w, h, rows.len()) {
         return Err(Refusal::Length);
     }
-    checked(
+    let passed = checked(
         w,
         h,
         y,

@@ -1,5 +1,6 @@
 // The picture of two frames' differences: a PGM as large as the luma plane. A sample that is the same is black, or dark grey on the grid of units; one that
 // differs, or whose colour does, is the brighter the more it does.
+use files::Number;
 use say::Stop;
 use std::io;
 use std::io::Write;
@@ -47,7 +48,7 @@ fn put(rt: &HostRuntime, path: &[u8], a: &Picture, b: &Picture) -> io::Result<()
     if room.len() < w {
         return Err(io::Error::from(io::ErrorKind::InvalidInput));
     }
-    write!(file, "P5\n{w} {h}\n255\n")?;
+    write!(file, "P5\n{} {}\n255\n", Number(w), Number(h))?;
     let out = &mut room[..w];
     for y in 0..h {
         row(a, b, y, out);

@@ -689,7 +689,7 @@ take_marks_refusals =
     }
 
 pub put_map_once : Sole 2 put-map-kinds.ps put-map-kinds.r put-map-reads.Post (λ κs r x. ended r (x.1.1.1.0.now ∷ []))
-put_map_once κs a r r' x x' p q = settled put_map.outcome (λ o. record { number = o.number; at = o.at }) (λ o. o.buf ∷ []) p q (placed_apart _ r r')
+put_map_once κs a r r' x x' p q = settled put_map.outcome (λ o. record { number = o.number; at = o.at }) (λ o. o.buf ∷ []) p q (placed_apart r r')
 
 abbrev putting : ℕ → List ℕ → put_map.Input
 putting h splits = record { w = 4; h = h; splits = splits; buf = []; at = 0 }
@@ -709,7 +709,7 @@ put_map_refusals =
     }
 
 pub get_map_once : Sole 2 get-map-kinds.ps get-map-kinds.r get-map-reads.Post (λ κs r x. ended r (x.1.1.1.1.0.now ∷ []))
-get_map_once κs a r r' x x' p q = settled get-map.outcome (λ o. record { number = o.number; at = o.at }) (λ o. o.map ∷ []) p q (placed_apart _ r r')
+get_map_once κs a r r' x x' p q = settled get-map.outcome (λ o. record { number = o.number; at = o.at }) (λ o. o.map ∷ []) p q (placed_apart r r')
 
 abbrev getting : ℕ → List ℕ → List ℕ → get-map.Input
 getting h src map = record { w = 4; h = h; src = src; at = 0; map = map }
@@ -733,7 +733,7 @@ get_map_refusals =
     }
 
 pub take_map_once : Sole 2 take-map-kinds.ps take-map-kinds.r take-map-reads.Post (λ κs r x. ended r (x.1.1.1.1.1.0.now ∷ []))
-take_map_once κs a r r' x x' p q = settled take-map.outcome (λ o. record { number = o.number; at = o.at }) (λ o. o.map ∷ []) p q (placed_apart _ r r')
+take_map_once κs a r r' x x' p q = settled take-map.outcome (λ o. record { number = o.number; at = o.at }) (λ o. o.map ∷ []) p q (placed_apart r r')
 
 abbrev digits_of_lem : (w from to : ℕ) → List ℕ → take-map.Input
 digits_of_lem w from to map = record { w = w; h = 4; src = 0 ∷ []; from = from; to = to; map = map }

@@ -102,6 +102,7 @@ pub use mend::mend;
 pub use mpm::get_mpm;
 pub use mpm::get_mpm_number;
 pub use nbr::get_nbr;
+pub use pack::Placed;
 pub use pack::bits_in;
 pub use pack::put_map;
 pub use pack_parts::Reader;

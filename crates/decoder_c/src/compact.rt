@@ -16,13 +16,9 @@ pub extern "C" fn lomsakeun_put_map(
         (record { w = w; h = h; splits = splits.now; buf = buf.old; at = at.old })
         (record { number = result; at = at.new; buf = buf.new }) }
 {
-    match pack::put_map(w, h, splits, buf, *at) {
-        Ok(next) => {
-            *at = next;
-            0
-        }
-        Err(r) => def::refusal_number(r),
-    }
+    let placed = pack::put_map(w, h, splits, buf, *at);
+    *at = placed.at;
+    def::answer_number(placed.answer)
 }
 
 #[unsafe(no_mangle)]
@@ -37,11 +33,7 @@ pub extern "C" fn lomsakeun_get_map(
         (record { w = w; h = h; src = src.now; at = at.old; map = map.old })
         (record { number = result; at = at.new; map = map.new }) }
 {
-    match unpack::get_map(w, h, src, *at, map) {
-        Ok(next) => {
-            *at = next;
-            0
-        }
-        Err(r) => def::refusal_number(r),
-    }
+    let placed = unpack::get_map(w, h, src, *at, map);
+    *at = placed.at;
+    def::answer_number(placed.answer)
 }

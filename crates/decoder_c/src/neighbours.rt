@@ -111,6 +111,17 @@ fn ranks_checked(
     mpm::get_mpm_number(w, h, words, modes, table, Scu(x), Scu(y))
 }
 
+// A part's bytes, into a slice of its length.
+// kept: byte by byte, as `mend`'s `copy` says.
+fn copy(part: &[u8], out: &mut [u8])
+    requires { length part.now ≡ length out.old }
+    ensures { out.new ≡ part.now }
+{
+    for k in 0..part.len() {
+        out[k] = part[k];
+    }
+}
+
 // A part of the lent table cannot be answered to C: its five bytes are copied.
 #[unsafe(no_mangle)]
 pub extern "C" fn lomsakeun_get_mpm(
@@ -130,7 +141,10 @@ pub extern "C" fn lomsakeun_get_mpm(
     match ranks_checked(w, h, words, modes, table, x, y, ranks.len()) {
         Err(r) => def::refusal_number(r),
         Ok(()) => {
-            ranks.copy_from_slice(mpm::get_mpm(w, h, words, modes, table, Scu(x), Scu(y)));
+            copy(
+                mpm::get_mpm(w, h, words, modes, table, Scu(x), Scu(y)),
+                ranks,
+            );
             0
         }
     }

@@ -5,18 +5,17 @@
 
 use asked::{Asked, Form};
 use files::Source;
+use out::Out;
 use say::{Done, Stop};
 use std::io;
-use std::io::{BufWriter, Stdout, Write};
+use std::io::Write;
 use std::process::ExitCode;
 use tree_file::Tree;
 
 mod asked; // asked.rt: what the arguments ask for
+mod out; // out.rt: the way to standard output
 mod roots; // roots.rt: the tree, root by root
 mod svg; // svg.rt: the parts of the picture
-
-// The way to standard output.
-type Out = BufWriter<Stdout>;
 
 // What is drawn, and how.
 #[derive(Clone, Copy)]
@@ -45,7 +44,7 @@ fn map_room() -> [u8; 4194305] {
 
 // The picture, or why it cannot be written.
 fn drawn(rt: &HostRuntime, job: Job, map: &[u8]) -> io::Result<()> {
-    let mut out: Out = BufWriter::with_capacity(rt.alloc(), 65536, rt.stdout())?;
+    let mut out = Out::new(rt.stdout());
     svg::start(&mut out, job)?;
     let counts = roots::bands(&mut out, job, map)?;
     svg::end(&mut out, job, counts)?;

@@ -2,6 +2,7 @@
 ghost use Rattle.std.specs.Prelude.{◌*◌, ◌≤◌};
 
 use crate::{Counts, Job, Out};
+use files::Number;
 use std::io;
 use std::io::Write;
 
@@ -66,17 +67,17 @@ fn thin(job: Job) -> usize {
 
 // The frame, and the picture's ground. A leaf's outline is as thin as can be seen.
 pub(crate) fn start(out: &mut Out, job: Job) -> io::Result<()> {
-    let width = (pixels(job, job.w) + 72).max(640);
-    let height = pixels(job, job.h) + 104;
+    let width = Number((pixels(job, job.w) + 72).max(640));
+    let height = Number(pixels(job, job.h) + 104);
     write!(
         out,
         "<svg xmlns=\"http://www.w3.org/2000/svg\" width=\"{width}\" height=\"{height}\">\n"
     )?;
     style(&mut *out)?;
-    let scale = job.scale;
-    let thin = thin(job);
-    let w = job.w;
-    let h = job.h;
+    let scale = Number(usize::from(job.scale));
+    let thin = Number(thin(job));
+    let w = Number(job.w);
+    let h = Number(job.h);
     write!(
         out,
         "<rect width=\"100%\" height=\"100%\" fill=\"#fff\"/>\n\
@@ -105,12 +106,16 @@ pub(crate) fn end_path(out: &mut Out) -> io::Result<()> {
 
 // A leaf's outline, half a sample inside it: the edges around it stay to be seen.
 pub(crate) fn leaf(out: &mut Out, x: usize, y: usize, side: usize) -> io::Result<()> {
-    let inner = side.wrapping_sub(1);
+    let x = Number(x);
+    let y = Number(y);
+    let inner = Number(side.wrapping_sub(1));
     write!(out, "M{x}.5 {y}.5h{inner}v{inner}h-{inner}z")
 }
 
 // An edge, with a gap at both ends: each is one of its own.
 pub(crate) fn edge(out: &mut Out, pass: Pass, x: usize, y: usize) -> io::Result<()> {
+    let x = Number(x);
+    let y = Number(y);
     match pass {
         Pass::Vertical => write!(out, "M{x} {y}.2v3.6"),
         Pass::Horizontal => write!(out, "M{x}.2 {y}h3.6"),
@@ -124,8 +129,9 @@ pub(crate) fn order(out: &mut Out, pass: Pass, x: usize, y: usize, n: usize) -> 
         Pass::Vertical => (0, 2),
         Pass::Horizontal => (2, 0),
     };
-    let x = x.wrapping_add(right);
-    let y = y.wrapping_add(down);
+    let x = Number(x.wrapping_add(right));
+    let y = Number(y.wrapping_add(down));
+    let n = Number(n);
     write!(
         out,
         "<text class=\"{class}\" x=\"{x}\" y=\"{y}.4\">{n}</text>\n"
@@ -144,10 +150,10 @@ fn inside(at: usize, side: usize, end: usize) -> usize {
 
 // A block whose byte was changed.
 pub(crate) fn changed(out: &mut Out, job: Job, b: map_file::Block) -> io::Result<()> {
-    let width = inside(b.x, b.side, job.w);
-    let height = inside(b.y, b.side, job.h);
-    let x = b.x;
-    let y = b.y;
+    let width = Number(inside(b.x, b.side, job.w));
+    let height = Number(inside(b.y, b.side, job.h));
+    let x = Number(b.x);
+    let y = Number(b.y);
     write!(
         out,
         "<rect class=\"c\" x=\"{x}\" y=\"{y}\" width=\"{width}\" height=\"{height}\"/>\n"
@@ -166,8 +172,10 @@ pub(crate) fn change(
 ) -> io::Result<()> {
     let last = inside(b.y, b.side, job.h).wrapping_sub(2);
     let line = (2 * (level % 4)).min(last);
-    let x = b.x;
-    let y = b.y.wrapping_add(line).wrapping_add(1);
+    let x = Number(b.x);
+    let y = Number(b.y.wrapping_add(line).wrapping_add(1));
+    let old = Number(usize::from(old));
+    let new = Number(usize::from(new));
     write!(
         out,
         "<text class=\"k\" x=\"{x}.6\" y=\"{y}.4\">{old}&#8594;{new}</text>\n"
@@ -179,11 +187,12 @@ pub(crate) fn change(
 // A number on a scale: the column or the row of samples that starts there.
 fn mark(out: &mut Out, job: Job, down: bool, at: usize) -> io::Result<()> {
     let pixel = pixels(job, at);
+    let at = Number(at);
     if down {
-        let y = pixel + 84;
+        let y = Number(pixel + 84);
         return write!(out, "<text class=\"y\" x=\"42\" y=\"{y}\">{at}</text>\n");
     }
-    let x = pixel + 48;
+    let x = Number(pixel + 48);
     write!(out, "<text class=\"x\" y=\"74\" x=\"{x}\">{at}</text>\n")
 }
 
@@ -200,12 +209,12 @@ fn scale_of(out: &mut Out, job: Job, down: bool, end: usize) -> io::Result<()> {
 
 // What the picture has: its size, the edges of both passes and the leaves.
 fn legend(out: &mut Out, job: Job, drawn: Counts) -> io::Result<()> {
-    let w = job.w;
-    let h = job.h;
-    let limit = job.limit;
-    let vertical = drawn.vertical;
-    let horizontal = drawn.horizontal;
-    let leaves = drawn.leaves;
+    let w = Number(job.w);
+    let h = Number(job.h);
+    let limit = Number(job.limit);
+    let vertical = Number(drawn.vertical);
+    let horizontal = Number(drawn.horizontal);
+    let leaves = Number(drawn.leaves);
     write!(
         out,
         "<text x=\"48\" y=\"22\">{w} x {h} samples, transform limit {limit}</text>\n\
@@ -223,7 +232,8 @@ fn changes(out: &mut Out, n: usize) -> io::Result<()> {
     write!(
         out,
         "<rect x=\"464\" y=\"12\" width=\"12\" height=\"12\" fill=\"#ffe98a\" stroke=\"#7a5c00\" stroke-dasharray=\"3 2\"/>\n\
-<text x=\"484\" y=\"22\">split bytes mended: {n}</text>\n"
+<text x=\"484\" y=\"22\">split bytes mended: {}</text>\n",
+        Number(n)
     )
 }
 

@@ -14,7 +14,7 @@ use std::{fs, io};
 mod number; // number.rt: a number as text
 mod text; // text.rt: why something failed, in words
 
-pub use number::decimal;
+pub use number::{Number, decimal};
 
 // ---- rooms: a call for each keeps the checker from looking into it
 
@@ -140,10 +140,9 @@ pub fn arg_count(rt: &HostRuntime) -> usize {
 
 // Tells on standard error that something failed, by its name, and why: `none.y4m: No such file or directory`. The name need not be text.
 pub fn fail(rt: &HostRuntime, name: &[u8], error: io::Error) {
+    let why = text::of(error);
     let _ = write_all(rt, Stream::Errors, name);
-    let _ = match text::of(rt.alloc(), error) {
-        Ok(why) => eprintln!(rt; ": {why}"),
-        // where there is no memory for the words, with the number behind them
-        Err(_) => eprintln!(rt; ": {error}"),
-    };
+    let _ = write_all(rt, Stream::Errors, b": ");
+    let _ = write_all(rt, Stream::Errors, why.words());
+    let _ = write_all(rt, Stream::Errors, b"\n");
 }

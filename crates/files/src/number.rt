@@ -1,10 +1,27 @@
-// A number as text, in ASCII.
+// A number as text, in ASCII, and as the programs print it.
 ghost use Rattle.std.specs.Prelude.{◌≡◌, ◌+◌, ◌<◌, ◌≤◌, length, take, drop};
 ghost use Rattle.files.specs.Counts.{IsPrefixLen};
 ghost use Rattle.files.specs.Digits.{last_digits, IsDigitCount};
 
+use std::fmt::{self, Display, Formatter, Write};
+use std::str::from_utf8;
+
+// A number that is printed: its digits, as `decimal` puts them.
+#[derive(Clone, Copy)]
+pub struct Number(pub usize);
+
+impl Display for Number {
+    fn fmt<W: Write>(&self, f: &mut Formatter<W>) -> fmt::Result {
+        let mut digits = [0u8; 20];
+        let n = decimal(self.0 as u64, &mut digits);
+        match from_utf8(&digits[..n]) {
+            Ok(text) => f.write_str(text),
+            Err(_) => Err(fmt::Error),
+        }
+    }
+}
+
 // Puts a number's decimal digits at the start of the room: how many there are.
-// kept: programs print by std's macros; what `decimal` promises of the bytes, and its must-fail edits, are stated of this function
 pub fn decimal(n: u64, out: &mut [u8; 20]) -> usize
     ensures in_bounds { IsPrefixLen result out.new }
     ensures len { IsDigitCount n result }

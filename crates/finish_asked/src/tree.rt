@@ -1,7 +1,7 @@
 // The split tree, read into a room for the map of the stream's picture.
 use crate::Job;
 use crate::words_asked::Form;
-use files::Source;
+use files::{Number, Source};
 use say::Stop;
 use y4m_file::Header;
 
@@ -15,10 +15,10 @@ fn from_sheet(
 ) -> Result<u8, Stop> {
     let t = tree_file::by_sheet(rt, at, file, map)?;
     if (t.w != header.w) | (t.h != header.h) {
-        let across = t.w;
-        let down = t.h;
-        let w = header.w;
-        let h = header.h;
+        let across = Number(t.w);
+        let down = Number(t.h);
+        let w = Number(header.w);
+        let h = Number(header.h);
         words::name(rt, at);
         let _ = eprintln!(rt; "the sheet's picture is {across}x{down}, the stream's {w}x{h}");
         return Err(Stop::Refused);

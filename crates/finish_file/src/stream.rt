@@ -1,5 +1,5 @@
 // Every frame of the stream, and what they came to.
-use files::Source;
+use files::{Number, Source};
 use finish_asked::Job;
 use finish_frame::{Lent, Moved, Sum};
 use say::Stop;
@@ -29,18 +29,18 @@ fn every(
 
 // How far samples moved. The bound is request 7's, over the largest entry that is lent; beside it, over the entry of the QP.
 fn tell_moved(rt: &HostRuntime, qp: u8, m: Moved, entries: &[u8; 208]) {
-    let count = m.count;
-    let most = m.most;
-    let bound = 8 * usize::from(finish_asked::largest(entries));
-    let qp_bound = 8 * usize::from(finish_asked::entry(entries, qp));
+    let count = Number(m.count);
+    let most = Number(usize::from(m.most));
+    let bound = Number(8 * usize::from(finish_asked::largest(entries)));
+    let qp_bound = Number(8 * usize::from(finish_asked::entry(entries, qp)));
     let _ = eprintln!(rt; "moved={count} most={most} bound={bound} qp_bound={qp_bound}");
 }
 
 // What the frames came to, however the stream ended.
 fn tell(rt: &HostRuntime, job: Job, sum: Sum, entries: &[u8; 208]) {
-    let frames = sum.frames;
-    let vertical = sum.counts.vertical;
-    let horizontal = sum.counts.horizontal;
+    let frames = Number(sum.frames);
+    let vertical = Number(sum.counts.vertical);
+    let horizontal = Number(sum.counts.horizontal);
     let _ = eprintln!(rt; "frames={frames} vertical={vertical} horizontal={horizontal}");
     if job.asked.moved {
         tell_moved(rt, job.asked.qp, sum.moved, entries);

@@ -1,6 +1,7 @@
 // Where a split map is refused: the first byte of the walk that its block cannot have.
 use crate::{root_count, tell_block, tell_root, tell_size};
 use def::Refusal;
+use files::Number;
 use say::Stop;
 
 // ---- the byte
@@ -33,7 +34,7 @@ fn torn(w: usize, h: usize, map: &[u8], root: usize) -> Option<usize> {
 fn tell_torn(rt: &HostRuntime, w: usize, h: usize, map: &[u8]) {
     for root in 0..root_count(w, h) {
         if let Some(place) = torn(w, h, map, root) {
-            let _ = eprint!(rt; "byte {}, ", 1024 * (root % 4096) + place % 1024);
+            let _ = eprint!(rt; "byte {}, ", Number(1024 * (root % 4096) + place % 1024));
             tell_block(rt, w, root, place);
             return;
         }
@@ -45,7 +46,9 @@ fn tell_torn(rt: &HostRuntime, w: usize, h: usize, map: &[u8]) {
 // How long a map is and has to be, and the root in which a short one ends.
 fn tell_lengths(rt: &HostRuntime, w: usize, h: usize, n: usize) {
     let asked = 1024 * root_count(w, h);
-    let _ = eprint!(rt; "the map has {n} bytes, and that of the picture {asked}");
+    let there = Number(n);
+    let wanted = Number(asked);
+    let _ = eprint!(rt; "the map has {there} bytes, and that of the picture {wanted}");
     if n < asked {
         let _ = eprint!(rt; ", it ends in ");
         tell_root(rt, w, n / 1024);

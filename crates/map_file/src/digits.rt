@@ -3,6 +3,7 @@
 use crate::{root_count, tell_block, tell_size};
 use bits::{get_bit, put_bit};
 use def::Refusal;
+use files::Number;
 use say::Stop;
 
 // The digit that is refused: its place among the bits, its root, and its block by the place among the root's bytes.
@@ -90,7 +91,7 @@ pub fn behind(w: usize, h: usize, src: &[u8], to: usize) -> Result<usize, Digit>
 
 // A bit by its byte and its place there, the high one first: `byte 20, bit 0`.
 fn tell_bit(rt: &HostRuntime, at: usize) {
-    let _ = eprint!(rt; "byte {}, bit {}", at / 8, at % 8);
+    let _ = eprint!(rt; "byte {}, bit {}", Number(at / 8), Number(at % 8));
 }
 
 // The first bit of the last byte that is set behind the last digit.

@@ -4,6 +4,7 @@
 
 ghost use Rattle.std.specs.Prelude.{◌≤◌};
 
+use files::Number;
 use say::Stop;
 use std::io;
 
@@ -68,7 +69,9 @@ pub fn root_count(w: usize, h: usize) -> usize
 // Root n of a picture of width w: `root 1 at 64 0`.
 pub fn tell_root(rt: &HostRuntime, w: usize, n: usize) {
     let across = def::roots_along(w);
-    let _ = eprint!(rt; "root {n} at {} {}", root_x(across, n), root_y(across, n));
+    let x = Number(root_x(across, n));
+    let y = Number(root_y(across, n));
+    let _ = eprint!(rt; "root {} at {x} {y}", Number(n));
 }
 
 // The block of root n that has a place among its root's bytes: `root 1 at 64 0, block of 16 at 96 0: `.
@@ -78,14 +81,19 @@ pub fn tell_block(rt: &HostRuntime, w: usize, n: usize, place: usize) {
     let y = root_y(across, n);
     let b = block_at(x, y, place / 256, place % 256);
     let _ = eprint!(rt;
-        "root {n} at {x} {y}, block of {} at {} {}: ",
-        b.side, b.x, b.y
+        "root {} at {} {}, block of {} at {} {}: ",
+        Number(n),
+        Number(x),
+        Number(y),
+        Number(b.side),
+        Number(b.x),
+        Number(b.y)
     );
 }
 
 // The size of a picture that there is not.
 fn tell_size(rt: &HostRuntime, w: usize, h: usize) {
-    let _ = eprint!(rt; "a picture of {w}x{h}: ");
+    let _ = eprint!(rt; "a picture of {}x{}: ", Number(w), Number(h));
 }
 
 // ---- a file

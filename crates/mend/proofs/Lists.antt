@@ -11,7 +11,7 @@ use borrow.Author.Tests.{eq-eqb, ne_eqb}
 use borrow.Rule.Slice.PartMut.{put_mid, post_of}
 use lib.Dec.{eqb}
 use lib.ListN.{length, get_or, set, take, length-append}
-use lib.Seq.{sets, length-sets, length-take-le, take_at}
+use lib.Seq.{sets, length-sets, length-take-le, take_at, take_all, take-suc, take-suc-set}
 use Rattle.laws.specs.Index.{pick}
 use Rattle.laws.specs.Orders.{run, each}
 use Rattle.laws.proofs.Orders.{run_append, each_append}
@@ -104,3 +104,14 @@ roots_more f map ys i k room long e q =
     let n : length (a ++ ys) ≡ 1024 * (i + 1) = length-append a ys ∙ omega arith in
     ap (take (1024 * (i + 1))) (sym (append_assoc a ys (post_of (1024 * i) k map))) ∙ take_at (a ++ ys) (post_of (1024 * i) k map) (1024 * (i + 1)) n
     ∙ ap₂ (λ (x y : List ℕ). x ++ y) e q ∙ ap (joined f) (sym (add-one i))
+
+-- ---- bytes that are copied
+
+pub copy_more : (s out : List ℕ) (i : ℕ) → i < length s → i < length out → take i out ≡ take i s → take (i + 1) (set out i (get_or s i 0)) ≡ take (i + 1) s
+copy_more s out i l m e =
+    ap (λ (n : ℕ). take n (set out i (get_or s i 0))) (add-one i) ∙ take-suc-set out i (get_or s i 0) m ∙ ap (λ (z : List ℕ). z ++ (get_or s i 0 ∷ [])) e
+    ∙ sym (ap (λ (n : ℕ). take n s) (add-one i) ∙ take-suc s i 0 l)
+
+-- once all are copied
+pub copy_all : (s out : List ℕ) (i : ℕ) → length out ≡ length s → length s ≤ i → take i out ≡ take i s → out ≡ s
+copy_all s out i e l q = sym (take_all i out (omega (arith, e, l))) ∙ q ∙ take_all i s l

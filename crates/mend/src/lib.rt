@@ -54,6 +54,17 @@ fn list_changes(bytes: &[u8], marks: &[u16], root: usize, list: &mut [u16], coun
     met
 }
 
+// All bytes of a root.
+// kept: byte by byte, as `copy_from_slice` of two slices that are passed in has the archive ask for `memmove`, and a caller without a C library gives it none.
+fn copy(bytes: &[u8], out: &mut [u8])
+    requires { length bytes.now ≡ length out.old }
+    ensures { out.new ≡ bytes.now }
+{
+    for i in 0..bytes.len() {
+        out[i] = bytes[i];
+    }
+}
+
 // Root i, mended into its part of the second buffer: its changes are listed after `count` that are.
 fn mend_root(
     w: usize,
@@ -75,7 +86,7 @@ fn mend_root(
         return count;
     };
     let bytes = &splits[start..end];
-    out.copy_from_slice(bytes);
+    copy(bytes, out);
     put_marks(out, &marks[..n]);
     list_changes(bytes, &marks[..n], i, list, count)
 }

@@ -2,6 +2,7 @@
 #![tactic(auto)]
 
 ghost use Rattle.std.specs.Prelude.{◌≡◌, ◌≤◌};
+ghost use Rattle.def.specs.Answers.{answer_number};
 ghost use Rattle.laws.specs.Call.{Gives};
 ghost use Rattle.pack_rules.specs.Form.{bits_in, placed_number, placed_at};
 ghost use Rattle.pack_rules.specs.PutCall as PutCall;
@@ -12,6 +13,13 @@ use def::{Refusal, size_ok};
 use marks::root_count;
 
 mod write; // write.rt: the digits of a map, judged, counted and put
+
+// What came of a map, and the position after it: where the map is refused it is the position that was handed in.
+#[derive(Clone, Copy)]
+pub struct Placed {
+    pub answer: Result<(), Refusal>,
+    pub at: usize,
+}
 
 // How many bits a buffer has.
 pub fn bits_in(bytes: usize) -> usize
@@ -51,8 +59,8 @@ fn put_counted(
     Ok(next)
 }
 
-// The split map of a picture of w by h goes into the buffer, from position `at` on, in bits: the answer is the position after it.
-pub fn put_map(
+// Everything that is refused, in its order, and then the map: the answer is the position after it.
+fn put_checked(
     w: usize,
     h: usize,
     splits: &[u8],
@@ -71,4 +79,19 @@ pub fn put_map(
     }
     let n = map_digits(w, h, splits)?;
     put_counted(w, h, splits, n, buf, at)
+}
+
+// The split map of a picture of w by h goes into the buffer, from position `at` on, in bits.
+pub fn put_map(w: usize, h: usize, splits: &[u8], buf: &mut [u8], at: usize) -> Placed
+    ensures { Gives PutCall.outcome
+        (record { w = w; h = h; splits = splits.now; buf = buf.old; at = at })
+        (record { number = answer_number result.answer; at = result.at; buf = buf.new }) }
+{
+    match put_checked(w, h, splits, buf, at) {
+        Ok(next) => Placed {
+            answer: Ok(()),
+            at: next,
+        },
+        Err(r) => Placed { answer: Err(r), at },
+    }
 }

@@ -46,8 +46,9 @@ pub fn write_map<'s, 'a, 'b>(
     ensures { (answer_number result ≡ (written writer.old w h splits.now).number) × (writer.new ≡ wrote writer.old w h splits.now) }
 {
     let at = writer.at;
-    writer.at = put_map(w, h, splits, &mut *writer.buf, at)?;
-    Ok(())
+    let placed = put_map(w, h, splits, &mut *writer.buf, at);
+    writer.at = placed.at;
+    placed.answer
 }
 
 // A map is read, and the position moves on behind it; where it is refused, map and position are as they were.
@@ -61,6 +62,7 @@ pub fn read_map<'s, 'a, 'b>(
 {
     let src = reader.src;
     let at = reader.at;
-    reader.at = get_map(w, h, src, at, map)?;
-    Ok(())
+    let placed = get_map(w, h, src, at, map);
+    reader.at = placed.at;
+    placed.answer
 }

@@ -78,40 +78,33 @@ pub fn after(s: &[u8], at: usize, end: usize) -> usize
     }
 }
 
-// Hands each case of the file in turn to `one`, in a room of N bytes. The number is a parameter, so that the checker does not look into the room.
-fn each_in<const N: usize, F: Fn(&mut Output, &mut Case<'_>) -> io::Result<()>>(
-    rt: &HostRuntime,
-    one: F,
-) -> io::Result<()>
-where
-    F: Drop,
-    requires callable { F.IsAlwaysCallable one }
-    requires in_memory { N ≤ 6000000 }
+// The calls that a program replays.
+pub trait Step {
+    // Reads a case, makes its call and prints the line of its answer.
+    fn one(out: &mut Output, case: &mut Case<'_>) -> io::Result<()>;
+}
+
+// Each case of the file in turn, in a room of N bytes. The number is a parameter, so that the checker does not look into the room.
+fn each_in<const N: usize, S: Step>(rt: &HostRuntime) -> io::Result<()>
+    requires { N ≤ 6000000 }
 {
     let mut all = [0u8; N];
     let n = load(rt, &mut all);
     let text = &all[..n];
     let mut out = output(rt);
     let mut at = 0;
-    // kept: a `while`, since only `one` finds where its case ends, so that no iterator can have the cases.
+    // kept: a `while`, since only the step finds where its case ends, so that no iterator can have the cases.
     while at < text.len() {
         let mut case = Case { text, at };
-        one(&mut out, &mut case)?;
+        S::one(&mut out, &mut case)?;
         at = after(text, at, case.at);
     }
     out.flush()
 }
 
-// Hands each case of the file in turn to `one`, which reads it and prints the line of its answer.
-pub fn each_case<F: Fn(&mut Output, &mut Case<'_>) -> io::Result<()>>(
-    rt: &HostRuntime,
-    one: F,
-) -> io::Result<()>
-where
-    F: Drop,
-    requires { F.IsAlwaysCallable one }
-{
-    each_in::<ROOM, F>(rt, one)
+// Each case of the file in turn, by its step.
+pub fn each_case<S: Step>(rt: &HostRuntime) -> io::Result<()> {
+    each_in::<ROOM, S>(rt)
 }
 
 // The first number of an answer's line.

@@ -5,7 +5,7 @@
 use avail::Neighbours;
 use cases::Case;
 use def::{Pel, Refusal};
-use replay::Output;
+use replay::{Output, Step};
 use std::io;
 
 // The number and the eight answers, all of them no where it refused.
@@ -34,23 +34,28 @@ fn eight_of(n: Neighbours) -> [bool; 8] {
     ]
 }
 
-fn one(out: &mut Output, case: &mut Case<'_>) -> io::Result<()> {
-    let intra = case.number() == 0;
-    let w = case.number();
-    let h = case.number();
-    let mut words = [0u32; 4096];
-    let words = case.slice(&mut words);
-    let x = Pel(case.number());
-    let y = Pel(case.number());
-    let side = case.number();
-    let answer = if intra {
-        avail::get_avail_intra(w, h, words, x, y, side)
-    } else {
-        avail::get_avail_inter(w, h, words, x, y, side)
-    };
-    print(out, answer)
+// The calls of the cases.
+struct Calls;
+
+impl Step for Calls {
+    fn one(out: &mut Output, case: &mut Case<'_>) -> io::Result<()> {
+        let intra = case.number() == 0;
+        let w = case.number();
+        let h = case.number();
+        let mut words = [0u32; 4096];
+        let words = case.slice(&mut words);
+        let x = Pel(case.number());
+        let y = Pel(case.number());
+        let side = case.number();
+        let answer = if intra {
+            avail::get_avail_intra(w, h, words, x, y, side)
+        } else {
+            avail::get_avail_inter(w, h, words, x, y, side)
+        };
+        print(out, answer)
+    }
 }
 
 fn main(rt: HostRuntime) -> io::Result<()> {
-    replay::each_case(&rt, one)
+    replay::each_case::<Calls>(&rt)
 }

@@ -4,37 +4,42 @@
 
 use cases::Case;
 use df::{Banded, Bands};
-use replay::Output;
+use replay::{Output, Step};
 use std::io;
 
-// The position, the band, the picture's size, and the lent rows of its planes and unit words come first in a case.
-fn one(out: &mut Output, case: &mut Case<'_>) -> io::Result<()> {
-    let next = case.number();
-    let band = case.number();
-    let w = case.number();
-    let h = case.number();
-    let mut y = [0u16; 9000];
-    let y = case.slice(&mut y);
-    let mut u = [0u16; 2250];
-    let u = case.slice(&mut u);
-    let mut v = [0u16; 2250];
-    let v = case.slice(&mut v);
-    let mut words = [0u32; 600];
-    let words = case.slice(&mut words);
-    let position = Bands { next };
-    let answer = deblocked(
-        case,
-        position,
-        band,
-        w,
-        h,
-        &mut *y,
-        &mut *u,
-        &mut *v,
-        &mut *words,
-    );
-    print(out, answer)?;
-    filter_cases::print_written(out, y, u, v, words)
+// The calls of the cases.
+struct Calls;
+
+impl Step for Calls {
+    // The position, the band, the picture's size, and the lent rows of its planes and unit words come first in a case.
+    fn one(out: &mut Output, case: &mut Case<'_>) -> io::Result<()> {
+        let next = case.number();
+        let band = case.number();
+        let w = case.number();
+        let h = case.number();
+        let mut y = [0u16; 9000];
+        let y = case.slice(&mut y);
+        let mut u = [0u16; 2250];
+        let u = case.slice(&mut u);
+        let mut v = [0u16; 2250];
+        let v = case.slice(&mut v);
+        let mut words = [0u32; 600];
+        let words = case.slice(&mut words);
+        let position = Bands { next };
+        let answer = deblocked(
+            case,
+            position,
+            band,
+            w,
+            h,
+            &mut *y,
+            &mut *u,
+            &mut *v,
+            &mut *words,
+        );
+        print(out, answer)?;
+        filter_cases::print_written(out, y, u, v, words)
+    }
 }
 
 // Then what lies over the same rows, the chroma QP tables and the strengths, and the settings last.
@@ -82,5 +87,5 @@ fn print(out: &mut Output, answer: Banded) -> io::Result<()> {
 }
 
 fn main(rt: HostRuntime) -> io::Result<()> {
-    replay::each_case(&rt, one)
+    replay::each_case::<Calls>(&rt)
 }

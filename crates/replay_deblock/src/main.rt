@@ -4,27 +4,32 @@
 
 use cases::Case;
 use def::Refusal;
-use replay::Output;
+use replay::{Output, Step};
 use split::EdgeCounts;
 use std::io;
 
-// The picture's size, its planes and its unit words come first in a case.
-fn one(out: &mut Output, case: &mut Case<'_>) -> io::Result<()> {
-    let w = case.number();
-    let h = case.number();
-    let mut y = [0u16; 20000];
-    let y = case.slice(&mut y);
-    let mut u = [0u16; 5000];
-    let u = case.slice(&mut u);
-    let mut v = [0u16; 5000];
-    let v = case.slice(&mut v);
-    let mut words = [0u32; 1300];
-    let words = case.slice(&mut words);
-    print(
-        out,
-        deblocked(case, w, h, &mut *y, &mut *u, &mut *v, &mut *words),
-    )?;
-    filter_cases::print_written(out, y, u, v, words)
+// The calls of the cases.
+struct Calls;
+
+impl Step for Calls {
+    // The picture's size, its planes and its unit words come first in a case.
+    fn one(out: &mut Output, case: &mut Case<'_>) -> io::Result<()> {
+        let w = case.number();
+        let h = case.number();
+        let mut y = [0u16; 20000];
+        let y = case.slice(&mut y);
+        let mut u = [0u16; 5000];
+        let u = case.slice(&mut u);
+        let mut v = [0u16; 5000];
+        let v = case.slice(&mut v);
+        let mut words = [0u32; 1300];
+        let words = case.slice(&mut words);
+        print(
+            out,
+            deblocked(case, w, h, &mut *y, &mut *u, &mut *v, &mut *words),
+        )?;
+        filter_cases::print_written(out, y, u, v, words)
+    }
 }
 
 // Then what lies over the picture, the chroma QP tables, the strengths and the settings, and whether a map of edge rows is lent, which comes last.
@@ -76,5 +81,5 @@ fn print(out: &mut Output, answer: Result<EdgeCounts, Refusal>) -> io::Result<()
 }
 
 fn main(rt: HostRuntime) -> io::Result<()> {
-    replay::each_case(&rt, one)
+    replay::each_case::<Calls>(&rt)
 }

@@ -4,7 +4,7 @@
 
 use cases::Case;
 use def::Format;
-use replay::Output;
+use replay::{Output, Step};
 use std::io;
 
 // What a call names, and what it is lent to read: the split bytes, the two lists of their leaves, and the prediction.
@@ -22,38 +22,43 @@ struct Given<'a> {
     pred_v: &'a [u16],
 }
 
-// The picture's size and two flags come first in a case, whether it has colour and whether its intra is constrained; then its split bytes,
-// the two lists of its leaves, and the lent prediction.
-fn one(out: &mut Output, case: &mut Case<'_>) -> io::Result<()> {
-    let w = case.number();
-    let h = case.number();
-    let format = replay::format_of(case.number() == 1);
-    let constrained = case.number() == 1;
-    let mut splits = [0u8; 67000];
-    let splits = case.slice(&mut splits);
-    let mut leaves = [0u8; 5000];
-    let leaves = case.slice(&mut leaves);
-    let mut residual = [0i16; 30000];
-    let residual = case.slice(&mut residual);
-    let mut pred_y = [0u16; 20000];
-    let pred_y = case.slice(&mut pred_y);
-    let mut pred_u = [0u16; 5000];
-    let pred_u = case.slice(&mut pred_u);
-    let mut pred_v = [0u16; 5000];
-    let pred_v = case.slice(&mut pred_v);
-    let given = Given {
-        w,
-        h,
-        format,
-        constrained,
-        splits,
-        leaves,
-        residual,
-        pred_y,
-        pred_u,
-        pred_v,
-    };
-    reconstructed(out, case, &given)
+// The calls of the cases.
+struct Calls;
+
+impl Step for Calls {
+    // The picture's size and two flags come first in a case, whether it has colour and whether its intra is constrained; then its split bytes,
+    // the two lists of its leaves, and the lent prediction.
+    fn one(out: &mut Output, case: &mut Case<'_>) -> io::Result<()> {
+        let w = case.number();
+        let h = case.number();
+        let format = replay::format_of(case.number() == 1);
+        let constrained = case.number() == 1;
+        let mut splits = [0u8; 67000];
+        let splits = case.slice(&mut splits);
+        let mut leaves = [0u8; 5000];
+        let leaves = case.slice(&mut leaves);
+        let mut residual = [0i16; 30000];
+        let residual = case.slice(&mut residual);
+        let mut pred_y = [0u16; 20000];
+        let pred_y = case.slice(&mut pred_y);
+        let mut pred_u = [0u16; 5000];
+        let pred_u = case.slice(&mut pred_u);
+        let mut pred_v = [0u16; 5000];
+        let pred_v = case.slice(&mut pred_v);
+        let given = Given {
+            w,
+            h,
+            format,
+            constrained,
+            splits,
+            leaves,
+            residual,
+            pred_y,
+            pred_u,
+            pred_v,
+        };
+        reconstructed(out, case, &given)
+    }
 }
 
 // Then the planes, the unit words, the modes and the keep bytes, and the call is made.
@@ -112,5 +117,5 @@ fn print_written(
 }
 
 fn main(rt: HostRuntime) -> io::Result<()> {
-    replay::each_case(&rt, one)
+    replay::each_case::<Calls>(&rt)
 }

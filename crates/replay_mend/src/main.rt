@@ -3,26 +3,31 @@
 #![tactic(auto)]
 
 use cases::Case;
-use replay::Output;
+use replay::{Output, Step};
 use std::io;
 
-// The picture's size, its map, and what stands in the two buffers.
-fn one(out: &mut Output, case: &mut Case<'_>) -> io::Result<()> {
-    let w = case.number();
-    let h = case.number();
-    let mut splits = [0u8; 2100];
-    let splits = case.slice(&mut splits);
-    let mut mended = [0u8; 2100];
-    let mended = case.slice(&mut mended);
-    let mut list = [0u16; 900];
-    let list = case.slice(&mut list);
-    let answer = mend::mend(w, h, splits, &mut *mended, &mut *list);
-    replay::print_count(out, answer)?;
-    replay::print_all(out, mended)?;
-    replay::print_all(out, list)?;
-    replay::print_end(out)
+// The calls of the cases.
+struct Calls;
+
+impl Step for Calls {
+    // The picture's size, its map, and what stands in the two buffers.
+    fn one(out: &mut Output, case: &mut Case<'_>) -> io::Result<()> {
+        let w = case.number();
+        let h = case.number();
+        let mut splits = [0u8; 2100];
+        let splits = case.slice(&mut splits);
+        let mut mended = [0u8; 2100];
+        let mended = case.slice(&mut mended);
+        let mut list = [0u16; 900];
+        let list = case.slice(&mut list);
+        let answer = mend::mend(w, h, splits, &mut *mended, &mut *list);
+        replay::print_count(out, answer)?;
+        replay::print_all(out, mended)?;
+        replay::print_all(out, list)?;
+        replay::print_end(out)
+    }
 }
 
 fn main(rt: HostRuntime) -> io::Result<()> {
-    replay::each_case(&rt, one)
+    replay::each_case::<Calls>(&rt)
 }

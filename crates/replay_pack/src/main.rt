@@ -3,23 +3,14 @@
 #![tactic(auto)]
 
 use cases::Case;
-use def::Refusal;
-use replay::Output;
+use pack::Placed;
+use replay::{Output, Step};
 use std::io;
 
-// The number and the position, which stays where it was on a refusal, and the slice that was lent to be written.
-fn print(
-    out: &mut Output,
-    answer: Result<usize, Refusal>,
-    at: usize,
-    written: &[u8],
-) -> io::Result<()> {
-    let (number, next) = match answer {
-        Ok(next) => (0, next),
-        Err(refusal) => (def::refusal_number(refusal), at),
-    };
-    replay::print_first(out, number)?;
-    replay::print(out, next)?;
+// The number and the position that a call answers, and the slice that was lent to be written.
+fn print(out: &mut Output, placed: Placed, written: &[u8]) -> io::Result<()> {
+    replay::print_first(out, def::answer_number(placed.answer))?;
+    replay::print(out, placed.at)?;
     replay::print_all(out, written)?;
     replay::print_end(out)
 }
@@ -33,8 +24,8 @@ fn put_case(out: &mut Output, case: &mut Case<'_>) -> io::Result<()> {
     let mut buf = [0u8; 400];
     let buf = case.slice(&mut buf);
     let at = case.number();
-    let answer = pack::put_map(w, h, splits, &mut *buf, at);
-    print(out, answer, at, buf)
+    let placed = pack::put_map(w, h, splits, &mut *buf, at);
+    print(out, placed, buf)
 }
 
 // The picture's size, the buffer, the position, and what stands in the map.
@@ -46,17 +37,22 @@ fn get_case(out: &mut Output, case: &mut Case<'_>) -> io::Result<()> {
     let at = case.number();
     let mut map = [0u8; 4200];
     let map = case.slice(&mut map);
-    let answer = unpack::get_map(w, h, src, at, &mut *map);
-    print(out, answer, at, map)
+    let placed = unpack::get_map(w, h, src, at, &mut *map);
+    print(out, placed, map)
 }
 
-fn one(out: &mut Output, case: &mut Case<'_>) -> io::Result<()> {
-    match case.number() {
-        0 => put_case(out, case),
-        _ => get_case(out, case),
+// The calls of the cases.
+struct Calls;
+
+impl Step for Calls {
+    fn one(out: &mut Output, case: &mut Case<'_>) -> io::Result<()> {
+        match case.number() {
+            0 => put_case(out, case),
+            _ => get_case(out, case),
+        }
     }
 }
 
 fn main(rt: HostRuntime) -> io::Result<()> {
-    replay::each_case(&rt, one)
+    replay::each_case::<Calls>(&rt)
 }

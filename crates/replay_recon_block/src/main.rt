@@ -3,24 +3,29 @@
 #![tactic(auto)]
 
 use cases::Case;
-use replay::Output;
+use replay::{Output, Step};
 use std::io;
 
-fn one(out: &mut Output, case: &mut Case<'_>) -> io::Result<()> {
-    let coded = case.number() == 1;
-    let side = case.number();
-    let mut pred = [0u16; 5000];
-    let pred = case.slice(&mut pred);
-    let mut coef = [0i16; 5000];
-    let coef = case.slice(&mut coef);
-    let mut rec = [0u16; 5000];
-    let rec = case.slice(&mut rec);
-    let answer = recon::recon(coded, side, pred, coef, &mut *rec);
-    replay::print_first(out, def::answer_number(answer))?;
-    replay::print_all(out, rec)?;
-    replay::print_end(out)
+// The calls of the cases.
+struct Calls;
+
+impl Step for Calls {
+    fn one(out: &mut Output, case: &mut Case<'_>) -> io::Result<()> {
+        let coded = case.number() == 1;
+        let side = case.number();
+        let mut pred = [0u16; 5000];
+        let pred = case.slice(&mut pred);
+        let mut coef = [0i16; 5000];
+        let coef = case.slice(&mut coef);
+        let mut rec = [0u16; 5000];
+        let rec = case.slice(&mut rec);
+        let answer = recon::recon(coded, side, pred, coef, &mut *rec);
+        replay::print_first(out, def::answer_number(answer))?;
+        replay::print_all(out, rec)?;
+        replay::print_end(out)
+    }
 }
 
 fn main(rt: HostRuntime) -> io::Result<()> {
-    replay::each_case(&rt, one)
+    replay::each_case::<Calls>(&rt)
 }

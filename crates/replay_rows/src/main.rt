@@ -5,7 +5,7 @@
 use cases::Case;
 use def::Scu;
 use line::Motion;
-use replay::Output;
+use replay::{Output, Step};
 use std::io;
 use unit_edits::Flag;
 
@@ -102,14 +102,19 @@ fn flag_case(out: &mut Output, case: &mut Case<'_>) -> io::Result<()> {
     replay::print_end(out)
 }
 
-fn one(out: &mut Output, case: &mut Case<'_>) -> io::Result<()> {
-    match case.number() {
-        0 => fill_case(out, case),
-        1 => motion_case(out, case),
-        _ => flag_case(out, case),
+// The calls of the cases.
+struct Calls;
+
+impl Step for Calls {
+    fn one(out: &mut Output, case: &mut Case<'_>) -> io::Result<()> {
+        match case.number() {
+            0 => fill_case(out, case),
+            1 => motion_case(out, case),
+            _ => flag_case(out, case),
+        }
     }
 }
 
 fn main(rt: HostRuntime) -> io::Result<()> {
-    replay::each_case(&rt, one)
+    replay::each_case::<Calls>(&rt)
 }

@@ -3,7 +3,7 @@
 #![tactic(auto)]
 
 use cases::Case;
-use replay::Output;
+use replay::{Output, Step};
 use std::io;
 use ward::{Rowed, Run, Turn, Window};
 
@@ -44,31 +44,36 @@ fn read_window(case: &mut Case<'_>) -> Window {
     }
 }
 
-// A case: its turn, the row that is asked for, the format and the sides, the planes, the window, the buffer.
-fn one(out: &mut Output, case: &mut Case<'_>) -> io::Result<()> {
-    let turn = read_turn(case);
-    let plane = case.number();
-    let row = case.number();
-    let format = replay::format_of(case.number() == 1);
-    let w = case.number();
-    let h = case.number();
-    let mut y = [0u16; 1024];
-    let y = case.slice(&mut y);
-    let mut u = [0u16; 1024];
-    let u = case.slice(&mut u);
-    let mut v = [0u16; 1024];
-    let v = case.slice(&mut v);
-    let window = read_window(case);
-    let mut given = [0u8; 1024];
-    let given = case.slice(&mut given);
-    print(
-        out,
-        turn.row(plane, row, format, w, h, y, u, v, window, &mut *given),
-    )?;
-    replay::print_all(out, given)?;
-    replay::print_end(out)
+// The calls of the cases.
+struct Calls;
+
+impl Step for Calls {
+    // A case: its turn, the row that is asked for, the format and the sides, the planes, the window, the buffer.
+    fn one(out: &mut Output, case: &mut Case<'_>) -> io::Result<()> {
+        let turn = read_turn(case);
+        let plane = case.number();
+        let row = case.number();
+        let format = replay::format_of(case.number() == 1);
+        let w = case.number();
+        let h = case.number();
+        let mut y = [0u16; 1024];
+        let y = case.slice(&mut y);
+        let mut u = [0u16; 1024];
+        let u = case.slice(&mut u);
+        let mut v = [0u16; 1024];
+        let v = case.slice(&mut v);
+        let window = read_window(case);
+        let mut given = [0u8; 1024];
+        let given = case.slice(&mut given);
+        print(
+            out,
+            turn.row(plane, row, format, w, h, y, u, v, window, &mut *given),
+        )?;
+        replay::print_all(out, given)?;
+        replay::print_end(out)
+    }
 }
 
 fn main(rt: HostRuntime) -> io::Result<()> {
-    replay::each_case(&rt, one)
+    replay::each_case::<Calls>(&rt)
 }

@@ -3,7 +3,7 @@
 #![tactic(auto)]
 
 use cases::Case;
-use replay::Output;
+use replay::{Output, Step};
 use std::io::{self, Write};
 use y4m_header::Header;
 use y4m_rules::Misread;
@@ -127,16 +127,21 @@ fn import_case(out: &mut Output, case: &mut Case<'_>) -> io::Result<()> {
     print_planes(out, y, u, v)
 }
 
-fn one(out: &mut Output, case: &mut Case<'_>) -> io::Result<()> {
-    match case.number() {
-        0 => read_header_case(out, case),
-        1 => write_header_case(out, case),
-        2 => read_frame_case(out, case),
-        3 => write_frame_case(out, case),
-        _ => import_case(out, case),
+// The calls of the cases.
+struct Calls;
+
+impl Step for Calls {
+    fn one(out: &mut Output, case: &mut Case<'_>) -> io::Result<()> {
+        match case.number() {
+            0 => read_header_case(out, case),
+            1 => write_header_case(out, case),
+            2 => read_frame_case(out, case),
+            3 => write_frame_case(out, case),
+            _ => import_case(out, case),
+        }
     }
 }
 
 fn main(rt: HostRuntime) -> io::Result<()> {
-    replay::each_case(&rt, one)
+    replay::each_case::<Calls>(&rt)
 }

@@ -135,7 +135,9 @@ fn put_zeros(n: usize, bytes: &mut [u8])
     requires { n ≤ length bytes.old }
     ensures { FirstOf (λ (j : ℕ). 0) n bytes.old bytes.new }
 {
-    bytes[..n].fill(0);
+    for j in 0..n {
+        bytes[j] = 0;
+    }
 }
 
 // The bytes of n units from k on that are what those above them are: their left rows are those of the bytes above.
@@ -265,7 +267,9 @@ fn store(bytes: &[u8], k: usize, n: usize, rows: &mut [u8])
     requires { (n ≤ length bytes.now) × (k + n ≤ length rows.old) }
     ensures { Stored bytes.now k n rows.old rows.new }
 {
-    rows[k..k + n].copy_from_slice(&bytes[..n]);
+    for j in 0..n {
+        rows[k + j] = bytes[j];
+    }
 }
 
 // Every unit's byte.

@@ -5,7 +5,7 @@ ghost use Rattle.std.specs.Prelude.{◌≡◌};
 ghost use Rattle.std.specs.Process.{exit_status};
 ghost use Rattle.say.specs.Ends.{status_of};
 
-use files::Stream;
+use files::{Number, Stream};
 use std::io;
 use std::process::ExitCode;
 
@@ -100,5 +100,6 @@ pub fn meaning(rt: &HostRuntime, number: u8) {
 
 // The line of a refusal: `refused=7: a sample over 1023`.
 pub fn refused(rt: &HostRuntime, number: u8) {
-    let _ = eprintln!(rt; "refused={number}: {}", words_of(number));
+    let shown = Number(usize::from(number));
+    let _ = eprintln!(rt; "refused={shown}: {}", words_of(number));
 }

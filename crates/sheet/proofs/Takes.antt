@@ -2,11 +2,9 @@
 --     told, taken    by its answer: the descent's, the place after the digits, and the map
 --     picture_met, picture_stopped
 -- Assumes nothing.
-use Rattle.std.specs.Prelude.{Result, Ok, Err}
-use Rattle.std.specs.Result.{MatchResult, IsErrAnd}
-use Rattle.pack_rules.specs.Form.{placed_number, placed_at}
+use Rattle.std.specs.Prelude.{Ok, Err}
 use mathlib.Core.List.{List}
-use mathlib.Core.Path.{◌≡◌, refl, sym, ap, ◌∙◌, subst}
+use mathlib.Core.Path.{◌≡◌, refl, sym, ap, ◌∙◌}
 use Prim.Native.Nat.{ℕ, ◌-◌, ◌*◌, ◌/◌, ◌≤◌}
 use native.Mathlib.Nat.{zero-add}
 use native.Mathlib.Omega.{arith}
@@ -84,11 +82,3 @@ module _ (w h : ℕ) (digits bits map : List ℕ) (s : Sides w h) (few : length 
             left = ap length left ∙ length-drop at (values_of digits) ∙ ap (λ (n : ℕ). n - at) (length-map digits (λ (c : ℕ). c - 48));
             reads = ap (λ (t : List ℕ). picture_walk t (w / 4) (h / 4)) given ∙ map_walked (w / 4) (h / 4) (values_of digits) (told ∙ d);
           }
-
-  -- by the call's answer, and by what is made of it
-  module _ (m : List ℕ) (e : take-call.digits asked ≡ values_of digits) where
-    pub pictured : (k j : Result ℕ Refusal) → record { number = placed_number k; at = placed_at 0 k; map = m } ≡ take-call.outcome asked
-        → MatchResult k (λ n. j ≡ Ok n) (λ r. IsErrAnd j (λ q. q ≡ as_sheet r)) → Pictured (w / 4) (h / 4) digits m j
-    pictured (Ok n) j p c = subst (Pictured (w / 4) (h / 4) digits m) (sym c) (picture_met (Ok tt) n m p e refl)
-    pictured (Err r) (Err q) p c = picture_stopped (Err r) 0 m p e r q refl c
-    pictured (Err r) (Ok n) p c = absurd c

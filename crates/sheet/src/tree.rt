@@ -49,5 +49,9 @@ pub(crate) fn take_picture(
 {
     let mut bits = [0u8; 512];
     put_digits(digits, &mut bits);
-    take_map(w, h, &bits, 0, digits.len(), map).map_err(as_sheet)
+    let placed = take_map(w, h, &bits, 0, digits.len(), map);
+    match placed.answer {
+        Ok(()) => Ok(placed.at),
+        Err(refusal) => Err(as_sheet(refusal)),
+    }
 }

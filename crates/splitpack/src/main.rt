@@ -5,7 +5,7 @@
 ghost use Rattle.std.specs.Prelude.{IfOk};
 ghost use Rattle.files.specs.Counts.{IsPrefixLen};
 
-use files::Source;
+use files::{Number, Source};
 use say::{Done, Stop};
 use std::process::ExitCode;
 
@@ -33,7 +33,7 @@ fn read(rt: &HostRuntime, file: &mut Source, room: &mut [u8]) -> Result<usize, S
 
 // Tells how many bytes the digits take, at position `at` behind them, in bits.
 fn tell(rt: &HostRuntime, at: usize) -> Result<(), Stop> {
-    say::told(rt, println!(rt; "bytes={}", at / 8))
+    say::told(rt, println!(rt; "bytes={}", Number(at / 8)))
 }
 
 // ---- both ways
@@ -46,11 +46,12 @@ fn packed(
     map: &[u8],
     digits: &mut [u8],
 ) -> Result<Done, Stop> {
-    let at = pack::put_map(w, h, map, &mut *digits, 0).map_err(|refusal| map_file::refused_map(
-        rt, 4, w, h, map, refusal,
-    ))?;
-    map_file::save(rt, 5, digits.get(..at / 8).ok_or(Stop::Failed)?)?;
-    tell(rt, at)?;
+    let placed = pack::put_map(w, h, map, &mut *digits, 0);
+    placed
+        .answer
+        .map_err(|refusal| map_file::refused_map(rt, 4, w, h, map, refusal))?;
+    map_file::save(rt, 5, digits.get(..placed.at / 8).ok_or(Stop::Failed)?)?;
+    tell(rt, placed.at)?;
     Ok(Done::Plain)
 }
 
@@ -68,16 +69,15 @@ fn unpacked(
     digits: &[u8],
     map: &mut [u8],
 ) -> Result<Done, Stop> {
-    let at = unpack::get_map(w, h, digits, 0, &mut *map).map_err(|refusal| map_file::refused_digits(
-        rt, 4, w, h, digits, refusal,
-    ))?;
+    let placed = unpack::get_map(w, h, digits, 0, &mut *map);
+    placed.answer.map_err(|refusal| map_file::refused_digits(rt, 4, w, h, digits, refusal))?;
     map_file::save(rt, 5, map)?;
-    let more = at / 8 < digits.len();
+    let more = placed.at / 8 < digits.len();
     if more {
         words::name(rt, 4);
         say::line(rt, b"the file goes on behind the map");
     }
-    tell(rt, at)?;
+    tell(rt, placed.at)?;
     Ok(if more { Done::Noted } else { Done::Plain })
 }
 

@@ -17,10 +17,9 @@ fn unpacked(
     digits: &[u8],
     map: &mut [u8],
 ) -> Result<(), Stop> {
-    let end = decoder::get_map(w, h, digits, 0, map).map_err(|refusal| map_file::refused_digits(
-        rt, at, w, h, digits, refusal,
-    ))?;
-    if end / 8 < digits.len() {
+    let placed = decoder::get_map(w, h, digits, 0, map);
+    placed.answer.map_err(|refusal| map_file::refused_digits(rt, at, w, h, digits, refusal))?;
+    if placed.at / 8 < digits.len() {
         words::name(rt, at);
         say::line(rt, b"the file goes on behind the map");
     }

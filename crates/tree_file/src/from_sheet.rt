@@ -83,14 +83,12 @@ fn mapped(
     }
     let mut bits = [0u8; 512];
     put_digits(digits, &mut bits);
-    match decoder::take_map(w, h, &bits, 0, digits.len(), &mut map[..n]) {
-        Ok(_) => Ok(()),
-        Err(refusal) => {
-            words::name(rt, at);
-            say::refused(rt, decoder::refusal_number(refusal));
-            Err(Stop::Refused)
-        }
-    }
+    let placed = decoder::take_map(w, h, &bits, 0, digits.len(), &mut map[..n]);
+    placed.answer.map_err(|refusal| {
+        words::name(rt, at);
+        say::refused(rt, decoder::refusal_number(refusal));
+        Stop::Refused
+    })
 }
 
 // The tree of a sheet's text.

@@ -1,9 +1,10 @@
 // Where a sheet is refused: its line and character, both from 1 on, and of a digit its root and its block.
 use crate::from_sheet::put_digits;
+use files::Number;
 
 // A line and a character of it.
 fn tell_character(rt: &HostRuntime, line: usize, character: usize) {
-    let _ = eprint!(rt; "line {line}, character {character}");
+    let _ = eprint!(rt; "line {}, character {}", Number(line), Number(character));
 }
 
 // ---- a line that is malformed
@@ -86,7 +87,9 @@ fn tell_digit(rt: &HostRuntime, w: usize, h: usize, digits: &[u8]) {
 
 fn tell_size(rt: &HostRuntime, w: usize, h: usize) {
     let _ = eprint!(rt;
-        "lines 1 and 2, a picture of {w}x{h}, and a sheet's have at most 256x256: "
+        "lines 1 and 2, a picture of {}x{}, and a sheet's have at most 256x256: ",
+        Number(w),
+        Number(h)
     );
 }
 

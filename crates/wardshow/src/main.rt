@@ -2,7 +2,7 @@
 // take; or the luma plane of the first frame as a PGM picture. It reads, calls and writes: each rule is in `ward`.
 #![tactic(auto)]
 
-use files::Source;
+use files::{Number, Source};
 use say::Stop;
 use std::process::ExitCode;
 use y4m_file::{Fault, Header, Picture};
@@ -25,12 +25,12 @@ struct Job {
 // A window that is refused, and the picture that has it not: `LOOP.y4m: the window 2 0 18 16 of a picture of 64x48: refused=21: ..`.
 fn refused_window(rt: &HostRuntime, job: Job, number: u8) -> Stop {
     let window = job.asked.window;
-    let left = window.left;
-    let top = window.top;
-    let right = window.right;
-    let bottom = window.bottom;
-    let w = job.header.w;
-    let h = job.header.h;
+    let left = Number(window.left);
+    let top = Number(window.top);
+    let right = Number(window.right);
+    let bottom = Number(window.bottom);
+    let w = Number(job.header.w);
+    let h = Number(job.header.h);
     words::name(rt, job.asked.file);
     let _ = eprint!(rt; "the window {left} {top} {right} {bottom} of a picture of {w}x{h}: ");
     say::refused(rt, number);

@@ -1,7 +1,7 @@
 // A picture of the stream that is written, row by row.
 use crate::Job;
 use decoder::{Format, Refusal};
-use files::Stream;
+use files::{Number, Stream};
 use std::io;
 use ward::{Run, Turn, Window};
 use y4m_file::{Fault, Misread, Picture, or_else};
@@ -28,18 +28,19 @@ fn down(run: Run, window: Window) -> usize {
 
 // The header of the 8-bit stream, of rows of n samples.
 fn put_header(rt: &HostRuntime, job: Job, n: usize) -> io::Result<()> {
-    let rows = down(job.asked.run, job.asked.window);
-    let f = or_else(job.header.f, 25);
-    let g = or_else(job.header.g, 1);
-    let a = or_else(job.header.a, 1);
-    let b = or_else(job.header.b, 1);
+    let rows = Number(down(job.asked.run, job.asked.window));
+    let f = Number(or_else(job.header.f, 25));
+    let g = Number(or_else(job.header.g, 1));
+    let a = Number(or_else(job.header.a, 1));
+    let b = Number(or_else(job.header.b, 1));
+    let n = Number(n);
     println!(rt; "YUV4MPEG2 W{n} H{rows} F{f}:{g} Ip A{a}:{b} C420mpeg2")
 }
 
 // The header of a PGM picture.
 fn put_pgm(rt: &HostRuntime, job: Job, n: usize) -> io::Result<()> {
-    let rows = down(job.asked.run, job.asked.window);
-    print!(rt; "P5\n{n} {rows}\n255\n")
+    let rows = Number(down(job.asked.run, job.asked.window));
+    print!(rt; "P5\n{} {rows}\n255\n", Number(n))
 }
 
 fn put_lead(rt: &HostRuntime, job: Job, lead: Lead, n: usize) -> io::Result<()> {

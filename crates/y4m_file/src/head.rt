@@ -3,7 +3,7 @@ ghost use Rattle.std.specs.Prelude.{◌≤◌, IfOk, length};
 
 use crate::refused_in;
 use def::Format;
-use files::{Source, Stream};
+use files::{Number, Source, Stream};
 use say::Stop;
 use std::io;
 use y4m_header::Header;
@@ -28,7 +28,7 @@ fn one_more(file: &mut Source, byte: &mut [u8; 1]) -> bool {
 
 // The first line of a file, up to its newline or to as many bytes as there is room for: how many there are. Byte by byte, so that what stands after
 // it is not read yet.
-fn first_line(file: &mut Source, room: &mut [u8]) -> usize
+pub fn first_line(file: &mut Source, room: &mut [u8]) -> usize
     ensures { result ≤ length room.new }
 {
     let mut byte = [0u8; 1];
@@ -100,7 +100,7 @@ pub fn put_header(rt: &HostRuntime, header: Header) -> io::Result<()> {
 // Every hundredth frame is told.
 pub fn progress(rt: &HostRuntime, frames: usize) {
     if frames % 100 == 99 {
-        let count = frames + 1;
+        let count = Number(frames + 1);
         let _ = eprintln!(rt; "frames={count}");
     }
 }

@@ -8,7 +8,8 @@ mod rooms; // rooms.rt: room for a frame
 mod stop; // stop.rt: why a program stops
 mod stream; // stream.rt: the frames of a file, one after the other
 
-pub use head::{header_line, open, or_else, progress, put_header, read_header};
+use files::Number;
+pub use head::{first_line, header_line, open, or_else, progress, put_header, read_header};
 pub use picture::{Fault, Picture};
 pub use rooms::{
     LARGE_BYTES, LARGE_CHROMA, LARGE_LUMA, Lengths, SMALL_BYTES, SMALL_CHROMA, SMALL_LUMA, frames,
@@ -24,7 +25,7 @@ pub use y4m_rules::Misread;
 
 // A refusal with its place, on standard error: `byte 9301: refused=18: a stream that ends before its frame does`.
 pub fn refused(rt: &HostRuntime, misread: Misread) -> Stop {
-    let place = misread.at;
+    let place = Number(misread.at);
     let _ = eprint!(rt; "byte {place}: ");
     say::refused(rt, def::refusal_number(misread.refusal));
     Stop::Refused
@@ -38,8 +39,8 @@ pub fn refused_in(rt: &HostRuntime, at: usize, misread: Misread) -> Stop {
 
 // The same of the first argument's file, and before it on standard output, by its number.
 pub fn refused_out(rt: &HostRuntime, misread: Misread) -> Stop {
-    let number = def::refusal_number(misread.refusal);
-    let place = misread.at;
+    let number = Number(usize::from(def::refusal_number(misread.refusal)));
+    let place = Number(misread.at);
     let written = println!(rt; "refused={number} place={place}");
     refused_in(rt, 1, misread);
     stopped(rt, written)

@@ -1,7 +1,7 @@
 // The frames of a file, one after the other, each read and checked.
 use crate::picture::{Fault, Picture, from_place};
 use crate::{Misread, refused_in, refused_out};
-use files::Source;
+use files::{Number, Source};
 use say::Stop;
 
 // What a file's frames are gone through for.
@@ -69,7 +69,7 @@ fn each_frame(
 
 // How many frames there are, on standard output; or the refusal of the next.
 fn counted(rt: &HostRuntime, ended: Ended) -> Result<(), Stop> {
-    let frames = ended.frames;
+    let frames = Number(ended.frames);
     let written = println!(rt; "frames={frames}");
     match ended.refused {
         None => say::told(rt, written),

@@ -2,19 +2,19 @@
 // byte. F or A is 0:0 where the header has none.
 #![tactic(auto)]
 
-use files::Source;
+use files::{Number, Source};
 use say::Stop;
 use std::process::ExitCode;
 use y4m_file::{Header, Task};
 
 // What the header says. What is full or closed stays so: the count of frames tells that it was not written.
 fn tell(rt: &HostRuntime, header: Header) {
-    let w = header.w;
-    let h = header.h;
-    let f = header.f;
-    let g = header.g;
-    let a = header.a;
-    let b = header.b;
+    let w = Number(header.w);
+    let h = Number(header.h);
+    let f = Number(header.f);
+    let g = Number(header.g);
+    let a = Number(header.a);
+    let b = Number(header.b);
     let _ = print!(rt; "w={w}\nh={h}\nf={f}:{g}\na={a}:{b}\n");
 }
 

@@ -18,24 +18,24 @@ pub returns-then-not-rows_length_ok : goal.returns-then-not-rows_length_ok
 returns-then-not-rows_length_ok c =
     no_length _ _ _ c.size_ok.ensures (ap not c.if-not-size_ok.false) c.rows_length_ok.ensures (ap not c.if-not-rows_length_ok.true)
 
-pub returns-in_err-checked : goal.returns-in_err-checked
-returns-in_err-checked c =
+pub returns-in_err-passed : goal.returns-in_err-passed
+returns-in_err-passed c =
     let p = err_from_is_err_and c.from_residual.result c.from_residual.ensures.1 in
     rw (p.1, p.2)
     (no_picture _ _ _ c.size_ok.ensures (ap not c.if-not-size_ok.false) c.rows_length_ok.ensures (ap not c.if-not-rows_length_ok.false)
-    _ _ c.checked.ensures c.in_err-checked.was)
+    _ _ c.checked.ensures c.in_err-passed.was)
 
 pub returns-then-rows-eq0 : goal.returns-then-rows-eq0
 returns-then-rows-eq0 c =
     none_lent _ _ _ c.size_ok.ensures (ap not c.if-not-size_ok.false) c.rows_length_ok.ensures (ap not c.if-not-rows_length_ok.false)
-    _ c.checked.ensures c.in_ok-checked.was c.if-rows-eq0.true
+    _ c.checked.ensures c.in_ok-passed.was c.if-rows-eq0.true
 
 pub returns-then-not-rows_right : goal.returns-then-not-rows_right
 returns-then-not-rows_right c =
     wrong_map _ _ _ c.size_ok.ensures (ap not c.if-not-size_ok.false) c.rows_length_ok.ensures (ap not c.if-not-rows_length_ok.false)
-    _ c.checked.ensures c.in_ok-checked.was _ c.if-rows-eq0.false c.rows_right.ensures (ap not c.if-not-rows_right.true)
+    _ c.checked.ensures c.in_ok-passed.was _ c.if-rows-eq0.false c.rows_right.ensures (ap not c.if-not-rows_right.true)
 
 pub returns : goal.returns
 returns c =
     right_map _ _ _ c.size_ok.ensures (ap not c.if-not-size_ok.false) c.rows_length_ok.ensures (ap not c.if-not-rows_length_ok.false)
-    _ c.checked.ensures c.in_ok-checked.was _ c.rows_right.ensures (ap not c.if-not-rows_right.false)
+    _ c.checked.ensures c.in_ok-passed.was _ c.rows_right.ensures (ap not c.if-not-rows_right.false)

@@ -1,6 +1,6 @@
 -- A root's marks are listed, put into a copy of its bytes, and compared with them. Assumes nothing.
 use Rattle.std.specs.Prelude.{Ok}
-use mathlib.Core.Path.{◌≡◌, refl, sym, ◌∙◌, subst}
+use mathlib.Core.Path.{◌≡◌, refl, sym, ap, ◌∙◌, subst}
 use Prim.Native.Nat.{ℕ, ◌<◌}
 use native.Mathlib.Omega.{arith}
 use Rattle.std.proofs.lemmas.List.{length-take-le, get_or-take}
@@ -27,13 +27,13 @@ returns-in_default c =
     let t = list_told _ c.list_marks.result _ p.0 p.1 refl p.2 c.list_marks.ensures in
     not_both _ _ _ t.0 c.in_default.is
 
-pub copy_from_slice-requires : goal.copy_from_slice-requires
-copy_from_slice-requires c =
+pub copy-requires : goal.copy-requires
+copy-requires c =
     let a = c.args in
     let p = c.requires in
     let t = list_told _ c.list_marks.result _ p.0 p.1 refl p.2 c.list_marks.ensures in
     let long = bytes_long (sized _ _ p.0) _ _ p.2 p.1 in
-    p.3 ∙ sym long
+    long ∙ sym p.3
 
 pub slice_bounds-put_marks-end : goal.slice_bounds-put_marks-end
 slice_bounds-put_marks-end c =
@@ -60,7 +60,7 @@ put_marks-requires c =
     let t = list_told _ c.list_marks.result _ p.0 p.1 refl p.2 c.list_marks.ensures in
     let n : c.in-Ok.n ≡ length (list-call.root_marks a.w a.h a.splits.now a.i) = (counted_done _ _ (Ok tt) (sym c.in-Ok.is ∙ t.0)).1 in
     let few = length-take-le c.in-Ok.n c.list_marks.new.out (omega (arith, n, t.1.few, t.1.long)) in (
-      c.copy_from_slice.ensures.len ∙ p.3,
+      ap length c.copy.ensures ∙ bytes_long (sized _ _ p.0) _ _ p.2 p.1,
       (λ j l.
           let m = subst (λ (k : ℕ). j < k) few l in
           subst (λ (v : ℕ). v < 2048) (sym (get_or-take c.in-Ok.n c.list_marks.new.out j 0 m)) (t.1.small j (subst (λ (k : ℕ). j < k) n m))),
@@ -107,4 +107,4 @@ returns c =
     let t = list_told _ c.list_marks.result _ p.0 p.1 refl p.2 c.list_marks.ensures in
     let n : c.in-Ok.n ≡ length (list-call.root_marks a.w a.h a.splits.now a.i) = (counted_done _ _ (Ok tt) (sym c.in-Ok.is ∙ t.0)).1 in
     let few = length-take-le c.in-Ok.n c.list_marks.new.out (omega (arith, n, t.1.few, t.1.long)) in
-    (root_mended a.w a.h a.splits.now a.i t.1 n _ _ c.copy_from_slice.ensures.after c.put_marks.ensures, root_listed a.w a.h a.splits.now a.i t.1 n c.list_changes.ensures)
+    (root_mended a.w a.h a.splits.now a.i t.1 n _ _ c.copy.ensures c.put_marks.ensures, root_listed a.w a.h a.splits.now a.i t.1 n c.list_changes.ensures)

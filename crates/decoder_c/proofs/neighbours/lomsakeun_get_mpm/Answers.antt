@@ -7,10 +7,10 @@ use Rattle.decoder_c.specs.Ranks.{Outcome, outcome}
 use Rattle.decoder_c.proofs.Ranks.{accepted, five, ranks}
 use Rattle.decoder_c.proofs.neighbours.lomsakeun_get_mpm.Goals as goal
 
-pub copy_from_slice-requires : goal.copy_from_slice-requires
-copy_from_slice-requires c =
+pub copy-requires : goal.copy-requires
+copy-requires c =
     let ok = accepted _ _ (sym c.ranks_checked.ensures ∙ c.in-Ok.is) in
-    ok.0 ∙ sym (five _ _ c.get_mpm.ensures ok.1)
+    five _ _ c.get_mpm.ensures ok.1 ∙ sym ok.0
 
 pub returns-in-Err : goal.returns-in-Err
 unfolding outcome
@@ -25,4 +25,4 @@ unfolding outcome
 returns-in-Ok c =
     let told = c.in-Ok.is in
     let checks = c.ranks_checked.ensures in
-    on_done _ _ _ _ _ checks told (ap copied (c.copy_from_slice.ensures.after ∙ ranks _ _ c.get_mpm.ensures (accepted _ _ (sym checks ∙ told)).1))
+    on_done _ _ _ _ _ checks told (ap copied (c.copy.ensures ∙ ranks _ _ c.get_mpm.ensures (accepted _ _ (sym checks ∙ told)).1))

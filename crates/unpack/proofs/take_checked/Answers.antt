@@ -25,7 +25,7 @@ use Rattle.split.proofs.Roots.{roots_units}
 use Rattle.pack_rules.specs.Taken.{Mapped}
 use Rattle.unpack.proofs.Calls.{take_refused, take_off, take_stopped, take_done}
 use Rattle.pack.proofs.Writing.{few_of}
-use Rattle.unpack.proofs.take_map.Goals as goal
+use Rattle.unpack.proofs.take_checked.Goals as goal
 
 -- the places passed
 placed : (from to : ℕ) → take-call.places_ok from to ≡ true → (from ≤ to) × (to ≤ 4611686018427387904)

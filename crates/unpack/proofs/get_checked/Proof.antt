@@ -1,4 +1,4 @@
--- `unpack::get_map` meets its contract: 1, 2, a position past the buffer, and then what the bits are. Assumes nothing.
+-- `unpack::get_checked` meets its contract: 1, 2, a position past the buffer, and then what the bits are. Assumes nothing.
 use mathlib.Core.Bool.{true}
 use mathlib.Core.Path.{◌≡◌, refl, sym, ap, ◌∙◌}
 use Prim.Native.Nat.{ℕ, ◌+◌, ◌*◌, ◌/◌, ◌≤◌, ◌<◌}
@@ -15,8 +15,8 @@ use Rattle.pack_rules.specs.GetCall as get-call
 use Rattle.pack_rules.specs.Taken.{Mapped}
 use Rattle.unpack.proofs.Calls.{get_refused, get_past}
 use Rattle.pack.proofs.Writing.{few_of}
-use Rattle.unpack.proofs.get_map.Statement.{statement}
-use Rattle.unpack.proofs.get_map.Tie as tie
+use Rattle.unpack.proofs.get_checked.Statement.{statement}
+use Rattle.unpack.proofs.get_checked.Tie as tie
 
 size_told : (c : tie.Else-not-size_ok) → size_ok c.args.w c.args.h ≡ true
 size_told c = sym c.size_ok.ensures ∙ c.if-not-size_ok.false
@@ -62,8 +62,8 @@ get_taken_requires c κs =
       within : (at end bytes : ℕ) → end ≡ bits_in bytes → at ≤ end → (at + 7) / 8 * 8 ≤ end
       within at end bytes e l = omega arith
 
-pub get_map_spec : {M : Type 1} → statement M
-get_map_spec =
+pub get_checked_spec : {M : Type 1} → statement M
+get_checked_spec =
     tie.close
     (tie.spec
     (λ c κs. search rules)

@@ -15,7 +15,7 @@ use Rattle.pack_rules.specs.PutCall as put-call
 use Rattle.split.specs.Picture.{picture_walk}
 use Rattle.pack.proofs.Calls.{put_refused, put_stopped}
 use Rattle.pack.proofs.Writing.{few_of}
-use Rattle.pack.proofs.put_map.Goals as goal
+use Rattle.pack.proofs.put_checked.Goals as goal
 
 pub returns-then-not-size_ok : goal.returns-then-not-size_ok
 unfolding put-call.check
