@@ -84,9 +84,21 @@ pub trait Step {
     fn one(out: &mut Output, case: &mut Case<'_>) -> io::Result<()>;
 }
 
-// Each case of the file in turn, in a room of N bytes. The number is a parameter, so that the checker does not look into the room.
-fn each_in<const N: usize, S: Step>(rt: &HostRuntime) -> io::Result<()>
-    requires { N ≤ 6000000 }
+// Calls that need values of the program: the step holds them.
+pub trait StepWith {
+    // Reads a case, makes its call and prints the line of its answer.
+    fn one(&self, out: &mut Output, case: &mut Case<'_>) -> io::Result<()>;
+}
+
+// Hands each case of the file in turn to `one`, in a room of N bytes. The number is a parameter, so that the checker does not look into the room.
+fn each_in<const N: usize, F: Fn(&mut Output, &mut Case<'_>) -> io::Result<()>>(
+    rt: &HostRuntime,
+    one: F,
+) -> io::Result<()>
+where
+    F: Drop,
+    requires callable { F.IsAlwaysCallable one }
+    requires in_memory { N ≤ 6000000 }
 {
     let mut all = [0u8; N];
     let n = load(rt, &mut all);
@@ -96,7 +108,7 @@ fn each_in<const N: usize, S: Step>(rt: &HostRuntime) -> io::Result<()>
     // kept: a `while`, since only the step finds where its case ends, so that no iterator can have the cases.
     while at < text.len() {
         let mut case = Case { text, at };
-        S::one(&mut out, &mut case)?;
+        one(&mut out, &mut case)?;
         at = after(text, at, case.at);
     }
     out.flush()
@@ -104,7 +116,15 @@ fn each_in<const N: usize, S: Step>(rt: &HostRuntime) -> io::Result<()>
 
 // Each case of the file in turn, by its step.
 pub fn each_case<S: Step>(rt: &HostRuntime) -> io::Result<()> {
-    each_in::<ROOM, S>(rt)
+    each_in::<ROOM, _>(rt, |out: &mut Output, case: &mut Case<'_>| {
+        S::one(out, case)
+    })
+}
+
+// Each case of the file in turn, by a step that holds values.
+pub fn each_case_with<S: StepWith>(rt: &HostRuntime, step: &S) -> io::Result<()> {
+    let one = |out: &mut Output, case: &mut Case<'_>| step.one(out, case);
+    each_in::<ROOM, _>(rt, one)
 }
 
 // The first number of an answer's line.
@@ -211,5 +231,47 @@ pub fn component_of(number: usize) -> Component
     match number {
         0 => Component::Luma,
         _ => Component::Chroma,
+    }
+}
+
+#[cfg(test)]
+mod tests {
+    use super::*;
+    use std::fs;
+    use std::test::Fail;
+
+    // Takes a case that begins with its value, and no other.
+    #[derive(Drop)]
+    struct Only {
+        value: usize,
+    }
+
+    impl StepWith for Only {
+        fn one(&self, _out: &mut Output, case: &mut Case<'_>) -> io::Result<()> {
+            if case.number() == self.value {
+                Ok(())
+            } else {
+                Err(io::Error::from(io::ErrorKind::InvalidData))
+            }
+        }
+    }
+
+    // The cases of a file that is made for this, by a step that takes the value. What the step answers stands inside.
+    fn replayed(rt: &HostRuntime, cases: &[u8], value: usize) -> io::Result<io::Result<()>> {
+        let mut file = File::create_new(rt, "cases")?;
+        let written = file.write_all(cases);
+        let came = each_case_with(rt, &Only { value });
+        fs::remove_file(rt, "cases")?;
+        written?;
+        Ok(came)
+    }
+
+    // The step is called with the value that it holds, on the last case too.
+    #[test]
+    fn a_step_holds_values(rt: HostRuntime) -> Result<(), Fail> {
+        assert!(rt; replayed(&rt, b"7\n7\n7\n", 7)?.is_ok());
+        assert!(rt; replayed(&rt, b"7\n7\n7\n", 8)?.is_err());
+        assert!(rt; replayed(&rt, b"7\n7\n8\n", 7)?.is_err());
+        Ok(())
     }
 }
