@@ -256,22 +256,22 @@ mod tests {
         }
     }
 
-    // The cases of a file that is made for this, by a step that takes the value. What the step answers stands inside.
-    fn replayed(rt: &HostRuntime, cases: &[u8], value: usize) -> io::Result<io::Result<()>> {
+    // Whether a step with the value takes every case of a file that is made for this.
+    fn takes_all(rt: &HostRuntime, cases: &[u8], value: usize) -> io::Result<bool> {
         let mut file = File::create_new(rt, "cases")?;
         let written = file.write_all(cases);
         let came = each_case_with(rt, &Only { value });
         fs::remove_file(rt, "cases")?;
         written?;
-        Ok(came)
+        Ok(came.is_ok())
     }
 
     // The step is called with the value that it holds, on the last case too.
     #[test]
     fn a_step_holds_values(rt: HostRuntime) -> Result<(), Fail> {
-        assert!(rt; replayed(&rt, b"7\n7\n7\n", 7)?.is_ok());
-        assert!(rt; replayed(&rt, b"7\n7\n7\n", 8)?.is_err());
-        assert!(rt; replayed(&rt, b"7\n7\n8\n", 7)?.is_err());
+        assert!(rt; takes_all(&rt, b"7\n7\n7\n", 7)?);
+        assert!(rt; !takes_all(&rt, b"7\n7\n7\n", 8)?);
+        assert!(rt; !takes_all(&rt, b"7\n7\n8\n", 7)?);
         Ok(())
     }
 }
