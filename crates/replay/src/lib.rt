@@ -266,11 +266,13 @@ mod tests {
         Ok(came.is_ok())
     }
 
-    // The step is called with the value that it holds, on the last case too.
+    // The step is called with the value that it holds, on each case.
     #[test]
     fn a_step_holds_values(rt: HostRuntime) -> Result<(), Fail> {
         assert!(rt; takes_all(&rt, b"7\n7\n7\n", 7)?);
         assert!(rt; !takes_all(&rt, b"7\n7\n7\n", 8)?);
+        assert!(rt; !takes_all(&rt, b"8\n7\n7\n", 7)?);
+        assert!(rt; !takes_all(&rt, b"7\n8\n7\n", 7)?);
         assert!(rt; !takes_all(&rt, b"7\n7\n8\n", 7)?);
         Ok(())
     }
