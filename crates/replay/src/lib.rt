@@ -91,7 +91,7 @@ pub trait StepWith {
 }
 
 // Hands each case of the file in turn to `one`, in a room of N bytes. The number is a parameter, so that the checker does not look into the room.
-fn each_in<const N: usize, F: Fn(&mut Output, &mut Case<'_>) -> io::Result<()>>(
+fn each_by<const N: usize, F: Fn(&mut Output, &mut Case<'_>) -> io::Result<()>>(
     rt: &HostRuntime,
     one: F,
 ) -> io::Result<()>
@@ -114,17 +114,24 @@ where
     out.flush()
 }
 
-// Each case of the file in turn, by its step.
-pub fn each_case<S: Step>(rt: &HostRuntime) -> io::Result<()> {
-    each_in::<ROOM, _>(rt, |out: &mut Output, case: &mut Case<'_>| {
+// Each case of the file in turn, by its step, in a room of N bytes.
+fn each_in<const N: usize, S: Step>(rt: &HostRuntime) -> io::Result<()>
+    requires { N ≤ 6000000 }
+{
+    each_by::<N, _>(rt, |out: &mut Output, case: &mut Case<'_>| {
         S::one(out, case)
     })
+}
+
+// Each case of the file in turn, by its step.
+pub fn each_case<S: Step>(rt: &HostRuntime) -> io::Result<()> {
+    each_in::<ROOM, S>(rt)
 }
 
 // Each case of the file in turn, by a step that holds values.
 pub fn each_case_with<S: StepWith>(rt: &HostRuntime, step: &S) -> io::Result<()> {
     let one = |out: &mut Output, case: &mut Case<'_>| step.one(out, case);
-    each_in::<ROOM, _>(rt, one)
+    each_by::<ROOM, _>(rt, one)
 }
 
 // The first number of an answer's line.
