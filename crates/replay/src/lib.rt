@@ -1,4 +1,4 @@
-// What the programs that replay recorded cases share: the file with the cases, the step from one to the next, and answers printed, each number after a
+// What the programs that replay recorded cases share: the file with the cases, the way from one to the next, and answers printed, each number after a
 // space.
 // No contract can say what a file gives or what standard output takes. So each print is over any writer, and says which bytes a writer that tells what it
 // holds has gained; after an error it may hold a part of them.
@@ -105,7 +105,7 @@ where
     let text = &all[..n];
     let mut out = output(rt);
     let mut at = 0;
-    // kept: a `while`, since only the step finds where its case ends, so that no iterator can have the cases.
+    // kept: a `while`, since only `one` finds where its case ends, so that no iterator can have the cases.
     while at < text.len() {
         let mut case = Case { text, at };
         one(&mut out, &mut case)?;
